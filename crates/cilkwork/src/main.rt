@@ -1,4 +1,4 @@
-//! The program `cilkwork`: reads its words, opens the source, and answers.
+//! The program `cilkwork`: reads its words, opens the source, and prints the report.
 #![tactic(auto)]
 
 ghost use Rattle.std.specs.Prelude.{◌≡◌, ◌<◌, ◌-◌, ◌^◌};
@@ -59,8 +59,9 @@ fn main(rt: HostRuntime) -> ExitCode {
     ExitCode::from(status)
 }
 
-// Answers on a source, with as many workers as are asked for; gives the exit status. Apart for each kind of source, and the
-// words apart: how long `main` is decides where the loops of a run come to lie, and so what calls with measures take.
+// Analyses a source with the requested number of workers and returns the exit status. There is one such function for
+// each kind of source, and one for the words: the length of `main` decides where the loops of a run are placed, and
+// so the time of calls with measures.
 #[inline(never)]
 fn answer<R: Threads + Wait + Copy + Drop + Send + 'static, D: Input, W: Sink, E: Sink>(
     rt: &R,
@@ -82,7 +83,7 @@ fn answer<R: Threads + Wait + Copy + Drop + Send + 'static, D: Input, W: Sink, E
     tool(rt, alloc, asked, source, crew, gate, out, err)
 }
 
-// The words behind the program's own name.
+// Returns the words after the program's own name.
 #[inline(never)]
 fn words_of(rt: &(impl Env + AllocGlobal), alloc: Global) -> Result<Vec<String>, Fault> {
     match env::args(rt) {
@@ -91,7 +92,7 @@ fn words_of(rt: &(impl Env + AllocGlobal), alloc: Global) -> Result<Vec<String>,
     }
 }
 
-// What words that cannot be read are told as.
+// Returns the fault of words that cannot be read.
 fn unread_words(error: &io::Error) -> Fault
     ensures { result ≡ unread_fault (error_kind error.now) }
 {

@@ -1,4 +1,4 @@
--- The codes of the array runs compute.
+-- The codes of `ArrayRuns` compute to the stated answers.
 use Rattle.std.proofs.Common.{refl}
 use Rattle.cw_model.specs.Meaning.{call}
 use Rattle.cw_model.specs.Answers.{serial_answer}

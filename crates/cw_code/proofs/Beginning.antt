@@ -1,4 +1,4 @@
--- What begins where code fits: a function, a call, and the turns of a loop.
+-- The start of a function, of a call, and of the iterations of a loop, in well-formed code.
 use Rattle.std.proofs.Common.{◌≡◌, ℕ, ◌+◌, ◌-◌, ◌<◌, ◌≤◌, ℤ, pos, ◌+ℤ◌, Bool, true, false, ◌&&◌, nat_lt, if◌then◌else◌}
 use Rattle.std.proofs.Common.{Option, Some, None, List, [], ◌∷◌, ◌++◌, length, refl, sym, ap, ◌∙◌, subst, arith, length-append}
 use Rattle.std.specs.Prelude.{take, drop, map, replicate, slice_get, slice_set, nat_eq, nat_le}
@@ -49,7 +49,7 @@ module _ (code : Code) (fits : Fits code) where
   abbrev pub table_at : (place : ℕ) → Seat code fits place → Table
   table_at place seat = (fits.each seat.index seat.func seat.is_func).table
 
-  -- the seat of a place that takes what comes
+  -- the seat of a place into which a static state flows
   abbrev next_seat : (place : ℕ) (seat : Seat code fits place) (next : ℕ) (out : Shape) → FlowsInto (table_at place seat) next out → Seat code fits next
   next_seat place seat next out l = record { index = seat.index; func = seat.func; is_func = seat.is_func; shape = l.there; at = l.found }
 
@@ -60,7 +60,7 @@ module _ (code : Code) (fits : Fits code) where
       → Good seat.func out s → AllResume code fits seat.func s.around → GoodState code fits s
   arrives place seat out s l g others = record { seat = next_seat place seat s.place out l; call = takes place seat out s s.place l g; others = others }
 
-  -- a function begins
+  -- a function starts in a good state
   pub starts_well : (k : ℕ) (f : Func) → slice_get code.funcs k ≡ Some f
       → (arguments : List ℤ) (given : List (List ℤ)) (lent : Readers) (depth : ℕ) (around : List Around) (t : Trace) → length arguments ≡ f.params
       → length given ≡ f.array_params → length lent ≡ f.readers
@@ -141,7 +141,7 @@ module _ (code : Code) (fits : Fits code) where
           all_there width passed (second_true (is_none_of a passed) (names_arrays width passed) rest) (second_true (has_array shape a) (has_arrays shape passed) h),
         )
 
-    -- what a call that begins must find, and what its caller leaves
+    -- the premises of a call, and the state of its caller during the call
     record Enters (e : Entering) : Type 0 where
       pub index : ℕ
       pub is : slice_get code.funcs index ≡ Some e.func
@@ -163,7 +163,7 @@ module _ (code : Code) (fits : Fits code) where
       })
 
     module _ (e : Entering) (h : Enters e) where
-      -- the arrays of the caller once the call has begun, and after what it gives back
+      -- the arrays of the caller during the call, and after the call returned its arrays
       arrays_gone : Holds seat.func.arrays (with_gone (map slot_taken e.taken) shape.gone) (gone_rows shape.outer)
           (moved_out (map slot_taken e.taken) s.arrays) (map slot_taken e.taken ++ slots_in s.arrived) (arrays_round s.around)
       arrays_gone = with_all_taken seat.func.arrays (map slot_taken e.taken) shape.gone (gone_rows shape.outer) s.arrays (slots_in s.arrived) (arrays_round s.around) h.there g.arrays
@@ -186,7 +186,7 @@ module _ (code : Code) (fits : Fits code) where
           subst (λ ws. Holds seat.func.arrays (with_gone (map slot_taken e.taken) shape.gone) (gone_rows shape.outer) (moved_out (map slot_taken e.taken) s.arrays) ws (arrays_round s.around))
           (ap (λ ws. ws ++ slots_in s.arrived) (sym same) ∙ sym (slots_in_both results s.arrived)) arrays_gone
 
-      -- what the caller leaves, for a kind of call and a slot for its result
+      -- the static state of the caller, for a kind of call and a slot for its result
       abbrev left_by : CallKind → Option ℕ → Shape
       left_by kind target = record shape {
         operands = shape.operands - e.func.params;
@@ -275,7 +275,7 @@ module _ (code : Code) (fits : Fits code) where
           none [] n = refl
           none (v ∷ ops) n = absurd (omega (arith, n))
 
-      -- a call that finds what it must begins
+      -- a call whose premises hold starts in a good state
       begins_well : GoodTransition code fits (begins s e)
       begins_well =
           let f = fits.each h.index e.func h.is in
@@ -302,7 +302,7 @@ module _ (code : Code) (fits : Fits code) where
           (starts_well h.index e.func h.is e.arguments e.given e.lent e.depth (Caller (waiting_at s e) ∷ s.around)
           (inside (ticked s.trace)) h.arguments h.given h.lent refl refl tt (resumes, good.others))
 
-    -- the function that a call names, and the slots of the arrays that it takes
+    -- the callee of a call, and the slots of the arrays that it takes
     record Named (function : ℕ) (passed : List ℕ) : Type 0 where
       pub func : Func
       pub is : slice_get code.funcs function ≡ Some func
@@ -320,15 +320,15 @@ module _ (code : Code) (fits : Fits code) where
           slots = second_true (nat_eq (length passed) (array_params_of (slice_get code.funcs function))) (names_arrays seat.func.arrays passed) rest;
         }
 
-    -- as many arrays are lent as its function reads
+    -- the number of lent arrays is the number that the callee reads
     lent_many : (function : ℕ) (passed : List ℕ) (loans : List Loan) (n : Named function passed) → names_lent code seat.func function passed loans ≡ true → length loans ≡ n.func.readers
     lent_many function passed loans n h = eq_of (length loans) (readers_of (slice_get code.funcs function)) (first_true _ _ h) ∙ ap readers_of n.is
 
-    -- what a call was lent is there
+    -- an array that a call was lent exists
     pub reader_there : (r : ℕ) → nat_lt r seat.func.readers ≡ true → is_full (reader s.readers r) ≡ true
     reader_there r n = let e = g.readers in reader_full s.readers r (omega (arith, lt_of r seat.func.readers n, e))
 
-    -- what a call lends is there, and not among the arrays that it takes
+    -- an array that a call lends exists, and the call does not take it
     loan_there : (passed : List ℕ) (loan : Loan) → names_loan seat.func passed loan ≡ true → has_loan shape loan ≡ true → is_full (loaned loan (moved_out passed s.arrays) s.readers) ≡ true
     loan_there passed (Array a) n h = still_full passed s.arrays a (none_of a passed (second_true (nat_lt a seat.func.arrays) (is_none_of a passed) n)) (full_array a h)
     loan_there passed (Reader r) n h = reader_there r n
@@ -347,7 +347,7 @@ module _ (code : Code) (fits : Fits code) where
     enough_so Plain params k = let n = g.as_many in omega (arith, n, le_of params shape.operands k)
     enough_so Spawned params k = let n = g.as_many in omega (arith, n, eq_of params shape.operands k)
 
-    -- a call with the arrays in these slots, whole
+    -- a call with the whole arrays in these slots
     whole_enters : (kind : CallKind) (site target : Option ℕ) (depth : ℕ) (function : ℕ) (passed : List ℕ) (n : Named function passed)
         (given : List (List ℤ)) (lent : Readers) (frozen : Row) → length given ≡ length passed → length lent ≡ n.func.readers → AllThere passed s.arrays
         → has_arguments kind n.func.params shape.operands ≡ true → has_target shape target ≡ true → ((a : ℕ) → target ≡ Some a → n.func.gives_int ≡ true)
@@ -389,7 +389,7 @@ module _ (code : Code) (fits : Fits code) where
       })) (sym (whole_slots passed)) l;
     }
 
-    -- the same, by the name of its function
+    -- the number of parameters of a callee, by its index
     params_are : (function : ℕ) (passed : List ℕ) (n : Named function passed) → params_of (slice_get code.funcs function) ≡ n.func.params
     params_are function passed n = ap params_of n.is
 

@@ -1,4 +1,4 @@
--- What is frozen in the outermost call stays as it is.
+-- An array that is frozen in the outermost call does not change.
 use Rattle.std.proofs.Common.{◌≡◌, inl, inr, ⊎_elim, ℕ, suc, ◌+◌, ◌<◌, ℤ, Bool, true, false, if◌then◌else◌, Option, Some, None, List, [], ◌∷◌, ◌++◌, length, refl, sym, ap, ◌∙◌, subst, arith}
 use Rattle.std.specs.Prelude.{take, drop, map, slice_get, slice_set, is_none}
 use Rattle.std.proofs.lemmas.Bool.{false≢true}
@@ -43,18 +43,18 @@ frozen_round depth (o ∷ there) (o' ∷ out) a c h = ⊎_elim
     (λ t. inr (frozen_round depth there out a c.4 t))
     h
 
--- what an instruction leaves frozen is so at the place that it goes on to
+-- a slot that is frozen after an instruction is frozen at the next place
 frozen_on : (depth : ℕ) (table : Table) (p : ℕ) (out : Shape) (a : ℕ) (l : FlowsInto table p out) → IsFrozenIn depth (all_frozen out) a → IsFrozenIn depth (all_frozen l.there) a
 frozen_on depth table p out a l h = ⊎_elim
     (λ t. inl (omega (arith, t.0, as_many_rows l.there.outer out.outer l.covers_outer), covers_true l.there.frozen out.frozen a l.covers_frozen t.1))
     (λ t. inr (frozen_round depth l.there.outer out.outer a l.covers_outer t))
     h
 
--- it is not in a row beyond the depth
+-- the slot is not frozen by a block beyond the depth
 further_out : (depth : ℕ) (row : Row) (rows : List Row) (a : ℕ) → depth < length rows → IsFrozenIn depth (row ∷ rows) a → IsFrozenIn depth rows a
 further_out depth row rows a lt h = ⊎_elim (λ t. absurd (omega (arith, lt, t.0))) (λ t. t) h
 
--- a slot that is frozen is none of those of which no row has any as frozen
+-- a frozen slot is not among slots that no row has as frozen
 not_thawed : (depth : ℕ) (rows : List Row) (a : ℕ) → IsFrozenIn depth rows a → full_in_all rows a ≡ true → ⊥
 not_thawed depth [] a h k = h
 not_thawed depth (row ∷ rows) a h k = ⊎_elim
@@ -78,18 +78,18 @@ lent_frozen Plain loans row a h = h
 lent_frozen Spawned loans row a h = gone_frozen (slots_lent loans) row a h
 
 module _ {A : Type 0} where
-  -- what is moved leaves each other slot as it is
+  -- moving arrays out does not change other slots
   moved_other : (passed : List ℕ) (slots : Slots A) (a : ℕ) → IsNotAmong a passed → slice_get (moved_out passed slots) a ≡ slice_get slots a
   moved_other [] slots a n = refl
   moved_other (b ∷ passed) slots a n = set_other (moved_out passed slots) b a None n.0 ∙ moved_other passed slots a n.1
 
--- slices are taken out of no other slots
+-- slices are taken from these slots only
 parts_apart : (from : ℕ) (passed : List ℕ) (given : List (List ℤ)) (a : ℕ) → IsNotAmong a passed → IsNotAmong a (map slot_taken (parts_of from passed given))
 parts_apart from [] given a n = tt
 parts_apart from (b ∷ passed) [] a n = tt
 parts_apart from (b ∷ passed) (xs ∷ given) a n = (n.0, parts_apart from passed given a n.1)
 
--- the blocks that stand round a call that nothing waits for
+-- the number of enclosing blocks of a call, if no caller waits, is the number in its static state
 as_many_blocks : (outer : List Outer) (around : List Around) → CutsAgree outer around → AreBlocks around → length (frozen_rows outer) ≡ length around
 as_many_blocks [] [] c b = refl
 as_many_blocks [] (Caller w ∷ around) c b = absurd b
@@ -100,11 +100,11 @@ as_many_blocks (o ∷ outer) (Block o' ∷ around) c b = ap suc (as_many_blocks 
 
 module _ (code : Code) (fits : Fits code) where
   module _ (depth a : ℕ) (xs : List ℤ) where
-    -- a call at a place has the slot as frozen, and full
+    -- the slot of the call at a place is frozen and full
     abbrev Here : (place : ℕ) → Slots (List ℤ) → Type 0
     Here place arrays = IsFrozenAt code fits place depth a × (slice_get arrays a ≡ Some (Some xs))
 
-    -- so has the outermost one
+    -- the slot of the outermost call is frozen and full
     abbrev Still : (place : ℕ) → Slots (List ℤ) → List Around → Type 0
     Still place arrays around =
         IsFrozenAt code fits (outermost place around) depth a × (slice_get (outermost_arrays arrays around) a ≡ Some (Some xs))
@@ -115,7 +115,7 @@ module _ (code : Code) (fits : Fits code) where
     Stays (Stops trap line lines) = Unit {0}
     Stays Stuck = Unit {0}
 
-    -- what a call does concerns the outermost one where it is that
+    -- a step of a call matters only if this call is the outermost one
     moves : (around : List Around) (p q : ℕ) (ys zs : Slots (List ℤ)) → (AreBlocks around → Here p ys → Here q zs) → Still p ys around → Still q zs around
     moves [] p q ys zs k h = k tt h
     moves (Caller w ∷ around) p q ys zs k h = h
@@ -130,7 +130,7 @@ module _ (code : Code) (fits : Fits code) where
     slot_stays (Some None) go h = tt
     slot_stays (Some (Some x)) go h = h x
 
-    -- a call that waited goes on: what comes back goes into slots that are empty
+    -- a waiting caller continues: returned arrays go into empty slots
     module _ (w : Waiting) (around : List Around) (h : Still w.place w.arrays around) (apart : is_full (slice_get w.arrays a) ≡ true → IsNotAmong a (map slot_taken w.taken)) where
       given_stays : (target : Option ℕ) (v : Option ℤ) (s : State) → Still s.place s.arrays s.around → Stays (given target v s)
       given_stays None v s k = k
@@ -175,11 +175,11 @@ module _ (code : Code) (fits : Fits code) where
       abbrev Frozen : Shape → Type 0
       Frozen out = IsFrozenIn depth (all_frozen out) a
 
-      -- it is frozen in the shape of the state's place
+      -- the slot is frozen in the static state at the current place
       in_shape : IsFrozenAt code fits s.place depth a → Frozen shape
       in_shape t = subst Frozen (one_shape code fits s.place t.0 good.seat).1 t.1
 
-      -- the call goes on at a place, with other arrays
+      -- the call continues at a place, with other arrays
       goes : (around : List Around) (p : ℕ) (out : Shape) (zs : Slots (List ℤ)) → FlowsInto table p out
           → (AreBlocks around → Frozen shape → Frozen out)
           → (AreBlocks around → Frozen shape → slice_get s.arrays a ≡ Some (Some xs) → slice_get zs a ≡ Some (Some xs))
@@ -190,17 +190,17 @@ module _ (code : Code) (fits : Fits code) where
           ((record { index = good.seat.index; func = good.seat.func; is_func = good.seat.is_func; shape = l.there; at = l.found }, frozen_on depth table p out a l (f blocks fr)), k blocks fr t.1))
           h
 
-      -- what waited for the join goes back into slots that are empty
+      -- pending results go into empty slots at the join
       joined_has : slice_get s.arrays a ≡ Some (Some xs) → slice_get (settled s.arrived s.arrays) a ≡ Some (Some xs)
       joined_has has =
           settled_beside s.arrived s.arrays a (not_in_first a (slots_in s.arrived) (all_of (arrays_round s.around)) (good.call.arrays.apart a (ap is_full has))) ∙ has
 
       module _ (here : Still s.place s.arrays s.around) where
-        -- the same call goes on, with its arrays as they were and its rows
+        -- the same call continues, with unchanged arrays
         on : (p : ℕ) (out : Shape) → FlowsInto table p out → (Frozen shape → Frozen out) → Still p s.arrays s.around
         on p out l f = goes s.around p out s.arrays l (λ blocks t. f t) (λ blocks t has. has) here
 
-        -- an array slot beside it was written
+        -- another array slot was written
         written_on : (b : ℕ) (ys : List ℤ) (out : Shape) → FlowsInto table (s.place + 1) out → (Frozen shape → Frozen out)
             → (Frozen shape → IsNotAmong a (b ∷ [])) → Still (s.place + 1) (slice_set s.arrays b (Some ys)) s.around
         written_on b ys out l f apart =
@@ -216,7 +216,7 @@ module _ (code : Code) (fits : Fits code) where
         whole_apart : (passed : List ℕ) → IsNotAmong a passed → IsNotAmong a (map slot_taken (map (λ x. Whole x) passed))
         whole_apart passed n = subst (λ ks. IsNotAmong a ks) (sym (whole_slots passed)) n
 
-        -- a cut begins: its slots are beside it
+        -- a cut begins, with other slots
         cut_apart : (h : Halves) (ys : List ℤ) (at : ℕ) → IsNotAmong a (slots_cut h) → slice_get s.arrays a ≡ Some (Some xs) → slice_get (cut_arrays h ys at s.arrays) a ≡ Some (Some xs)
         cut_apart h ys at n has =
             let gone = slice_set s.arrays h.array None in
@@ -266,18 +266,18 @@ module _ (code : Code) (fits : Fits code) where
                 (subst (λ y. none_frozen (frozen_rows (o ∷ outer)) (slots_uncut y) ≡ true) e th) in
                 set_other two k.array a (Some (left ++ right)) n.0 ∙ set_other one k.right a (Some []) n.1.1.0 ∙ set_other back k.left a (Some []) n.1.0 ∙ joined_has has) h))
 
-        -- no other row is beyond the depth
+        -- no row is beyond the depth
         inside_all : depth < length s.around → AreBlocks s.around → depth < length (frozen_rows shape.outer)
         inside_all lt blocks = omega (arith, lt, as_many_blocks shape.outer s.around good.call.cuts blocks)
 
-        -- what a call lends is frozen beside what is so
+        -- a frozen slot stays frozen when a call lends more
         lends : (kind : CallKind) (loans : List Loan) → Frozen shape → IsFrozenIn depth (with_lent kind loans shape.frozen ∷ frozen_rows shape.outer) a
         lends kind loans t = ⊎_elim (λ t. inl (t.0, lent_frozen kind loans shape.frozen a t.1)) (λ t. inr t) t
 
         spares : (slots : List ℕ) → none_frozen (all_frozen shape) slots ≡ true → Frozen shape → IsNotAmong a slots
         spares slots th t = spared depth (all_frozen shape) a slots t th
 
-        -- what an instruction that goes on in its block leaves has the same rows frozen
+        -- an instruction that continues in its block leaves the same slots frozen
         kept_rows : (i : Instr) → IsLocal i → all_frozen (leaves code shape i) ≡ all_frozen shape
         kept_rows (instr.Call kind c) here = absurd here
         kept_rows (instr.Recur kind c) here = absurd here
@@ -297,7 +297,8 @@ module _ (code : Code) (fits : Fits code) where
         one_flows out p [] o l = absurd o
         one_flows out p (q ∷ places) o l = ⊎_elim (λ (e : p ≡ q). subst (λ x. FlowsInto table x out) (sym e) l.0) (λ (r : IsOneOf p places). one_flows out p places r l.1) o
 
-        -- what an instruction must leave alone, and where it leads
+        -- the premises for an instruction: it changes no frozen slot, joins only inner blocks, and the table has its
+        -- successors
         abbrev Asks : Option Instr → Type 0
         Asks None = ⊥
         Asks (Some i) = (is_thawed code shape i ≡ true) × (is_join i ≡ true → depth < length s.around) × FlowsIntoEach table (leaves code shape i) (nexts s.place i)
@@ -339,7 +340,7 @@ module _ (code : Code) (fits : Fits code) where
             let h = facts code fits s good in
             acts_stay (slice_get code.instrs s.place) (subst Asks (sym h.is) (h.thawed, inside h.instr h.is, h.leads))
 
-      -- none of its own instructions changes it
+      -- an instruction of the outermost call does not change the slot
       its_own_spared : AreBlocks s.around → (h : Facts code fits s good) → JoinsInside code depth s → IsFrozenAt code fits s.place depth a → IsNotAmong a (changed_by code shape h.instr)
       its_own_spared blocks h inside t = cases h.instr (inside h.instr h.is) h.thawed
         where

@@ -1,4 +1,4 @@
--- What keeps that slots are as their rows say.
+-- Operations that preserve the agreement of slots with their rows.
 use Rattle.std.proofs.Common.{◌≡◌, ℕ, ◌<◌, Bool, true, false, Some, None, List, [], ◌∷◌, ◌++◌, length, refl, sym, ap, ◌∙◌, subst, arith, append_assoc}
 use Rattle.std.specs.Prelude.{slice_get, slice_set, not, nat_eq}
 use Rattle.std.proofs.lemmas.List.{length-set, length-map, append-nil}
@@ -10,7 +10,7 @@ use Rattle.cw_code.specs.Fits.{Row, is_full_in, full_in_all, none_empty, is_none
 use Rattle.cw_code.specs.Good.{IsNotAmong, IsOnce, slots_in, all_of, RowHolds, RowsHold, Holds}
 use Rattle.cw_code.proofs.Slots.{set_full, was_full, full_apart, row_apart, AllFull, AllApart, settled_full, settled_apart, empty_row, fewer_wait, filled_row}
 
--- a slot is none of those that the test says
+-- if the test fails for all elements, the slot is not in the list
 pub none_of : (a : ℕ) (bs : List ℕ) → is_none_of a bs ≡ true → IsNotAmong a bs
 none_of a [] h = tt
 none_of a (b ∷ bs) h = (λ e. differs (nat_eq a b) (first_true (not (nat_eq a b)) (is_none_of a bs) h) refl e, none_of a bs (second_true (not (nat_eq a b)) (is_none_of a bs) h))
@@ -20,18 +20,18 @@ none_of a (b ∷ bs) h = (λ e. differs (nat_eq a b) (first_true (not (nat_eq a 
     differs false k same e = ne_of a b same e
 
 module _ {A : Type 0} where
-  -- a slot beside those that were emptied is as it was
+  -- a slot that was not emptied is still full
   pub still_full : (passed : List ℕ) (slots : Slots A) (a : ℕ) → IsNotAmong a passed → is_full (slice_get slots a) ≡ true → is_full (slice_get (moved_out passed slots) a) ≡ true
   still_full [] slots a n h = h
   still_full (b ∷ passed) slots a n h = ap is_full (set_other (moved_out passed slots) b a None n.0) ∙ still_full passed slots a n.1 h
 
-  -- these are full, and no slot twice
+  -- the slots are full and distinct
   abbrev pub AllThere : List ℕ → Slots A → Type 0
   AllThere [] slots = Unit {0}
   AllThere (a ∷ passed) slots = IsNotAmong a passed × (is_full (slice_get slots a) ≡ true) × AllThere passed slots
 
 module _ {A : Type 0} (width : ℕ) where
-  -- what the rows have as full is full
+  -- a slot that is full in all rows is full
   pub finds : (row : Row) (rows : List Row) (slots : Slots A) (waits : List ℕ) (others : List (List ℕ)) → Holds width row rows slots waits others
       → (a : ℕ) → full_in_all (row ∷ rows) a ≡ true → is_full (slice_get slots a) ≡ true
   finds row rows slots waits others g a h =
@@ -39,7 +39,7 @@ module _ {A : Type 0} (width : ℕ) where
       g.awaited a (omega (arith, row_there row a own, g.row_holds.as_wide, g.as_wide))
       (not_in_both a waits (all_of others) (g.row_holds.apart a own) (none_waits width rows others a g.rows_hold (second_true (is_full_in (slice_get row a)) (full_in_all rows a) h)))
 
-  -- other rows
+  -- the rows may be replaced
   pub with_rows : (row row' : Row) (rows rows' : List Row) (slots : Slots A) (waits : List ℕ) (others : List (List ℕ)) → RowHolds width row' waits
       → RowsHold width rows' others → Holds width row rows slots waits others → Holds width row' rows' slots waits others
   with_rows row row' rows rows' slots waits others h k g = record { as_wide = g.as_wide; row_holds = h; rows_hold = k; awaited = g.awaited; apart = g.apart; once = g.once }
@@ -56,7 +56,7 @@ module _ {A : Type 0} (width : ℕ) where
     once = g.once;
   }
 
-  -- a full slot was emptied, and is waited for
+  -- a full slot was emptied, and its result is pending
   pub with_taken : (row : Row) (rows : List Row) (slots : Slots A) (waits : List ℕ) (others : List (List ℕ)) (a : ℕ) → is_full (slice_get slots a) ≡ true → Holds width row rows slots waits others
       → Holds width (slice_set row a true) rows (slice_set slots a None) (a ∷ waits) others
   with_taken row rows slots waits others a h g = record {
@@ -71,7 +71,7 @@ module _ {A : Type 0} (width : ℕ) where
     once = (g.apart a h, g.once);
   }
 
-  -- several slots were emptied, and are waited for
+  -- several slots were emptied, and their results are pending
   pub with_all_taken : (passed : List ℕ) (row : Row) (rows : List Row) (slots : Slots A) (waits : List ℕ) (others : List (List ℕ)) → AllThere passed slots → Holds width row rows slots waits others
       → Holds width (with_gone passed row) rows (moved_out passed slots) (passed ++ waits) others
   with_all_taken [] row rows slots waits others h g = g
@@ -102,7 +102,7 @@ module _ {A : Type 0} (width : ℕ) where
     once = g.once;
   }
 
-  -- some results have gone back
+  -- some results went back into their slots
   pub with_settled : (row : Row) (rows : List Row) (slots : Slots A) (newest : Results A) (waits : List ℕ) (others : List (List ℕ))
       → Holds width row rows slots (slots_in newest ++ waits) others → Holds width row rows (settled newest slots) waits others
   with_settled row rows slots newest waits others g =
@@ -116,21 +116,21 @@ module _ {A : Type 0} (width : ℕ) where
         once = once_in_second (slots_in newest) (waits ++ all_of others) (subst IsOnce same g.once);
       }
 
-  -- a join: all results have gone back
+  -- a join: all results went back into their slots
   pub with_joined : (row : Row) (rows : List Row) (slots : Slots A) (results : Results A) (others : List (List ℕ)) (count : ℕ) → count ≡ width
       → Holds width row rows slots (slots_in results) others → Holds width (none_empty count) rows (settled results slots) [] others
   with_joined row rows slots results others count e g =
       let h = with_settled row rows slots results [] others (subst (λ ws. Holds width row rows slots ws others) (sym (append-nil (slots_in results))) g) in
       with_rows row (none_empty count) rows rows (settled results slots) [] others (empty_row width count e) h.rows_hold h
 
-  -- the one slot that a cut had is full again
+  -- the slot of a cut array is full again
   pub with_filled : (row : Row) (rows : List Row) (slots : Slots A) (a : ℕ) (v : A) (waits : List ℕ) (others : List (List ℕ))
       → Holds width row rows slots (a ∷ waits) others → Holds width (slice_set row a false) rows (slice_set slots a (Some v)) waits others
   with_filled row rows slots a v waits others g =
       let h = with_settled row rows slots ((a, v) ∷ []) waits others g in
       with_rows row (slice_set row a false) rows rows (slice_set slots a (Some v)) waits others (filled_row width row a waits (not_in_first a waits (all_of others) g.once.0) h.row_holds) h.rows_hold h
 
-  -- a call that begins
+  -- a call begins
   pub begins_full : (xs : List A) → length xs ≡ width → Holds width (none_empty width) [] (full xs) [] []
   begins_full xs n = record {
     as_wide = sym (length-map xs (λ x. Some x) ∙ n);

@@ -1,4 +1,4 @@
--- The code of the read runs computes.
+-- The code of `ReadRuns` computes to the stated answers.
 use Rattle.std.proofs.Common.{refl}
 use Rattle.cw_code.specs.Run.{code_serial}
 use Rattle.cw_code.specs.ReadRuns.{ReadRuns}

@@ -1,4 +1,4 @@
--- A run of code that fits calls at its sites alone.
+-- A run of well-formed code calls only at its sites.
 use Rattle.std.proofs.Common.{◌≡◌, ℕ, zero, suc, ◌+◌, ◌-◌, ◌<◌, ℤ, Bool, true, false, ◌&&◌, if◌then◌else◌, nat_lt}
 use Rattle.std.proofs.Common.{Option, Some, None, List, [], ◌∷◌, ◌++◌, length, refl, sym, ◌∙◌, subst, arith}
 use Rattle.std.specs.Prelude.{slice_get, option_map, nat_eq, nat_le}
@@ -29,9 +29,9 @@ use Rattle.cw_code.specs.Sited.{CallsAtItsSites}
 use Rattle.cw_code.specs.lemmas.Acts.{acts_both, closing, uncutting, returning}
 use Rattle.cw_code.proofs.Unstuck.{facts, first_good, fit_steps}
 
--- what has invocations of sites below a number alone
+-- trees, events and runs whose invocations are all of sites below a number
 module _ (count : ℕ) where
-  -- trees that differ only in grouping are alike in it
+  -- trees that differ only in grouping have the same sites
   same_sites : {t u : Tree} → Regrouped t u → sites_below count t ≡ sites_below count u
   same_sites (same t) = refl
   same_sites (back r) = sym (same_sites r)
@@ -44,7 +44,7 @@ module _ (count : ℕ) where
   same_sites (in_fork r s) = rw (same_sites r, same_sites s) refl
   same_sites (in_mark mark r) = rw (same_sites r) refl
 
-  -- an event whose tree is such a one, if it has a tree
+  -- all invocations in the tree of an event, if it has one, are of sites below the number
   abbrev IsSited : Event → Type 0
   IsSited (Work k) = Unit {0}
   IsSited (Series t) = sites_below count t ≡ true
@@ -59,7 +59,7 @@ module _ (count : ℕ) where
   sited_both [] more h k = k
   sited_both (e ∷ events) more h k = (h.0, sited_both events more h.1 k)
 
-  -- the tree of such events is such a one: its part up to the next join, and the one after it
+  -- all invocations in both trees of a list of events are of sites below the number, if they are in each event
   parts_sited : (events : List Event) → AreSited events
       → (sites_below count (parts_of events).0 ≡ true) × (sites_below count (parts_of events).1 ≡ true)
   parts_sited [] h = (refl, refl)
@@ -77,7 +77,7 @@ module _ (count : ℕ) where
       let parts = parts_sited events h in
       both_true (sites_below count (parts_of events).0) (sites_below count (parts_of events).1) parts.0 parts.1
 
-  -- a call at such a site, or at none
+  -- the site of a call is below the number, or the call has no site
   abbrev IsSite : Option ℕ → Type 0
   IsSite None = Unit {0}
   IsSite (Some site) = nat_lt site count ≡ true
@@ -92,20 +92,20 @@ module _ (count : ℕ) where
   block_sited None t h = h
   block_sited (Some tag) t h = h
 
-  -- what stands round a block has shown such events, and a call that waits is for one at such a site, or at none
+  -- in all enclosing blocks and callers, invocations and calls are of sites below the number
   abbrev RoundSited : List Around → Type 0
   RoundSited [] = Unit {0}
   RoundSited (Caller w ∷ around) = (IsSite w.site × AreSited w.events) × RoundSited around
   RoundSited (Block o ∷ around) = AreSited o.events × RoundSited around
 
-  -- a move leads to a state that has shown such events, or ends such a run
+  -- after a step, all invocations in the events of the state, or of the end, are of sites below the number
   abbrev Keeps : Transition → Type 0
   Keeps (On s) = AreSited s.trace.events × RoundSited s.around
   Keeps (Ends v arrays t) = AreSited t.events
   Keeps (Stops trap line lines) = Unit {0}
   Keeps Stuck = Unit {0}
 
-  -- an instruction that is a call is at such a site
+  -- if the instruction is a call, its site is below the number
   abbrev CallsAtSite : Option Instr → Type 0
   CallsAtSite (Some (instr.Call kind c)) = IsSite (Some c.site)
   CallsAtSite _ = Unit {0}
@@ -117,7 +117,7 @@ module _ (count : ℕ) where
     syncs : AreSited (s.trace.events ++ (Join ∷ works 1))
     syncs = sited_both s.trace.events (Join ∷ works 1) shown (tt, (tt, tt))
 
-    -- a block ends: it is one event of the block round it
+    -- the end of a block, which becomes one event of the enclosing block
     resumes : (o : Opened) (around : List Around) → s.around ≡ Block o ∷ around
         → AreSited ((o.events ++ block_event o.tag (tree_of s.trace.events) ∷ []) ++ works 1) × RoundSited around
     resumes o around e =
@@ -128,7 +128,7 @@ module _ (count : ℕ) where
           there.1,
         )
 
-    -- a call ends: it is one event of its caller
+    -- the end of a call, which becomes one event of the caller
     goes_back : (v : Option ℤ) → Keeps (run.back s.around v (settled s.arrived s.arrays) (synced s.trace))
     goes_back v = returning Keeps tt s.around v (settled s.arrived s.arrays) (synced s.trace) (λ e. syncs)
         (λ w others e slots homes results arrived.
@@ -158,14 +158,14 @@ module _ (count : ℕ) where
       returns = λ n. goes_back None;
     }) o
 
--- a run that ends has shown such events
+-- all invocations in the events of a run that ends are of sites below the number
 abbrev EndsSited : ℕ → RunOutcome → Type 0
 EndsSited count None = Unit {0}
 EndsSited count (Some (Done returned left t)) = AreSited count t.events
 EndsSited count (Some (Trapped trap line lines)) = Unit {0}
 EndsSited count (Some Over) = Unit {0}
 
--- so the tree of its answer is such a one
+-- all invocations in the tree of the answer are of sites below the number
 answer_sited : (count : ℕ) → 0 < count → (reducers : List Reducer) (r : RunOutcome) → EndsSited count r → (value : ℤ) (lines : List ℤ) (totals : List Total) (tree : Tree)
     → option_map (λ o. answer_of reducers o) r ≡ Some (Ended value lines totals tree) → sites_below count tree ≡ true
 answer_sited count some reducers None h value lines totals tree e = cc
@@ -182,7 +182,7 @@ module _ (code : Code) (fits : Fits code) where
   abbrev count : ℕ
   count = length code.sites + 1
 
-  -- the site of a call that fits is there
+  -- the site of a call in well-formed code exists
   site_there : (kind : CallKind) (c : Callee) → nat_lt 0 c.site ≡ true → is_site kind c (slice_get code.sites (c.site - 1)) ≡ true → nat_lt c.site count ≡ true
   site_there kind c some h = let within = cases (slice_get code.sites (c.site - 1)) refl h in below c.site count (omega (arith, lt_of 0 c.site some, within))
     where

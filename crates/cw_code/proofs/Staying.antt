@@ -1,4 +1,4 @@
--- A run stays in the function that it began in.
+-- A run stays in the function in which it began.
 use Rattle.std.proofs.Common.{◌≡◌, ⊎_elim, ℕ, ◌+◌, ℤ, Option, Some, None, List, [], ◌∷◌, length, sym, ap, ◌∙◌, subst}
 use Rattle.std.specs.Prelude.{slice_get}
 use Rattle.std.proofs.lemmas.Option.{same_Some}
@@ -31,7 +31,7 @@ module _ (code : Code) (fits : Fits code) where
     Keeps (Stops trap line lines) = Unit {0}
     Keeps Stuck = Unit {0}
 
-    -- each place that an instruction may go on to is in the function, under the same blocks and calls
+    -- each next place of an instruction is in the function, under the same blocks and callers
     abbrev AllKeep : List Around → List ℕ → Type 0
     AllKeep around [] = Unit {0}
     AllKeep around (p ∷ places) = IsInside f (outermost p around) × AllKeep around places
@@ -45,7 +45,7 @@ module _ (code : Code) (fits : Fits code) where
     one_keeps around p (q ∷ places) o h =
         ⊎_elim (λ (e : p ≡ q). subst (λ x. IsInside f (outermost x around)) (sym e) h.0) (λ (r : IsOneOf p places). one_keeps around p places r h.1) o
 
-    -- a call that waited goes on where it waits
+    -- a waiting caller continues at its place
     back_keeps : (place : ℕ) (around : List Around) (v : Option ℤ) (arrays : Slots (List ℤ)) (t : Trace) → IsInside f (outermost place around) → Keeps (back around v arrays t)
     back_keeps place around v arrays t h =
         returning Keeps tt around v arrays t (λ e. tt) (λ w others e slots homes results arrived. subst (λ a. IsInside f (outermost place a)) e h)
@@ -71,7 +71,7 @@ module _ (code : Code) (fits : Fits code) where
     }) o
 
     module _ (s : State) (good : GoodState code fits s) (here : IsInside f (outermost s.place s.around)) where
-      -- a place of the call's own function, under the same blocks and calls
+      -- a place of the current function, under the same blocks and callers
       moves : (around : List Around) (p : ℕ) → IsInside good.seat.func p → IsInside f (outermost s.place around) → IsInside f (outermost p around)
       moves [] p i h =
           let same : good.seat.func ≡ f = same_Some good.seat.func f (sym good.seat.is_func ∙ ap (slice_get code.funcs) (alone s.place k f good.seat is h) ∙ is) in

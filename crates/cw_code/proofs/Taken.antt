@@ -1,4 +1,4 @@
--- What is taken out of slots, and goes back into them.
+-- Arrays that are taken from slots, and that return to them.
 use Rattle.std.proofs.Common.{◌≡◌, ℕ, zero, suc, ◌<◌, ◌≤◌, ℤ, true, Option, Some, None, List, [], ◌∷◌, length, refl, ap, ◌∙◌, subst, arith}
 use Rattle.std.specs.Prelude.{map, slice_get}
 use Rattle.std.proofs.lemmas.Bool.{false≢true}
@@ -13,13 +13,13 @@ use Rattle.cw_code.proofs.Slots.{covered_row, covered_empty, covered_gone, cover
 use Rattle.cw_code.proofs.Keeps.{AllThere, still_full, with_rows, with_settled, with_joined}
 use Rattle.cw_code.specs.lemmas.Lying.{lie_up}
 
--- a place among functions that lie one after another
+-- a place in consecutive functions
 pub lie_within : (from : ℕ) (fs : List Func) (to k : ℕ) (f : Func) → LieFrom from fs to → slice_get fs k ≡ Some f → f.end ≤ to
 lie_within from [] to k f h e = cc
 lie_within from (g ∷ fs) to zero f h e = let same : g ≡ f = cc in omega (arith, lie_up g.end fs to h.2, ap (λ (x : Func). x.end) same)
 lie_within from (g ∷ fs) to (suc k) f h e = lie_within g.end fs to k f h.2 e
 
--- what a call gives back of the arrays that were taken, where its array slots are full
+-- the arrays that a call returns, if its array slots are full
 pub gives_back : (taken : List Taken) (arrays : Slots (List ℤ)) → length taken ≤ length arrays → ((a : ℕ) → a < length arrays → is_full (slice_get arrays a) ≡ true)
     → (results : Results (List ℤ)) × (given_back taken arrays ≡ Some results) × (slots_in results ≡ map slot_taken taken)
 gives_back [] arrays le h = ([], refl, refl)
@@ -29,7 +29,7 @@ gives_back (x ∷ taken) (Some xs ∷ arrays) le h =
     let r = gives_back taken arrays (omega (arith, le)) (λ a lt. h (suc a) (omega (arith, lt))) in
     ((slot_taken x, restored x xs) ∷ r.0, ap (and_result x (Some xs)) r.1, ap (λ ks. slot_taken x ∷ ks) r.2)
 
--- arrays that are there can be taken
+-- arrays that exist can be taken
 pub there_arrays : (passed : List ℕ) (arrays : Slots (List ℤ)) → AllThere passed arrays → (given : List (List ℤ)) × (arrays_in passed arrays ≡ Some given) × (length given ≡ length passed)
 there_arrays [] arrays h = ([], refl, refl)
 there_arrays (a ∷ passed) arrays h =
@@ -44,18 +44,18 @@ there_arrays (a ∷ passed) arrays h =
     cases given e n (Some (Some xs)) f k =
         (xs ∷ given, ap (λ o. and_array o (arrays_in passed arrays)) f ∙ ap (and_array (Some (Some xs))) e, ap suc n)
 
--- what was lent to a call is there
+-- an array that a call was lent exists
 pub reader_full : (readers : Readers) (r : ℕ) → r < length readers → is_full (reader readers r) ≡ true
 reader_full [] r lt = absurd (omega (arith, lt))
 reader_full (xs ∷ readers) zero lt = refl
 reader_full (xs ∷ readers) (suc r) lt = reader_full readers r (omega (arith, lt))
 
--- each loan names what is full
+-- the slot of each loan is full
 abbrev pub AllLoaned : List Loan → Slots (List ℤ) → Readers → Type 0
 AllLoaned [] arrays readers = Unit {0}
 AllLoaned (loan ∷ loans) arrays readers = (is_full (loaned loan arrays readers) ≡ true) × AllLoaned loans arrays readers
 
--- such loans can be made
+-- loans of full slots can be made
 pub there_lent : (loans : List Loan) (arrays : Slots (List ℤ)) (readers : Readers) → AllLoaned loans arrays readers
     → (lent : Readers) × (lent_in loans arrays readers ≡ Some lent) × (length lent ≡ length loans)
 there_lent [] arrays readers h = ([], refl, refl)
@@ -76,7 +76,7 @@ part_slots from [] (xs ∷ given) e = absurd (omega (arith, e))
 part_slots from (a ∷ passed) [] e = absurd (omega (arith, e))
 part_slots from (a ∷ passed) (xs ∷ given) e = ap (λ ks. a ∷ ks) (part_slots from passed given (omega (arith, e)))
 
--- a good call of another state with the same slots
+-- a good call in another state with the same slots
 module _ (f : Func) where
   pub covered : (there out : Shape) (s : State) → there.operands ≡ out.operands
       → CoversEach (record { empty = there.empty; gone = there.gone; frozen = there.frozen; cut = None } ∷ there.outer)
@@ -91,7 +91,7 @@ module _ (f : Func) where
     cuts = covered_cuts there.outer out.outer s.around c.4 g.cuts;
   }
 
-  -- a join: all that waits in the innermost block has gone back
+  -- a join: all pending results of the innermost block went back
   pub joined : (shape : Shape) (s : State) → Good f shape s → Good f (cleared shape) (put_in s)
   joined shape s g = record {
     as_many = g.as_many;

@@ -1,4 +1,4 @@
--- The unruly codes do not fit.
+-- The unruly codes are not well-formed.
 use Rattle.std.proofs.Common.{◌&&◌, pos, true, None, ◌∷◌, refl, arith}
 use Rattle.std.specs.Prelude.{nat_eq, slice_get}
 use Rattle.std.proofs.lemmas.Bool.{false≢true}

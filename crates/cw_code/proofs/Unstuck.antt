@@ -1,4 +1,4 @@
--- Code that fits never gets stuck.
+-- Well-formed code never gets stuck.
 use Rattle.std.proofs.Common.{◌≡◌, ◌≢◌, ℕ, zero, suc, ◌+◌, ◌-◌, ◌<◌, ℤ, Bool, true, false, not, ◌&&◌, if◌then◌else◌}
 use Rattle.std.proofs.Common.{Option, Some, None, List, [], ◌∷◌, ◌++◌, length, refl, sym, ap, ◌∙◌, subst, arith}
 use Rattle.std.specs.Prelude.{take, drop, slice_get, slice_set, is_none, option_map, nat_eq, nat_le}
@@ -47,7 +47,7 @@ module _ (code : Code) (fits : Fits code) where
     abbrev table : Table
     table = table_at code fits s.place seat
 
-    -- the same call goes on, with so many operands
+    -- the same call continues, with this number of operands
     more : (n : ℕ) (to : State) → to ≡ record s { place = to.place; operands = to.operands; trace = to.trace } → n ≡ length to.operands
         → FlowsInto table to.place (record shape { operands = n }) → GoodState code fits to
     more n to same e l = subst (GoodState code fits) (sym same)
@@ -126,7 +126,7 @@ module _ (code : Code) (fits : Fits code) where
         none name k = cc
     region_well (Some name) h l = opens_well (Some name) l
 
-    -- the state after a join
+    -- the static state after a join
     abbrev after_join : Shape
     after_join = cleared shape
 
@@ -155,7 +155,7 @@ module _ (code : Code) (fits : Fits code) where
         no_cut None e = refl
         no_cut (Some x) e = cc
 
-    -- the slots of a cut are full
+    -- the slots of a cut
     abbrev cut_slots : Halves → List ℕ
     cut_slots h = h.array ∷ h.left ∷ h.right ∷ []
 
@@ -204,7 +204,7 @@ module _ (code : Code) (fits : Fits code) where
         arrays : Slots (List ℤ)
         arrays = settled s.arrived s.arrays
 
-        -- a slot that no block round this one has is full after the join
+        -- a slot that is full in all enclosing blocks is full after the join
         back_there : (a : ℕ) → full_in_all (gone_rows (o ∷ outer)) a ≡ true → is_full (slice_get arrays a) ≡ true
         back_there a all =
             let own = first_true (is_full_in (slice_get o.gone a)) (full_in_all (gone_rows outer) a) all in
@@ -337,7 +337,7 @@ module _ (code : Code) (fits : Fits code) where
         nothing true h = cc
         nothing false h = tt
 
-    -- the instruction at the place is there, and fits
+    -- the instruction at the place exists and is well-formed
     pub facts : Facts code fits s good
     facts = cases (slice_get code.instrs s.place) refl
       where
@@ -372,7 +372,7 @@ module _ (code : Code) (fits : Fits code) where
       cases more (Stops trap line lines) h = refl
       cases more Stuck h = absurd h
 
-  -- a run begins
+  -- the start of a run
   pub first_good : FitBegins code fits
   first_good k f args given lent e m m' m'' = starts_well code fits k f e args given lent 1 [] _ m m' m'' refl refl tt tt
 

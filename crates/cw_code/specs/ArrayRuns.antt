@@ -1,4 +1,4 @@
--- Small codes with arrays, cuts and loops, written by hand, and the sources that they are of.
+-- Small codes with arrays, cuts and loops, written by hand, and their sources.
 use Rattle.std.specs.Prelude.{◌≡◌, ℕ, pos, true, false, [], ◌∷◌, Some}
 use Rattle.cw_model.specs.declared.syntax.CallKind.TheVariants.{Plain, Spawned}
 use Rattle.cw_model.specs.declared.syntax.NameKind.TheVariants.{Array}
@@ -14,31 +14,37 @@ use Rattle.cw_code.specs.declared.code.Instr.TheVariants.{EndCut, Open, Close, R
 use Rattle.cw_code.specs.Code.{Code}
 use Rattle.cw_code.specs.Run.{code_serial}
 
--- names by one letter
+-- names of one letter
 abbrev pub a_name : Name
 a_name = 97 ∷ []
 
+-- the name `f`
 abbrev pub f_name : Name
 f_name = 102 ∷ []
 
+-- the name `i`
 abbrev pub i_name : Name
 i_name = 105 ∷ []
 
+-- the name `l`
 abbrev pub l_name : Name
 l_name = 108 ∷ []
 
+-- the name `n`
 abbrev pub n_name : Name
 n_name = 110 ∷ []
 
+-- the name `r`
 abbrev pub r_name : Name
 r_name = 114 ∷ []
 
--- a statement of a line, and those after it
+-- a statement in a line, and the statements after it
 abbrev pub in_line : ℕ → Stmt → Block → Block
 in_line line s b = Then line s b
 
--- int f(int a[]) { a[0] = 7; return len(a); } in line 1, and in line 2
--- int main() { int a[3]; int n = 0; cut a at 1 as l, r { n = cilk_spawn f(r); l[0] = 5; } return a[1] + n; }
+-- line 1: `int f(int a[]) { a[0] = 7; return len(a); }`
+-- line 2: `int main() { int a[3]; int n = 0; cut a at 1 as l, r { n = cilk_spawn f(r); l[0] = 5; }`
+-- then `return a[1] + n; }`
 abbrev pub cut_source : Program
 cut_source = record {
   reducers = [];
@@ -69,7 +75,7 @@ cut_source = record {
       ∷ [];
 }
 
--- the array slots of a cut of a into l and r
+-- the code of `cut_source`
 abbrev pub cut_code : Code
 cut_code = record {
   instrs =
@@ -93,7 +99,7 @@ cut_code = record {
   lent = [];
 }
 
--- int main() { int a[3]; cilk_for (int i = 1; i < 3; i++) grain 1 over (a) { a[i] = i; } return a[2]; }
+-- `int main() { int a[3]; cilk_for (int i = 1; i < 3; i++) grain 1 over (a) { a[i] = i; } return a[2]; }`
 abbrev pub loop_source : Program
 loop_source = record {
   reducers = [];
@@ -110,7 +116,7 @@ loop_source = record {
   } ∷ [];
 }
 
--- the loop's function: a leaf where the range is one turn, else two halves of its range and array
+-- the loop's function: a leaf if the range has one iteration, otherwise both halves of its range and its array
 abbrev pub loop_code : Code
 loop_code = record {
   instrs =
@@ -141,7 +147,7 @@ loop_code = record {
   lent = [];
 }
 
--- each code answers as its source does, its tree included, and costs as much
+-- each code has the answer of its source, including the tree, at the same cost
 pub record ArrayRuns : Type 0 where
   pub cut_runs : code_serial cut_code [] 21 ≡ Some (serial_answer cut_source [] 21)
   pub cut_over : code_serial cut_code [] 20 ≡ Some OverLimit

@@ -1,4 +1,4 @@
--- A small code with an array that two calls read together, written by hand.
+-- A small code, written by hand, with an array that two calls read in parallel.
 use Rattle.std.specs.Prelude.{◌≡◌, pos, true, [], ◌∷◌, Some}
 use Rattle.cw_model.specs.declared.syntax.CallKind.TheVariants.{Spawned}
 use Rattle.cw_model.specs.Sites.{Of}
@@ -10,9 +10,9 @@ use Rattle.cw_code.specs.declared.code.Loan.TheVariants.{Array}
 use Rattle.cw_code.specs.Code.{Code}
 use Rattle.cw_code.specs.Run.{code_serial}
 
--- int get(const int a[], int i) { return a[i]; } in line 1, and in line 2
--- int main() { int a[2]; int x = 0; a[1] = 5; x = cilk_spawn get(a, 1); print(a[1]); cilk_sync; a[0] = x;
--- return a[0]; }
+-- line 1: `int get(const int a[], int i) { return a[i]; }`
+-- line 2: `int main() { int a[2]; int x = 0; a[1] = 5; x = cilk_spawn get(a, 1); print(a[1]);`
+-- then `cilk_sync; a[0] = x; return a[0]; }`
 abbrev pub read_code : Code
 read_code = record {
   instrs =
@@ -38,11 +38,11 @@ read_code = record {
   lent = (Array 0 ∷ []) ∷ [];
 }
 
--- the spawned call beside what follows it, up to the join
+-- the spawned call is parallel to the instructions after it, up to the join
 abbrev pub read_tree : Tree
 read_tree = Marked (Invocation 0) (Seq (Leaf 9) (Seq (Par (Marked (Invocation 1) (Leaf 3)) (Leaf 3)) (Leaf 7)))
 
--- it prints an element that the spawned call reads too, writes the array again after the join, and costs 22
+-- the code prints an element that the spawned call also reads, writes the array after the join, and costs 22
 pub record ReadRuns : Type 0 where
   pub runs : code_serial read_code [] 22 ≡ Some (Ended (pos 5) (pos 5 ∷ []) [] read_tree)
   pub over : code_serial read_code [] 21 ≡ Some OverLimit

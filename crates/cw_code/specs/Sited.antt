@@ -1,4 +1,4 @@
--- A run calls at the sites of its code alone.
+-- A run calls only at the sites of its code.
 use Rattle.std.specs.Prelude.{◌≡◌, ℕ, ◌+◌, ℤ, true, List, length, Some}
 use Rattle.cw_model.specs.declared.total.Total.{Total}
 use Rattle.cw_model.specs.Trees.{Tree}
@@ -7,8 +7,8 @@ use Rattle.cw_model.specs.Answers.{Ended}
 use Rattle.cw_code.specs.Code.{Code}
 use Rattle.cw_code.specs.Run.{code_serial}
 
--- where a run ends, each invocation in its tree is of a site of the code, whose numbers begin at 1;
--- number 0 is the run's own call
+-- if a run ends, each invocation in its tree is of a site of the code (numbered from 1) or of the run's own call
+-- (number 0)
 abbrev pub CallsAtItsSites : Code → Type 0
 CallsAtItsSites code =
     (args : List ℤ) (n : ℕ) (value : ℤ) (lines : List ℤ) (totals : List Total) (tree : Tree)

@@ -1,4 +1,4 @@
--- Lemmas, which the proofs of crates above cite.
+-- Lemmas for the proofs of the crates above.
 pub mod Slots
 pub mod Lying
 pub mod Seats

@@ -1,43 +1,43 @@
-//! Instructions, functions and call sites.
+//! Bytecode: instructions, functions and call sites.
 
 use cw_model::syntax::{CallKind, Name, Operator, Reduction};
 
-/// What a call names.
+/// The callee of a call instruction.
 #[derive(Clone, Copy, Debug, PartialEq, Eq)]
 pub struct Callee {
     /// The index of its function in the code.
     pub function: u32,
     /// The number of its call site, from 1.
     pub site: u32,
-    /// The line of its statement, from 1: a trap of the call is told there.
+    /// The line of its statement, from 1. A trap of the call is reported in this line.
     pub line: u32,
-    /// The slot of the caller that takes its result; without one the result is dropped.
+    /// The slot of the caller for the result, or `None` if the result is dropped.
     pub target: Option<u32>,
-    /// The index, among the lists of the code, of the caller's array slots whose arrays it takes.
+    /// The index, in the code's lists of slots, of the caller's array slots whose arrays the callee takes.
     pub passed: u32,
-    /// The index, among the lists of loans of the code, of the caller's arrays that it reads.
+    /// The index, in the code's lists of loans, of the caller's arrays that the callee reads.
     pub lent: u32,
 }
 
-/// What a call of a loop's function names. It is at no site and no deeper than its caller, and reads no array of it.
+/// The callee of a call of a loop's function. This call has no site, is as deep as its caller, and is lent no array.
 #[derive(Clone, Copy, Debug, PartialEq, Eq)]
 pub struct Inner {
     /// The index of its function in the code.
     pub function: u32,
-    /// The index, among the lists of the code, of the caller's array slots whose arrays it takes.
+    /// The index, in the code's lists of slots, of the caller's array slots whose arrays the callee takes.
     pub passed: u32,
 }
 
-/// An array that a call lends to the one that it makes: it stays where it is, and is only read.
+/// An array that a caller lends to its callee: it stays where it is, and is only read.
 #[derive(Clone, Copy, Debug, PartialEq, Eq)]
 pub enum Loan {
     /// The array in an array slot of the caller.
     Array(u32),
-    /// An array that the caller itself was lent, by its number.
+    /// An array that was lent to the caller itself, by its number.
     Reader(u32),
 }
 
-/// The array slots that a cut names.
+/// The array slots of a cut.
 #[derive(Clone, Copy, Debug, PartialEq, Eq)]
 pub struct Halves {
     /// The slot of the array that is cut.
@@ -48,105 +48,108 @@ pub struct Halves {
     pub right: u32,
 }
 
-/// An operator on one operand.
+/// A unary operator.
 #[derive(Clone, Copy, Debug, PartialEq, Eq)]
 pub enum UnaryOperator {
-    /// The number with the other sign. Overflow is a trap.
+    /// The negated number. Traps on overflow.
     Negative,
     /// 1 for 0, and 0 for every other number.
     Not,
 }
 
-/// What a sync block inside a call is.
+/// The kind of a sync block inside a call.
 #[derive(Clone, Copy, Debug, PartialEq, Eq)]
 pub enum BlockKind {
     /// A scope.
     Scope,
-    /// A region with the tag of this index in the code.
+    /// A region, with the index of its tag in the code.
     Region(u32),
 }
 
-/// One instruction, which costs one unit of work. Slots are counted from 0 in each call.
+/// An instruction. Each instruction costs one unit of work. The slots (locals) of a call are numbered from 0.
 #[derive(Clone, Copy, Debug, PartialEq, Eq)]
 pub enum Instr {
-    /// A number, onto the operands.
+    /// Pushes a number.
     Push(i64),
-    /// The value of a slot, onto the operands. An empty slot has none.
+    /// Pushes the value of a slot, which must not be empty.
     Load(u32),
-    /// The last operand, into a slot that is not empty.
+    /// Pops the last operand into a slot, which must not be empty.
     Store(u32),
-    /// An operator on the last operand; a trap of it is told in this line.
+    /// Applies an operator to the last operand. A trap is reported in this line.
     Unary(UnaryOperator, u32),
-    /// An operator on the last two operands, the first one first; a trap of it is told in this line.
+    /// Applies an operator to the last two operands; the first one is the left operand. A trap is reported in this
+    /// line.
     Binary(Operator, u32),
-    /// On past so many places after the next one.
+    /// Jumps forward over this number of instructions.
     Skip(u32),
-    /// The last operand: on past so many places after the next one where it is 0, else to the next one.
+    /// Pops the last operand. If it is 0, jumps forward over this number of instructions; otherwise continues.
     SkipIfZero(u32),
-    /// Back by so many places.
+    /// Jumps back by this number of instructions.
     GoBack(u32),
-    /// A call, which takes its arguments from the operands, the last one last, and the arrays in the slots that it
-    /// names, and reads those that it is lent. In place, its result goes into its slot as it ends, and the arrays that
-    /// it took go back into theirs. Spawned, it may run beside what follows it: these slots are empty up to the next
-    /// join of the sync block, and up to there the arrays that it was lent are only read.
+    /// Calls a function. It takes its arguments from the operands (the last operand is the last argument) and the
+    /// arrays from the slots in its list, and reads the arrays that it is lent. At the end of a plain call, the
+    /// result and the arrays return to their slots. A spawned call may run in parallel with the instructions after
+    /// it: its slots are empty until the next join of the sync block, and until then the arrays that it was lent are
+    /// only read.
     Call(CallKind, Callee),
-    /// A call that a loop's function makes of itself.
+    /// A recursive call of a loop's function.
     Recur(CallKind, Inner),
-    /// The first call of a loop's function: its arguments are the ends of the loop's range, of which the second is the
-    /// first one where it is less, and then captured numbers; it takes the slices of the arrays in that range. A trap
-    /// is told in this line.
+    /// The first call of a loop's function. Its arguments are the bounds of the loop's range (if the second bound is
+    /// less, it becomes the first one), then the captured numbers. It takes the slices of the arrays in that range. A
+    /// trap is reported in this line.
     Start(Inner, u32),
-    /// An array of as many zeros as the last operand says, into an array slot; a trap is told in this line.
+    /// Pops a length and puts an array of that many zeros into an array slot. A trap is reported in this line.
     NewArray(u32, u32),
-    /// The count of the elements of the array in a slot, onto the operands.
+    /// Pushes the number of elements of the array in a slot.
     Length(u32),
-    /// The element of the array in a slot at the last operand; a trap is told in this line.
+    /// Replaces the last operand, an index, by an element of the array in a slot. A trap is reported in this line.
     Element(u32, u32),
-    /// The last operand, into the array in a slot at the operand before it; a trap is told in this line.
+    /// Pops a value and before it an index, and writes the value into the array in a slot. A trap is reported in this
+    /// line.
     SetElement(u32, u32),
-    /// The count of the elements of an array that the call was lent, onto the operands.
+    /// Pushes the number of elements of a lent array.
     ReadLength(u32),
-    /// The element of an array that the call was lent, at the last operand; a trap is told in this line.
+    /// Replaces the last operand, an index, by an element of a lent array. A trap is reported in this line.
     ReadElement(u32, u32),
-    /// An array is cut at the last operand: its parts go into two slots, its own is empty, and a sync block begins; a
-    /// trap is told in this line.
+    /// Pops an index, cuts an array there, and begins a sync block. The parts go into two slots, and the array's own
+    /// slot becomes empty. A trap is reported in this line.
     Cut(Halves, u32),
-    /// A join, and the end of the innermost sync block, which a cut began: its parts go back into one array.
+    /// Joins, and ends the innermost sync block, which a cut began: the two parts become one array again.
     EndCut,
-    /// A join: the results of the calls that the innermost sync block spawned go into their slots.
+    /// Joins: the results of the calls that the innermost sync block spawned go into their slots.
     Sync,
-    /// A sync block begins.
+    /// Begins a sync block.
     Open(BlockKind),
-    /// A join, and the end of the innermost sync block.
+    /// Joins, and ends the innermost sync block.
     Close,
-    /// The last operand is printed.
+    /// Pops the last operand and prints it.
     Print,
-    /// The last operand is told to the reducer of this index.
+    /// Pops the last operand and updates the reducer with this index.
     Reduce(u32),
-    /// A join, and the end of the call with the last operand as its value.
+    /// Joins, and returns the last operand from the call.
     ReturnValue,
-    /// A join, and the end of a call that gives no value.
+    /// Joins, and returns from the call without a value.
     Return,
 }
 
-/// A function. Its instructions stand in a row.
+/// A function. Its instructions are consecutive.
 #[derive(Clone, Copy, Debug, PartialEq, Eq)]
 pub struct Func {
     /// The index of its first instruction.
     pub start: usize,
     /// The index after its last instruction.
     pub end: usize,
-    /// Whether its calls give a value.
+    /// Whether its calls return a value.
     pub gives_int: bool,
-    /// The count of its integer parameters, which take the first slots of integers.
+    /// The number of its integer parameters, which are in the first slots.
     pub params: usize,
-    /// The count of its slots of integers, parameters included.
+    /// The number of its slots, including parameters.
     pub slots: usize,
-    /// The count of its array parameters, which take the first array slots.
+    /// The number of its array parameters, which are in the first array slots.
     pub array_params: usize,
-    /// The count of its array slots, parameters included.
+    /// The number of its array slots, including parameters.
     pub arrays: usize,
-    /// The count of the arrays that its calls are lent: they have numbers from 0, are in no slot, and are only read.
+    /// The number of arrays that its calls are lent. They are numbered from 0, are in no slot, and are only read.
     pub readers: usize,
 }
 
@@ -155,11 +158,11 @@ pub struct Func {
 pub struct Site {
     /// Its number, from 1 in source order.
     pub number: u32,
-    /// Whether it is spawned.
+    /// Whether it is a spawn.
     pub kind: CallKind,
     /// Its line, from 1.
     pub line: u32,
-    /// The name of the function that it calls.
+    /// The name of the called function.
     pub callee: Name,
     /// The index of that function in the code.
     pub function: u32,
@@ -170,29 +173,29 @@ pub struct Site {
 pub struct Reducer {
     /// Its name.
     pub name: Name,
-    /// How it makes one total of what it is told.
+    /// How it combines the values of its updates.
     pub how: Reduction,
 }
 
 /// The code of a program.
 #[derive(Debug, Drop)]
 pub struct Code {
-    /// The instructions of all functions, one function after another.
+    /// The instructions of all functions, function after function.
     pub instrs: Vec<Instr>,
     /// The functions.
     pub funcs: Vec<Func>,
-    /// The index of `main` among the functions.
+    /// The index of `main` in the functions.
     pub main: u32,
-    /// The line of its head, from 1.
+    /// The line of the head of `main`, from 1.
     pub main_line: u32,
     /// The call sites, in source order.
     pub sites: Vec<Site>,
     /// The reducers, in source order.
     pub reducers: Vec<Reducer>,
-    /// The different tags of the regions, in the order of their first places.
+    /// The distinct tags of the regions, in order of first occurrence.
     pub tags: Vec<Name>,
-    /// Lists of array slots whose arrays a call takes, in the order of its array parameters.
+    /// Lists of array slots whose arrays a call takes, in the order of the callee's array parameters.
     pub passed: Vec<Vec<u32>>,
-    /// Lists of arrays that a call is lent, in the order of their numbers there.
+    /// Lists of arrays that a call is lent, in the order of their numbers in the callee.
     pub lent: Vec<Vec<Loan>>,
 }

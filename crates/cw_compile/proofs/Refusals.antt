@@ -1,4 +1,4 @@
--- A stage that refuses its input refuses the bytes.
+-- If a stage rejects its input, the bytes are rejected.
 use Rattle.std.proofs.Common.{◌≡◌, ℕ, true, List, [], ◌∷◌, map, refl, subst, sym, ap, ◌∙◌}
 use Rattle.cw_model.specs.declared.token.Token.{Token}
 use Rattle.cw_model.specs.Syntax.{Program}
@@ -31,7 +31,7 @@ use Rattle.cw_runnable.specs.declared.verified.Verified.{Verified}
 use Rattle.cw_code.specs.Heads.{head_view}
 use Rattle.cw_code.specs.declared.head.Head.{Head}
 
--- what is known of a function beside its name and its line says nothing of its head
+-- `plain_function` keeps the name and the line, so it keeps the head
 plain_heads : (functions : List Function) → map head_of functions ≡ map (λ f. record { name = f.name; line = f.line }) (map plain_function functions)
 plain_heads [] = refl
 plain_heads (f ∷ functions) = ap (λ heads. head_of f ∷ heads) (plain_heads functions)
@@ -42,7 +42,7 @@ unparsed bytes ts has (fault.Syntax p) h = record { tokens = ts; has_tokens = ha
 unparsed bytes ts has fault.Memory h = tt
 unparsed bytes ts has _ h = absurd h
 
--- the text that the bytes were read to, its tokens, and the slice of them
+-- the text that the bytes were read to, its tokens, and the slice of the tokens
 module _ (bytes text : List ℕ) (ts slice : List Token) (e : text ≡ bytes) (s : slice ≡ ts) (valid : IsSourceText text) (cut : IsTokenCut text ts) where
   tokens_of : Sources.HasTokens bytes ts
   tokens_of = record { text = subst IsSourceText e valid; cut = subst (λ x. IsTokenCut x ts) e cut }
@@ -66,7 +66,7 @@ module _ (bytes : List ℕ) (program : Program) (source : Sources.IsSourceOf byt
   ownership_refused fault.Memory h = tt
   ownership_refused _ h = absurd h
 
-  -- ownership of the resolved tree
+  -- a resolved tree that breaks ownership
   pub tree_disowned : (f : Fault) → BreaksOwnership (program_of tree) f → Sources.IsRefused bytes f
   tree_disowned f h = ownership_refused f (subst (λ p. BreaksOwnership p f) typed.same h)
 
@@ -101,17 +101,17 @@ module _ (bytes : List ℕ) (program : Program) (source : Sources.IsSourceOf byt
       code_refused fault.Memory h = tt
       code_refused _ h = absurd h
 
-      -- the code of the lowered tree
+      -- the code of a lowered tree that exceeds a limit
       pub tree_too_large : (f : Fault) → gen.IsRefusal (program_of other) f → Sources.IsRefused bytes f
       tree_too_large f h = code_refused f (subst (λ p. gen.IsRefusal p f) is_program h)
 
-      -- generated code fits, so the verifier refuses it for want of memory alone
+      -- generated code is well formed, so the verifier rejects it only if it is out of memory
       pub not_unfit : (code : declared.Code) → gen.Generates (program_of other) (code_view code) → (f : Fault) → Fails (Fits (code_view code) → ⊥) f → Sources.IsRefused bytes f
       not_unfit code g fault.Code h = absurd (h g.fits)
       not_unfit code g fault.Memory h = tt
       not_unfit code g _ h = absurd h
 
-      -- what is made of the code, with the heads of the functions beside it
+      -- the compiled code with the heads of its functions
       pub made : (code : declared.Code) → gen.Generates (program_of other) (code_view code) → (verified : Verified) → verified.code ≡ code → (heads : Vec Head)
           → map head_view heads.items ≡ map head_of (resolved_of other).functions → IsMade bytes (record { code = verified; heads = heads })
       made code h verified same_code heads are =

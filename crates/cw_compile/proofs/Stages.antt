@@ -1,4 +1,4 @@
--- A source goes through one stage after another, and each either goes on with one value or stops in one line.
+-- A source passes through the stages in order; each stage either continues with one value or stops in one line.
 use Rattle.std.proofs.Common.{◌≡◌, ℕ, ◌≤◌, List, [], length, Result, Ok, Err, ◌⊎◌, inl, inr, refl, sym, ap, ◌∙◌, subst, arith}
 use Rattle.cw_model.specs.declared.token.Token.{Token}
 use Rattle.cw_model.specs.declared.limits.TheConstants.{MOST_SOURCE_BYTES}
@@ -21,13 +21,13 @@ use Rattle.cw_compile.specs.Sources as sources
 
 -- ---- one stage
 
--- at most one value is right, or else one line is wrong
+-- at most one value is right, or exactly one line is wrong
 record IsChoice {A : Type 0} (Right : A → Type 0) (Wrong : ℕ → Type 0) : Type 0 where
   pub one_value : (a b : A) → Right a → Right b → a ≡ b
   pub apart : (a : A) (line : ℕ) → Right a → Wrong line → ⊥
   pub one_line : (l m : ℕ) → Wrong l → Wrong m → l ≡ m
 
--- the answer is the fault in a wrong line, or what the rest makes of a right value
+-- the result is the fault in a wrong line, or the result of the rest for a right value
 data Stage {A : Type 0} (Right : A → Type 0) (Wrong : ℕ → Type 0) (faulty : Place → Fault) (Rest : A → Result Program Fault → Type 0) : Result Program Fault → Type 0 where
   goes : {r : Result Program Fault} (a : A) → Right a → Rest a r → Stage Right Wrong faulty Rest r
   stops : (p : Place) → Wrong p.line → Stage Right Wrong faulty Rest (Err (faulty p))
@@ -43,9 +43,9 @@ module _ {A : Type 0} (Right : A → Type 0) (Wrong : ℕ → Type 0) (faulty : 
   stage_one choice rest r s (stops p h) (goes b k y) = absurd (choice.apart b p.line k h)
   stage_one choice rest r s (stops p h) (stops q k) = ap (λ n. Err (faulty (record { line = n }))) (choice.one_line p.line q.line h k)
 
--- ---- a list of lines that break a rule
+-- ---- lists of lines that break a rule
 
--- no line breaks the rule, or the least that does is wrong
+-- no line breaks the rule, or the least line that breaks it is wrong
 abbrev Keeps : List ℕ → (Place → Fault) → (Result Program Fault → Type 0) → Result Program Fault → Type 0
 Keeps lines faulty Rest = Stage {A = Unit {0}} (λ _. lines ≡ []) (IsLeastLine lines) faulty (λ _. Rest)
 
@@ -121,7 +121,7 @@ module _ (one_cut : HasOneCut) (no_cut : FaultsExcludeCuts) (one_kind : FaultsEx
   answer_one : IsOne (Answer bytes)
   answer_one = stage_one _ _ _ _ (length_choice bytes) (λ a h. stage_one _ _ _ _ (ascii_choice bytes) (λ b k. after_text_one))
 
-  -- ---- how far a source gets
+  -- ---- how far the stages accept a source
 
   text : {r : Result Program Fault} → IsSourceText bytes → AfterText bytes r → Answer bytes r
   text h x = goes tt h.short (goes tt h.ascii x)

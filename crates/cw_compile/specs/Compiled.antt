@@ -1,4 +1,4 @@
--- What the code of bytes does.
+-- The contract of compiled code.
 use Rattle.std.specs.Prelude.{◌≡◌, ℕ, List, map}
 use Rattle.cw_model.specs.Syntax.{Program}
 use Rattle.cw_model.specs.Sites.{Head, heads_of}
@@ -11,18 +11,18 @@ use Rattle.cw_gen.specs.Generates.{Generates}
 use Rattle.cw_compile.specs.Sources.{Compiles}
 use Rattle.cw_compile.specs.declared.compiling.Compiled.{Compiled}
 
--- the code of the program that the bytes are a source of: it does what that program's serial elision does
+-- `code` computes what the serial elision of the program computes that the bytes are a source of
 pub record IsCompiled (bytes : List ℕ) (code : Code) : Type 0 where
   pub program : Program
   pub compiles : Compiles bytes program
   pub generates : Generates program code
 
--- the code, and the heads of the functions of that program, by place
+-- `code` is the code of that program, and `heads` are the heads of its functions, in order
 pub record AreMade (bytes : List ℕ) (code : Verified) (heads : List counted.Head) : Type 0 where
   pub compiled : IsCompiled bytes (code_view code.code)
   pub are_heads : map head_view heads ≡ heads_of compiled.program
 
--- so are the two of what a source is compiled to
+-- the code and the heads of a compiled source satisfy `AreMade`
 abbrev pub IsMade : List ℕ → Compiled → Type 0
 IsMade bytes made = AreMade bytes made.code made.heads.items
 

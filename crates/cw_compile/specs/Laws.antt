@@ -1,4 +1,4 @@
--- What holds of all bytes.
+-- Laws of all bytes.
 use Rattle.std.specs.Prelude.{◌≡◌, ℕ, List, ◌⊎◌}
 use Rattle.cw_model.specs.Syntax.{Program}
 use Rattle.cw_text.specs.declared.fault.Fault.{Fault}
@@ -9,12 +9,12 @@ use Rattle.cw_compile.specs.Sources.{IsSourceOf, Compiles, IsRefused}
 abbrev pub HaveOneProgram : Type 0
 HaveOneProgram = (bytes : List ℕ) (p q : Program) → IsSourceOf bytes p → IsSourceOf bytes q → p ≡ q
 
--- bytes that compile are refused for want of memory only
+-- bytes that compile are rejected only if memory runs out
 abbrev pub CompiledAreNotRefused : Type 0
 CompiledAreNotRefused = (bytes : List ℕ) (p : Program) (f : Fault) → Compiles bytes p → IsRefused bytes f
     → f ≡ fault.Memory
 
--- bytes are refused for one reason in one line, or for want of memory
+-- bytes are rejected for one reason in one line, unless memory runs out
 abbrev pub HaveOneRefusal : Type 0
 HaveOneRefusal = (bytes : List ℕ) (f g : Fault) → IsRefused bytes f → IsRefused bytes g → (f ≡ g) ⊎ (f ≡ fault.Memory)
     ⊎ (g ≡ fault.Memory)

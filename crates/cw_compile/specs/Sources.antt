@@ -1,4 +1,4 @@
--- Which program bytes are a source of, and why bytes are refused.
+-- The program that bytes are a source of, and the reasons why bytes are rejected.
 use Rattle.std.specs.Prelude.{◌≡◌, ℕ, List, []}
 use Rattle.cw_model.specs.declared.token.Token.{Token}
 use Rattle.cw_model.specs.Lines.{IsLeastLine}
@@ -18,43 +18,43 @@ pub record HasTokens (bytes : List ℕ) (tokens : List Token) : Type 0 where
   pub text : IsSourceText bytes
   pub cut : IsTokenCut bytes tokens
 
--- the bytes are a source of this program, by the limits on tokens and the grammar alone
+-- the bytes are a source of this program by the limits on tokens and the grammar only
 pub record IsSourceOf (bytes : List ℕ) (program : Program) : Type 0 where
   pub tokens : List Token
   pub has_tokens : HasTokens bytes tokens
   pub parsed : IsParsed bytes tokens program
 
--- the bytes are a source of this program, which passes no limit on its parts and keeps every rule
+-- the bytes are a source of this program, which exceeds no limit on its parts and keeps every rule
 pub record IsAccepted (bytes : List ℕ) (program : Program) : Type 0 where
   pub source : IsSourceOf bytes program
   pub within : limit_faults program ≡ []
   pub typed : type_faults program ≡ []
   pub owned : KeepsOwnership program
 
--- such a program has few enough loops, and is small enough
+-- the bytes are a source of this accepted program, which has few enough loops and is small enough
 pub record Compiles (bytes : List ℕ) (program : Program) : Type 0 where
   pub accepted : IsAccepted bytes program
   pub loops : loop_faults program ≡ []
   pub small : program_faults program ≡ []
 
--- the bytes are no source text, or their first fault is a byte that starts nothing or a number that is too great
+-- the bytes are no source text, or their first fault is a byte that starts no token or a number that is too large
 pub data IsLexicallyRefused (bytes : List ℕ) (line : ℕ) : Type 0 where
   byte : IsNotAscii bytes line → IsLexicallyRefused bytes line
   token : IsSourceText bytes → HasLexicalFault bytes line → IsLexicallyRefused bytes line
 
--- the bytes have tokens that pass no limit and are no source, and this is the line where they cannot go on
+-- the bytes have tokens that exceed no limit and are no source; `line` is the line where a source cannot continue
 pub record IsSyntacticallyRefused (bytes : List ℕ) (line : ℕ) : Type 0 where
   pub tokens : List Token
   pub has_tokens : HasTokens bytes tokens
   pub syntax : IsUnderivable bytes tokens line
 
--- no limit is passed, and this is the least line that breaks a rule of names and types
+-- no limit is exceeded, and `line` is the least line that breaks a rule of names and types
 pub record IsTypeRefused (bytes : List ℕ) (line : ℕ) : Type 0 where
   pub program : Program
   pub source : IsSourceOf bytes program
   pub types : IsFirstTypeFault program line
 
--- the types are right, and this is the least line that breaks a rule of ownership
+-- the types are right, and `line` is the least line that breaks a rule of ownership
 pub record IsDisowned (bytes : List ℕ) (line : ℕ) : Type 0 where
   pub program : Program
   pub source : IsSourceOf bytes program
@@ -62,7 +62,7 @@ pub record IsDisowned (bytes : List ℕ) (line : ℕ) : Type 0 where
   pub typed : type_faults program ≡ []
   pub least : IsLeastLine (ownership_faults program) line
 
--- the first limit that is passed, stage by stage: bytes, a name, tokens, the program's parts, its loops, and its code
+-- the first exceeded limit by stage: bytes, a name, tokens, the parts of the program, its loops, and its code
 pub data PassesLimit (bytes : List ℕ) (line : ℕ) : Type 0 where
   length : IsTooLong bytes line → PassesLimit bytes line
   name : IsSourceText bytes → HasNameFault bytes line → PassesLimit bytes line
@@ -74,7 +74,7 @@ pub data PassesLimit (bytes : List ℕ) (line : ℕ) : Type 0 where
   code : (program : Program) → IsAccepted bytes program → loop_faults program ≡ []
       → IsLeastLine (program_faults program) line → PassesLimit bytes line
 
--- what must hold of the bytes where this fault is answered for them: the first stage that refuses them, and its line
+-- the condition that the bytes satisfy if compiling them returns this fault: the first stage that rejects them
 abbrev pub IsRefused : List ℕ → Fault → Type 0
 IsRefused bytes (fault.Lexical p) = IsLexicallyRefused bytes p.line
 IsRefused bytes (fault.Syntax p) = IsSyntacticallyRefused bytes p.line

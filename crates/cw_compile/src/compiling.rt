@@ -1,4 +1,4 @@
-//! From bytes to code.
+//! The front end in one call: from bytes to code.
 
 ghost use Rattle.std.specs.Prelude.{◌≡◌, IfOk, MatchResult, map};
 ghost use Rattle.cw_code.specs.Heads.{head_view};
@@ -22,23 +22,24 @@ use cw_types::check;
 use cw_verify::verify::verify;
 use std::alloc::{AllocError, Global};
 
-/// What a source is compiled to.
+/// Holds the result of compiling a source.
 #[derive(Debug, Drop)]
 pub struct Compiled {
-    /// The code of its program.
+    /// The code of the program.
     pub code: Verified,
-    /// The heads of its functions, by place.
+    /// The heads of the functions, in order.
     pub heads: Vec<Head>,
 }
 
-/// The code of the program that these bytes are the source of: on all arguments and within all
-/// limits it does what the program's serial elision does.
+/// Compiles the program whose source these bytes are. On all arguments and within all limits, the code computes what
+/// the program's serial elision computes.
 ///
-/// The first stage that refuses the bytes decides, with its line: `Size` for too many bytes, else
-/// `Lexical` for one that is not ASCII; `Lexical` and `Size` for tokens; `Size` for too many
-/// brackets open or too many tokens in a row, else `Syntax`; `Size` for the parts of the program, and
-/// `Types`; `Ownership`; `Size` for too many loops, at the line of the 4,097th by place; and `Size` for
-/// its code, at line 1. `Memory` where memory runs out.
+/// # Errors
+///
+/// The first stage that rejects the bytes decides, with its line: `Size` for too many bytes, otherwise `Lexical` for
+/// a byte that is not ASCII; `Lexical` and `Size` for tokens; `Size` for too many open brackets or too many tokens in
+/// a row, otherwise `Syntax`; `Size` for the parts of the program, and `Types`; `Ownership`; `Size` for too many
+/// loops, at the line of the 4,097th by place; and `Size` for the code, at line 1. `Memory` if memory runs out.
 pub fn compile(alloc: Global, bytes: &[u8]) -> Result<Verified, Fault>
     ensures { MatchResult result
         (λ made. IsCompiled bytes.now (code_view made.code)) (IsRefused bytes.now) }
@@ -49,7 +50,11 @@ pub fn compile(alloc: Global, bytes: &[u8]) -> Result<Verified, Fault>
     }
 }
 
-/// The same, with the heads of the program's functions beside the code.
+/// Compiles like `compile`, and also returns the heads of the program's functions.
+///
+/// # Errors
+///
+/// Returns the faults of `compile`.
 pub fn compile_with_heads(alloc: Global, bytes: &[u8]) -> Result<Compiled, Fault>
     ensures { MatchResult result (IsMade bytes.now) (IsRefused bytes.now) }
 {
@@ -73,7 +78,7 @@ pub fn compile_with_heads(alloc: Global, bytes: &[u8]) -> Result<Compiled, Fault
     })
 }
 
-// The heads of functions.
+// Returns the heads of the functions, in order.
 fn heads_of(alloc: Global, functions: &[Function]) -> Result<Vec<Head>, AllocError>
     ensures { IfOk result
         (λ heads. map head_view heads.items ≡ map head_of (map function_of functions.now)) }

@@ -1,9 +1,8 @@
-//! What holds of all bytes.
+//! Laws of all bytes.
 
 ghost use Rattle.cw_compile.specs.Laws.{CompiledAreNotRefused, HaveOneProgram, HaveOneRefusal};
 
-/// Bytes are a source of at most one program. So a report is that of the program that the bytes
-/// mean.
+/// States that bytes are a source of at most one program. So a report belongs to the program that the bytes mean.
 pub fn one_program()
     ensures { HaveOneProgram }
 {
@@ -11,9 +10,9 @@ pub fn one_program()
     cw_parse::laws::one_tree();
 }
 
-/// Bytes that compile are refused for want of memory only, and bytes are refused for one reason in
-/// one line, or for want of memory. So `compile` answers with code exactly where the bytes compile,
-/// and with a fault exactly where they are refused for it, in its one line, unless memory runs out.
+/// States that bytes that compile are rejected only if memory runs out, and that bytes are rejected for one reason in
+/// one line, or because memory runs out. So `compile` returns code exactly if the bytes compile, and otherwise the
+/// only fault for which they are rejected, in its only line, unless memory runs out.
 pub fn one_answer()
     ensures compiled { CompiledAreNotRefused }
     ensures refused { HaveOneRefusal }

@@ -1,4 +1,4 @@
-//! From bytes to code that can be run, through all stages of the front.
+//! The front end: from bytes to code that can be executed, through all stages.
 #![tactic(auto)]
 
 mod compiling;

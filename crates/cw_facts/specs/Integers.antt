@@ -1,4 +1,4 @@
--- Numbers and integers.
+-- Natural numbers and integers.
 use Rattle.std.proofs.Common.{◌≡◌, ℕ, ◌+◌, ◌*◌, ℤ, pos, negsuc, FitsSigned, w16, w32, w64, of_z, to_z, ap, ◌∙◌, add-one, arith}
 use Rattle.std.specs.Int.{int_max}
 use Rattle.std.proofs.lemmas.Int.{clamps, ints, to_z-of_z}
@@ -10,7 +10,7 @@ one_more_time count times = ap (λ (x : ℕ). x * times) (add-one count) ∙ suc
 pub max_regroup : (v w u : ℤ) → int_max (int_max v w) u ≡ int_max v (int_max w u)
 max_regroup v w u = omega (arith, ints, clamps)
 
--- an integer of fewer bits is one of 64, and is the same once it is made one
+-- an integer in the range of 32 or 16 bits is in the range of 64 bits, and conversion does not change it
 wide : (z : ℤ) → FitsSigned w32 z → FitsSigned w64 z
 wide (pos n) h = omega (arith, h)
 wide (negsuc n) h = omega (arith, h)

@@ -1,4 +1,4 @@
--- Lists: their last item, and what they have at a place.
+-- Lists: the last element, and the element at an index.
 use Rattle.std.proofs.Common.{◌≡◌, ◌≢◌, ◌⊎◌, inl, inr, ℕ, zero, suc, ◌<◌, Some, None, List, [], ◌∷◌, ◌++◌, length, reverse, slice_get, slice_set, refl, sym, ap, subst, arith}
 use Rattle.std.proofs.lemmas.Option.{none-some, same_Some}
 use Rattle.std.proofs.lemmas.List.{reverse-append}
@@ -6,7 +6,7 @@ use Rattle.std.proofs.lemmas.List.{reverse-append}
 pub reverse_pushed : {A : Type 0} (xs : List A) (x : A) → reverse (xs ++ x ∷ []) ≡ x ∷ reverse xs
 reverse_pushed xs x = reverse-append xs (x ∷ [])
 
--- within its length a list has an item
+-- there is an element at each index below the length
 pub there_at : {A : Type 0} (xs : List A) (k : ℕ) → k < length xs → (x : A) × (slice_get xs k ≡ Some x)
 there_at [] k lt = absurd (omega (arith, lt))
 there_at (x ∷ xs) zero lt = (x, refl)
@@ -21,13 +21,13 @@ pub get_last : {A : Type 0} (xs : List A) (y : A) → slice_get (xs ++ y ∷ [])
 get_last [] y = refl
 get_last (z ∷ xs) y = get_last xs y
 
--- what a list has at a place after a write there
+-- a write changes the element at its index
 pub get_set : {A : Type 0} (xs : List A) (k : ℕ) (y : A) → k < length xs → slice_get (slice_set xs k y) k ≡ Some y
 get_set [] k y lt = absurd (omega (arith, lt))
 get_set (x ∷ xs) zero y lt = refl
 get_set (x ∷ xs) (suc k) y lt = get_set xs k y (omega (arith, lt))
 
--- and after a write at another place
+-- a write does not change the element at another index
 pub set_other : {A : Type 0} (xs : List A) (a b : ℕ) (y : A) → b ≢ a → slice_get (slice_set xs a y) b ≡ slice_get xs b
 set_other [] a b y n = refl
 set_other (x ∷ xs) zero zero y n = absurd (n refl)
@@ -35,7 +35,7 @@ set_other (x ∷ xs) zero (suc b) y n = refl
 set_other (x ∷ xs) (suc a) zero y n = refl
 set_other (x ∷ xs) (suc a) (suc b) y n = set_other xs a b y (λ e. n (ap suc e))
 
--- what stands in a list after a write, or behind a last item that is new: that, or what stood there
+-- an element of a list after a write or a push is the new element, or an element of the list before
 pub set_gives : {A : Type 0} (xs : List A) (i k : ℕ) (x y : A) → slice_get (slice_set xs i x) k ≡ Some y → (k ≡ i × (y ≡ x)) ⊎ (slice_get xs k ≡ Some y)
 set_gives [] i k x y h = inr h
 set_gives (z ∷ xs) zero zero x y h = inl (refl, sym (same_Some x y h))
@@ -55,7 +55,7 @@ added_gives (z ∷ xs) (suc k) x y h = elim (added_gives xs k x y h) [
   | inr p ↦ inr p
 ]
 
--- a property of each item of a list
+-- a property holds for each element of a list
 abbrev pub Each : {A : Type 0} → (A → Type 0) → List A → Type 0
 Each P [] = Unit {0}
 Each P (x ∷ xs) = P x × Each P xs
@@ -72,19 +72,19 @@ pub each_of : {A : Type 0} (P : A → Type 0) (xs : List A) → ((k : ℕ) (x : 
 each_of P [] f = tt
 each_of P (x ∷ xs) f = (f 0 x refl, each_of P xs (λ k y e. f (suc k) y e))
 
--- an item that is pushed leaves those before it
+-- a push keeps the elements before it
 pub get_before : {A : Type 0} (xs : List A) (x : A) (k : ℕ) (y : A) → slice_get xs k ≡ Some y → slice_get (xs ++ x ∷ []) k ≡ Some y
 get_before [] x k y e = absurd (none-some y e)
 get_before (a ∷ xs) x zero y e = e
 get_before (a ∷ xs) x (suc k) y e = get_before xs x k y e
 
--- in two lists, the first has its items
+-- a concatenation has the elements of the first list at their indices
 pub get_left : {A : Type 0} (xs ys : List A) (k : ℕ) → k < length xs → slice_get (xs ++ ys) k ≡ slice_get xs k
 get_left [] ys k lt = absurd (omega (arith, lt))
 get_left (x ∷ xs) ys zero lt = refl
 get_left (x ∷ xs) ys (suc k) lt = get_left xs ys k (omega (arith, lt))
 
--- a write of what stands there changes nothing
+-- a write of the element that is already there changes nothing
 pub set_same : {A : Type 0} (xs : List A) (k : ℕ) (y : A) → slice_get xs k ≡ Some y → slice_set xs k y ≡ xs
 set_same [] k y e = refl
 set_same (x ∷ xs) zero y e = ap (λ z. z ∷ xs) (sym (same_Some x y e))

@@ -1,16 +1,16 @@
--- Booleans, and tests on numbers: what a test answers where a fact holds, and what holds where it answers so.
+-- Booleans and tests on numbers: the result of a test if a fact holds, and the fact that holds for a result.
 use Rattle.std.proofs.Common.{◌≡◌, ◌==◌, ℕ, suc, ◌+◌, ◌<◌, Bool, true, false, ◌&&◌, ◌||◌, nat_eq, refl, arith}
 use Rattle.std.proofs.lemmas.Bool.Decides.{nat_tests}
--- both hold: (a && b) is true, or is false for the first's or the second's sake
+-- `a && b` is true if both are; it is false if the first is, or if the second is
 pub use Rattle.std.proofs.lemmas.Bool.{and_from as both_true, and_left as first_false, and_right as second_false}
--- a conditional goes the way of its test, or the other way
+-- a conditional returns its first branch if its test is true, otherwise its second branch
 pub use Rattle.std.proofs.lemmas.Bool.{cond-true as taken, cond-false as not_taken}
 pub use Rattle.std.proofs.lemmas.Bool.{not-true as not_true}
--- one of two holds for the first's or the second's sake, and not so where that would be absurd
+-- a disjunction is true if the first is, or if the second is; a test is false if it cannot be true
 pub use Rattle.std.proofs.lemmas.Bool.{or_left as either_left, or_right as either_right, false_from_ne_true as refuted}
--- the test on a and b answers true, or false
+-- the test on `a` and `b` returns true, or false
 pub use Rattle.std.proofs.lemmas.Bool.{le-leb as at_most, lt-leb as not_at_most, lt-ltb as below, le-ltb as not_below, eq-eqb as equal, ne_eqb as not_equal}
--- what holds of a and b where the test answers true, or false
+-- the fact about `a` and `b` if the test returns true, or false
 pub use Rattle.std.proofs.lemmas.Bool.{leb-true as le_of, leb-false as not_le_of, ltb-true as lt_of, ltb-false as not_lt_of, eqb-true as eq_of, eqb-false as ne_of}
 
 pub first_true : (a b : Bool) → (a && b) ≡ true → a ≡ true
@@ -48,7 +48,7 @@ pub never : {A : Type 0} (b : Bool) → b ≡ true → b ≡ false → A
 never true h g = absurd cc
 never false h g = absurd cc
 
--- which of the two it is
+-- whether a Boolean is true or false
 pub data Told (b : Bool) : Type 0 where
   yes_is : b ≡ true → Told b
   no_is : b ≡ false → Told b

@@ -1,4 +1,4 @@
-//! Facts of Booleans, numbers, options and lists, which proofs of several crates cite: no code, and no law of its own.
+//! Lemmas about Booleans, numbers, options and lists, for the proofs of several crates; there is no code and no law.
 //!
-//! Each stands in `specs`, once. What the kit's library states under a short name stands there under a name in words.
+//! Each lemma is in `specs`, once. Lemmas of the kit's library with short names have descriptive names there.
 #![tactic(auto)]

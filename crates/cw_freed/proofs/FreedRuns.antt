@@ -1,4 +1,4 @@
--- Runs in which what belongs to freed sites weighs nothing have the freed trees.
+-- Runs in which the instructions of free sites weigh nothing have the trees with zero-cost sites.
 use Rattle.std.specs.Prelude.{ℕ, ◌≡◌, ◌+◌, ◌≤◌, Bool, true, false, List, [], ◌∷◌, ◌++◌, Option, Some, None, refl}
 use Rattle.std.proofs.Common.{sym, ◌∙◌, ap, arith}
 use Rattle.cw_model.specs.Trees.{Mark, Tree, Leaf, Seq, Par, Event, Work, Series, Join, parts_of, tree_of}
@@ -10,7 +10,7 @@ use Rattle.cw_measure.specs.OpenParts.{Open, marked, part_of, event_of, closed, 
 use Rattle.cw_sites.specs.OpenPaths.{inside}
 use Rattle.cw_freed.specs.FreedRuns.{unless, freed_event, freed_events}
 
--- instructions, of a freed site or not
+-- instructions that may be free
 pub unless-none : (b : Bool) → unless b 0 ≡ 0
 unless-none true = refl
 unless-none false = refl
@@ -28,7 +28,7 @@ module _ (frees : ℕ → Bool) where
   freed-append site [] fs = refl
   freed-append site (d ∷ es) fs = ap (λ (x : List Event). freed_event frees site d ∷ x) (freed-append site es fs)
 
-  -- the tree of such events
+  -- the tree of events in which the instructions of free sites weigh nothing
   nothing : (site : ℕ) → Leaf 0 ≡ freed frees site (Leaf 0)
   nothing site = ap Leaf (sym (unless-none (frees site)))
 
@@ -73,7 +73,7 @@ module _ (frees : ℕ → Bool) where
       ∙ ap (λ (x : Event). freed_events frees site o.outer ++ x ∷ []) (freed_part site o.spawned o.mark (tree_of es))
       ∙ sym (freed-append site o.outer (event_of o es ∷ []))
 
-  -- trees that differ only in how they are grouped do so when freed
+  -- trees that differ only in grouping still do if sites cost nothing
   pub freed_regrouped : (site : ℕ) {t u : Tree} → Regrouped t u → Regrouped (freed frees site t) (freed frees site u)
   freed_regrouped site (same t) = same (freed frees site t)
   freed_regrouped site (back r) = back (freed_regrouped site r)

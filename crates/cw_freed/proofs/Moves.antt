@@ -1,4 +1,4 @@
--- What each call on a freed meter does.
+-- The effect of each method of a freed meter.
 use Rattle.std.specs.Prelude.{ℕ, ◌+◌, ◌-◌, ◌≡◌, ◌≤◌, ◌<◌, ◌^◌, min, Bool, true, false, not, Option, Some, List, [], ◌∷◌, ◌++◌, reverse, refl}
 use Rattle.std.proofs.Common.{arith, ap, sym, ◌∙◌, subst}
 use Rattle.std.proofs.Math.Bool.{not-not}
@@ -28,7 +28,7 @@ use Rattle.cw_freed.specs.Freeing.{Returns, Syncs, InstructionsNeedNoCall, Settl
 use Rattle.cw_freed.proofs.FreedRuns.{unless-none, unless_within, unless-sum, freed-append, freed_spawned, freed_closed, freed_regrouped}
 use Rattle.cw_freed.proofs.Runs.{both_fit, run_ticked, run_begun, run_ended, run_forked, run_child_ended, run_joined, run_unjoined, run_joined_at_end}
 
--- what is counted
+-- the number of instructions that are not free
 counted_more : (count : ℕ) (m : FreedMeter) → m.noted ≤ count → counted_at (count + 1) m ≡ counted_at count m + unless m.free 1
 counted_more count m le =
     let e : count + 1 - m.noted ≡ (count - m.noted) + 1 = omega (arith, le) in
@@ -39,7 +39,7 @@ counted_now count m e =
     let f : count - m.noted ≡ 0 = omega (arith, e) in
     let g = ap (λ (k : ℕ). unless m.free k) f ∙ unless-none m.free in omega (arith, g)
 
--- the block round a part that has ended
+-- the enclosing block after the end of a part
 behind_is : (child out : Bool) (t : Tree) → spawned_after out (part_of child t) ≡ spawned_behind child out
 behind_is true out t = refl
 behind_is false out t = refl
@@ -62,7 +62,7 @@ same_items : (old new : Vec Part) → new ≡ old → new.items ≡ old.items
 same_items old new e = ap (λ (x : Vec Part). x.items) e
 
 module _ (frees : ℕ → Bool) (burden : Burden) where
-  -- the freed run
+  -- the run with zero-cost sites
   abbrev events : (os : List Open) → List Event → List Event
   events os es = freed_events frees (here_in 0 os) es
 
@@ -91,7 +91,7 @@ module _ (frees : ℕ → Bool) (burden : Burden) where
             (run_ticked burden count (counted_at count m) j (freed_open frees os) (events os es) m.paths (unless_within (frees (here_in 0 os)) 1) waits small h.light h.run);
       }
 
-  -- all is counted
+  -- all instructions are noted
   pub counts_settled : (count : ℕ) (os : List Open) (es : List Event) (old new : FreedMeter) → Settles old new count → count ≤ MOST_LIMIT
       → CountsIn frees burden count os es old → CountsIn frees burden count os es new
   counts_settled count os es old new s small h =
@@ -107,7 +107,7 @@ module _ (frees : ℕ → Bool) (burden : Burden) where
         run = run_as count (counted_at count old) (counted_at count new) (freed_open frees os) (events os es) (events os es) old.paths new.paths (omega (arith, a, e)) refl s.paths h.run;
       }
 
-  -- a part in place begins
+  -- a part in series begins
   pub place_begun : (count : ℕ) (mark : Option Mark) (os : List Open) (es : List Event) (free : Bool) (old new : FreedMeter)
       → Stacks old new false old.spawned free → free ≡ frees (inside mark (here_in 0 os)) → counted_at count new ≡ counted_at count old
       → CountsIn frees burden count os es old → AreKept frees os (reverse old.parts.items) → FreesIn frees burden count (in_series mark es os) [] new
@@ -167,7 +167,7 @@ module _ (frees : ℕ → Bool) (burden : Burden) where
             (same_items old.parts mid.parts s.parts) h.parts);
       }
 
-  -- the block that runs joins
+  -- the current block joins
   pub joined_now : (count : ℕ) (os : List Open) (es : List Event) (old mid : FreedMeter) (p : Paths) → old.spawned ≡ true → Settles old mid count
       → JoinsBoth mid.paths p mid.counted → count ≤ MOST_LIMIT → FreesIn frees burden count os es old
       → FreesIn frees burden count os (es ++ Join ∷ []) (record {
@@ -215,7 +215,7 @@ module _ (frees : ℕ → Bool) (burden : Burden) where
     parts = h.parts;
   }
 
-  -- a part has ended that was in series, or was spawned
+  -- a part in series, or a spawned part, ended
   module _ (o : Open) (os : List Open) (es : List Event) where
     abbrev inner : List Event
     inner = freed_events frees (inside o.mark (here_in 0 os)) es
@@ -288,7 +288,7 @@ module _ (frees : ℕ → Bool) (burden : Burden) where
               (run_ended burden count (counted_at count m) freed_part (freed_open frees os) inner m.paths place (joined_inner m none h.spawned) h.run);
         }
 
-    -- a join at the end of a part is as none
+    -- a join at the end of a part has no effect
     pub ended_unjoined : (count : ℕ) (m : FreedMeter) → FreesIn frees burden count os (closed o (es ++ Join ∷ [])) m → FreesIn frees burden count os (closed o es) m
     ended_unjoined count m h = record {
       counts = record {
@@ -307,7 +307,7 @@ module _ (frees : ℕ → Bool) (burden : Burden) where
       parts = h.parts;
     }
 
--- THE CALLS
+-- The methods.
 
 pub ticks : LatePathsWait → InstructionsNeedNoCall
 ticks waits m count frees burden os es small h = record { counts = counts_ticked frees burden waits count os es m small h.counts; parts = h.parts }

@@ -1,4 +1,4 @@
--- Paths that are told late tell of what a run has come to.
+-- Late paths represent the run after each event.
 use Rattle.std.specs.Prelude.{ℕ, ◌≡◌, Bool, List, [], ◌∷◌, ◌++◌, refl}
 use Rattle.std.proofs.Common.{sym, subst, arith}
 use Rattle.std.proofs.lemmas.List.{append-nil}
@@ -12,14 +12,14 @@ use Rattle.cw_measure.specs.lemmas.StrandWeights.{told_late}
 use Rattle.cw_freed.specs.declared.paths.Paths.{Paths}
 use Rattle.cw_freed.specs.Paths.{SpawnsLate, EndsLate, JoinsLate, StartsBoth, SpawnsBoth, EndsBoth, JoinsBoth, ReadsBoth}
 
--- nothing came since
+-- nothing happened since
 none_since : (noted counted : ℕ) (es : List Event) → noted ≡ counted → Since noted counted es []
 none_since noted counted es e = record { goes_on = omega arith; instructions = omega arith }
 
 fits_more : (burden : Burden) (os : List Open) (es : List Event) → FitsRun burden os es → FitsRun burden os (es ++ [])
 fits_more burden os es fits = let P : List Event → Type 0 = λ x. FitsRun burden os x in subst P (sym (append-nil es)) fits
 
--- all is noted
+-- all instructions are noted
 pub told : (old mid : BurdenedPath) (counted : ℕ) → NotesLate old mid counted → (burden : Burden) (os : List Open) (es : List Event)
     → work_in os es ≡ counted → FitsRun burden os es → TellsLate burden os es old → TellsWeight burden os es mid
 told old mid counted notes burden os es work fits late =

@@ -1,4 +1,4 @@
--- Both paths of a run are told late of what it has come to.
+-- Both late paths represent the run after each event.
 use Rattle.std.specs.Prelude.{ℕ, ◌≡◌, ◌+◌, ◌≤◌, ◌<◌, Bool, true, false, not, List, [], ◌∷◌, ◌++◌, Option, refl}
 use Rattle.std.proofs.Common.{sym, ap, ◌∙◌, subst, arith}
 use Rattle.std.proofs.lemmas.Nat.{mul-le}
@@ -30,7 +30,7 @@ both_fit burden count counted os es p small light h = record {
   burdened = fits burden count os es small light h.burdened_within;
 }
 
--- an instruction, of which at most one unit is counted
+-- one instruction, which counts as at most 1
 within_ticked : (burden : Burden) (count j : ℕ) (os : List Open) (es : List Event) → j ≤ 1 → IsWithin burden count os es → IsWithin burden (count + 1) os (es ++ Work j ∷ [])
 within_ticked burden count j os es le w =
     let a = burdened_append burden os es (Work j ∷ []) in
@@ -56,7 +56,7 @@ run_ticked burden count counted j os es p le waits small light h =
       };
     }
 
--- a part in series begins, and ends
+-- a part in series begins and ends
 pub run_begun : (burden : Burden) (count counted : ℕ) (mark : Option Mark) (os : List Open) (es : List Event) (p : Paths)
     → TellsRun burden count counted os es p → TellsRun burden count counted (in_series mark es os) [] p
 run_begun burden count counted mark os es p h = record {
@@ -70,7 +70,7 @@ run_begun burden count counted mark os es p h = record {
   };
 }
 
--- what is within the work of a part that ends
+-- the bound for a part that ends
 within_left : (burden : Burden) (count : ℕ) (o : Open) (os : List Open) (es : List Event) → IsWithin burden count (o ∷ os) es → IsWithin burden count os (closed o es)
 within_left burden count o os es w = let a = left_burdened_work burden o os es in omega arith
 
@@ -87,7 +87,7 @@ run_ended burden count counted o os es p spawned joined h = record {
   };
 }
 
--- a spawned part begins by an instruction, and ends
+-- a spawned part begins with an instruction, and ends
 within_forked : (burden : Burden) (count j : ℕ) (mark : Option Mark) (os : List Open) (es : List Event) → j ≤ 1 → IsWithin burden count os es
     → IsWithin burden (count + 1) (in_fork mark (es ++ Work j ∷ []) os) []
 within_forked burden count j mark os es le w =
@@ -117,7 +117,7 @@ run_child_ended burden count counted o os es old new small light ends spawned jo
   tells = ends burden o os es h.work (both_fit burden count counted (o ∷ os) es old small light h) spawned joined h.tells;
 }
 
--- the block that runs joins
+-- the current block joins
 within_joined : (burden : Burden) (count : ℕ) (os : List Open) (es : List Event) → IsWithin burden count os es → IsWithin burden count os (es ++ Join ∷ [])
 within_joined burden count os es w = let a = burdened_append burden os es (Join ∷ []) in omega arith
 
@@ -152,7 +152,7 @@ run_unjoined burden count counted os es p small light waits none h =
       };
     }
 
--- a part that joined at its end and one that did not weigh the same
+-- a part has the same weight with and without a join at its end
 joined_weight : (burden : Burden) (es : List Event) → burdened_span burden (tree_of (es ++ Join ∷ [])) ≡ burdened_span burden (tree_of es)
 joined_weight burden es =
     let a = top-after_all burden 0 (es ++ Join ∷ []) in

@@ -1,4 +1,5 @@
--- A run so far in which what belongs to freed sites weighs nothing: its events, and those round the parts that are open.
+-- A run so far in which the instructions of free sites weigh nothing: the events of the current block and of the open
+-- parts.
 use Rattle.std.specs.Prelude.{ℕ, Bool, if◌then◌else◌, List, [], ◌∷◌}
 use Rattle.cw_model.specs.Trees.{Event, Work, Series, Join}
 use Rattle.cw_model.specs.Trees as e
@@ -6,7 +7,7 @@ use Rattle.cw_model.specs.Freed.{freed}
 use Rattle.cw_measure.specs.OpenParts.{Open}
 use Rattle.cw_sites.specs.OpenPaths.{here_in}
 
--- so many instructions, of a freed site or not
+-- `k` instructions, or 0 if they are free
 abbrev pub unless : (free : Bool) → ℕ → ℕ
 unless free k = if free then 0 else k
 
@@ -17,11 +18,12 @@ freed_event frees site (Series t) = Series (freed frees site t)
 freed_event frees site (e.Fork t) = e.Fork (freed frees site t)
 freed_event frees site Join = Join
 
+-- the events of a block in an invocation of this site
 abbrev pub freed_events : (frees : ℕ → Bool) → (site : ℕ) → List Event → List Event
 freed_events frees site [] = []
 freed_events frees site (e ∷ es) = freed_event frees site e ∷ freed_events frees site es
 
--- the parts that are open, each in a block of such events
+-- the open parts, with zero-cost events in the enclosing blocks
 abbrev pub freed_open : (frees : ℕ → Bool) → List Open → List Open
 freed_open frees [] = []
 freed_open frees (o ∷ os) =

@@ -1,10 +1,10 @@
-//! The laws of a freed meter: each function has one as its contract, and does nothing.
+//! The laws of a freed meter. Each function states a law as its contract, and does nothing.
 
 ghost use Rattle.cw_freed.specs.Freeing.{InstructionsNeedNoCall};
 
 use cw_measure::laws::late_paths_wait;
 
-/// An instruction that begins, ends and joins nothing needs no call of the meter.
+/// States that an instruction that begins, ends and joins nothing needs no call of the meter.
 pub fn instructions_need_no_call()
     ensures { InstructionsNeedNoCall }
 {

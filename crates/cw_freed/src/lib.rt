@@ -1,22 +1,24 @@
-//! What a run's spans would be if the instructions of some sites' invocations were free, counted as it goes.
+//! Computes the spans that a run would have if the instructions of some sites' invocations cost nothing, while the
+//! run executes.
 //!
-//! A [`FreedMeter`] is told of a run as a meter is: each call stands for one instruction, and is told the count of
-//! instructions before it. Of an instruction it counts a unit where the innermost open invocation is of a site that is
-//! not freed, and nothing where it is of a freed one; whether a site is freed it is told where a call of it begins.
+//! A [`FreedMeter`] has the interface of a meter: each call of a method represents one instruction, and its argument
+//! is the number of instructions before it. An instruction counts as 1 if the innermost open invocation is of a site
+//! that is not free, and as 0 if it is of a free site. The caller says whether a site is free where a call of the
+//! site begins.
 //!
 //! | instruction | call |
 //! |---|---|
 //! | a spawned call | `spawn(count, free)` |
-//! | half of a loop that is spawned | `spawn_half(count)` |
-//! | a call in place | `call(count, free)` |
-//! | a scope, a cut, a region, or a function of a loop in place | `begin(count)` |
-//! | a scope, a cut or a region joins and ends | `end(count)` |
-//! | a call, or a function of a loop, joins and ends | `give_back(count)` |
-//! | a join of the block that runs | `sync(count)` |
+//! | the spawned half of a loop | `spawn_half(count)` |
+//! | a plain call | `call(count, free)` |
+//! | a scope, a cut, a region, or a plain call of a loop's function | `begin(count)` |
+//! | the join and end of a scope, a cut or a region | `end(count)` |
+//! | the join and end of a call, or of a loop's function | `give_back(count)` |
+//! | a join of the current block | `sync(count)` |
 //! | any other | none (`laws::instructions_need_no_call`) |
 //!
-//! No call looks anything up in a table, and none takes memory but for the stack of open parts. After an error, which says
-//! that memory ran out, a meter tells of nothing.
+//! No method looks anything up in a table, and none allocates memory except for the stack of open parts. After an
+//! error, which means that memory ran out, a meter is meaningless.
 #![tactic(auto)]
 
 pub mod laws;

@@ -1,4 +1,4 @@
-//! A meter of a run in which some sites are freed.
+//! A meter of a run in which some sites cost nothing.
 
 ghost use Rattle.std.specs.Prelude.{◌≡◌, ◌≤◌, ◌<◌, true, false, OnOk};
 ghost use Rattle.std.specs.Vec.{vec_len, vec_capacity};
@@ -10,45 +10,45 @@ use cw_measure::laws::late_paths_wait;
 use cw_model::burden::Burden;
 use std::alloc::{AllocError, Global};
 
-/// What the spans of a run would be if the instructions of some sites' invocations were free.
+/// The spans that a run would have if the instructions of some sites' invocations cost nothing.
 #[derive(Clone, Copy, Debug, PartialEq, Eq)]
 pub struct Freed {
     /// The weight of a heaviest path, in instructions.
     pub span: u64,
-    /// The weight of a heaviest path with what it is charged at each fork that it runs through, in instructions.
+    /// The weight of a heaviest path with the charge for each fork that it goes through, in instructions.
     pub burdened: u128,
 }
 
-/// An open part of a run, and what is known of the block round it.
+/// An open part of a run, and the state of the enclosing block.
 #[derive(Clone, Copy, Debug)]
 pub(crate) struct Part {
     /// Whether it was spawned.
     pub child: bool,
-    /// Whether the block round it, once this part has ended, has spawned since its last join.
+    /// Whether the enclosing block, after the end of this part, has spawned since its last join.
     pub spawned: bool,
-    /// Whether the innermost invocation round it is of a freed site.
+    /// Whether the innermost invocation around it is of a free site.
     pub free: bool,
 }
 
-/// The heaviest paths of a run so far, if the instructions of some sites' invocations were free.
+/// The heaviest paths of a run so far, if the instructions of some sites' invocations cost nothing.
 #[derive(Debug, Drop)]
 pub struct FreedMeter {
     pub(crate) paths: Paths,
-    /// What is counted of the instructions up to the noted count.
+    /// The number of the noted instructions that are not free.
     pub(crate) counted: u64,
-    /// The count of all instructions up to which it is counted.
+    /// The number of instructions that are noted.
     pub(crate) noted: u64,
-    /// Whether the innermost open invocation is of a freed site.
+    /// Whether the innermost open invocation is of a free site.
     pub(crate) free: bool,
-    /// Whether the block that runs has spawned since its last join.
+    /// Whether the current block has spawned since its last join.
     pub(crate) spawned: bool,
-    /// The parts that are open inside of the run itself, the innermost last.
+    /// The open parts of the run, without the run itself, the innermost last.
     pub(crate) parts: Vec<Part>,
 }
 
 impl FreedMeter {
-    /// The meter of a run that begins, in the call of `main` by the run itself, whose site is 0; `free` says whether
-    /// that is freed, and `burden` is what is charged for a spawn. Takes no memory.
+    /// Returns the meter of a run at its start, in the run's own call of `main`, whose site is 0. `free` says whether
+    /// this site is free, and `burden` is the charge for a spawn. Allocates no memory.
     pub fn new(alloc: Global, burden: Burden, free: bool) -> FreedMeter
         ensures { Starts burden free result }
     {
@@ -62,7 +62,7 @@ impl FreedMeter {
         }
     }
 
-    // What is counted of the instructions since the noted ones.
+    // Returns the number of instructions since the noted ones that are not free.
     #[inline(always)]
     fn since(&self, count: u64) -> u64
         ensures { self.now.noted ≤ count → result ≡ since self.now count }
@@ -74,7 +74,7 @@ impl FreedMeter {
         }
     }
 
-    // The instructions up to this count.
+    // Notes the instructions up to this count.
     #[inline(always)]
     fn settle(&mut self, count: u64)
         ensures { Settles self.old self.new count }
@@ -83,8 +83,8 @@ impl FreedMeter {
         self.noted = count;
     }
 
-    // A part begins in the block that runs, in an invocation of a freed site or not; `spawned` says whether that block,
-    // once the part has ended, has spawned.
+    // Begins a part in the current block, in an invocation of a free site or not; `spawned` says whether the block,
+    // after the end of the part, has spawned.
     #[inline(always)]
     fn stack(&mut self, child: bool, spawned: bool, free: bool) -> Result<(), AllocError>
         ensures { OnOk result (Stacks self.old self.new child spawned free) }
@@ -99,7 +99,7 @@ impl FreedMeter {
         Ok(())
     }
 
-    // The same where there is room for it.
+    // Begins a part in the current block, like `stack`. There must be room for it.
     #[inline(always)]
     fn stack_within(&mut self, child: bool, spawned: bool, free: bool)
         requires { vec_len self.old.parts < vec_capacity self.old.parts }
@@ -114,7 +114,7 @@ impl FreedMeter {
         self.free = free;
     }
 
-    // Whether the block that runs has not spawned since its last join, and there is room for a spawned part.
+    // Returns whether the current block has not spawned since its last join, and there is room for a spawned part.
     #[inline(always)]
     fn is_ready(&self) -> bool
         ensures { result ≡ true → IsReady self.now }
@@ -122,7 +122,11 @@ impl FreedMeter {
         !self.spawned && self.parts.len() < self.parts.capacity() && self.paths.have_room()
     }
 
-    /// A spawned call begins by the instruction after `count` ones; `free` says whether its site is freed.
+    /// Begins a spawned call with the instruction after `count` others; `free` says whether its site is free.
+    ///
+    /// # Errors
+    ///
+    /// Returns an `AllocError` if memory runs out. The meter is then meaningless.
     #[inline(never)]
     pub fn spawn(&mut self, count: u64, free: bool) -> Result<(), AllocError>
         ensures { OnOk result (BeginsChild self.old self.new count free) }
@@ -134,7 +138,7 @@ impl FreedMeter {
         self.spawn_apart(count, free)
     }
 
-    // The same where that is so.
+    // Begins a spawned call, like `spawn`. The meter must be ready (`is_ready`).
     #[inline(always)]
     fn spawn_ready(&mut self, count: u64, free: bool)
         requires { IsReady self.old }
@@ -146,7 +150,8 @@ impl FreedMeter {
         self.stack_within(true, true, free);
     }
 
-    // The same in any case. Apart, so that nothing is kept over the call of a function where it need not be.
+    // Begins a spawned call in every case, like `spawn`, out of line, so that the caller need not save anything
+    // across a call.
     #[inline(never)]
     fn spawn_apart(&mut self, count: u64, free: bool) -> Result<(), AllocError>
         ensures { OnOk result (BeginsChild self.old self.new count free) }
@@ -158,7 +163,11 @@ impl FreedMeter {
         Ok(())
     }
 
-    /// Half of a loop, that is spawned, begins by the instruction after `count` ones.
+    /// Begins the spawned half of a loop with the instruction after `count` others.
+    ///
+    /// # Errors
+    ///
+    /// Returns an `AllocError` if memory runs out. The meter is then meaningless.
     pub fn spawn_half(&mut self, count: u64) -> Result<(), AllocError>
         ensures { OnOk result (BeginsHalf self.old self.new count) }
     {
@@ -166,7 +175,11 @@ impl FreedMeter {
         Ok(())
     }
 
-    /// A call in place begins by the instruction after `count` ones; `free` says whether its site is freed.
+    /// Begins a plain call with the instruction after `count` others; `free` says whether its site is free.
+    ///
+    /// # Errors
+    ///
+    /// Returns an `AllocError` if memory runs out. The meter is then meaningless.
     #[inline(always)]
     pub fn call(&mut self, count: u64, free: bool) -> Result<(), AllocError>
         ensures { OnOk result (BeginsCall self.old self.new count free) }
@@ -177,7 +190,12 @@ impl FreedMeter {
         Ok(())
     }
 
-    /// A scope, a cut, a region or a function of a loop begins in place, by the instruction after `count` ones.
+    /// Begins a scope, a cut, a region or a plain call of a loop's function with the instruction after `count`
+    /// others.
+    ///
+    /// # Errors
+    ///
+    /// Returns an `AllocError` if memory runs out. The meter is then meaningless.
     #[inline(never)]
     pub fn begin(&mut self, count: u64) -> Result<(), AllocError>
         ensures { OnOk result (BeginsQuiet self.old self.new count) }
@@ -187,7 +205,7 @@ impl FreedMeter {
         Ok(())
     }
 
-    /// The innermost scope, cut or region joins after `count` instructions and ends by the next one.
+    /// Joins the innermost scope, cut or region after `count` instructions, and ends it with the next instruction.
     #[inline(never)]
     pub fn end(&mut self, count: u64)
         ensures { Ends self.old self.new count }
@@ -197,7 +215,8 @@ impl FreedMeter {
         self.close(count);
     }
 
-    /// The innermost call, or function of a loop, joins after `count` instructions and ends by the next one.
+    /// Joins the innermost call, or function of a loop, after `count` instructions, and ends it with the next
+    /// instruction.
     #[inline(always)]
     pub fn give_back(&mut self, count: u64)
         ensures { Returns self.old self.new count }
@@ -207,7 +226,7 @@ impl FreedMeter {
         self.close(count.wrapping_add(1));
     }
 
-    /// The block that runs joins after `count` instructions, by the next one.
+    /// Joins the current block after `count` instructions, with the next instruction.
     #[inline(never)]
     pub fn sync(&mut self, count: u64)
         ensures { Syncs self.old self.new count }
@@ -216,7 +235,7 @@ impl FreedMeter {
         self.join(count);
     }
 
-    // The block that runs joins: where it has spawned nothing, there is nothing to do.
+    // Joins the current block; there is nothing to do if it has spawned nothing.
     #[inline(always)]
     fn join(&mut self, count: u64)
         ensures told { JoinsBlock self.old self.new count }
@@ -230,7 +249,7 @@ impl FreedMeter {
         }
     }
 
-    // The innermost part, whose block has joined, ends at this count.
+    // Ends the innermost part, whose block has joined, at this count.
     #[inline(always)]
     fn close(&mut self, count: u64)
         ensures { ClosesPart self.old self.new count }
@@ -241,7 +260,7 @@ impl FreedMeter {
         }
     }
 
-    // The part that was the innermost one has ended.
+    // Restores the state of the block around the part that was the innermost one.
     #[inline(always)]
     fn leave(&mut self, part: Part)
         ensures { Leaves self.old self.new part }
@@ -253,7 +272,7 @@ impl FreedMeter {
         }
     }
 
-    /// What the spans of a run would be that has ended after `count` instructions.
+    /// Returns the spans that a run would have that has ended after `count` instructions.
     pub fn finish(self, count: u64) -> Freed
         ensures { Reads self count result }
     {

@@ -1,4 +1,4 @@
-//! The heaviest paths of a run, without charges and with them.
+//! The heaviest paths of a run, without and with charges.
 
 ghost use Rattle.std.specs.Prelude.{◌≡◌, true, OnOk};
 ghost use Rattle.cw_measure.specs.StrandWeights.{HasRoomForBlock};
@@ -8,18 +8,18 @@ use cw_measure::BurdenedPath;
 use cw_model::burden::{Burden, Edges};
 use std::alloc::{AllocError, Global};
 
-/// The heaviest paths of a run so far. Each call is told the count of what is counted so far.
+/// The heaviest paths of a run so far. Each method takes the number of instructions so far that are not free.
 #[derive(Debug, Drop)]
 pub(crate) struct Paths {
-    /// What the charged path is charged for a spawn.
+    /// The charge of the burdened path for a spawn.
     pub burden: Burden,
-    /// Without a charge.
+    /// The path without charges.
     pub plain: BurdenedPath,
-    /// With what it is charged at each fork that it runs through.
+    /// The path with the charge for each fork that it goes through.
     pub burdened: BurdenedPath,
 }
 
-// A spawned part begins beside a path; `first` says that its block has not spawned since its last join.
+// Begins a spawned part on one path; `first` says that its block has not spawned since its last join.
 #[inline(always)]
 fn spawn_beside(path: &mut BurdenedPath, counted: u64, first: bool) -> Result<(), AllocError>
     ensures { OnOk result (SpawnsLate path.old path.new counted first) }
@@ -29,7 +29,7 @@ fn spawn_beside(path: &mut BurdenedPath, counted: u64, first: bool) -> Result<()
     Ok(())
 }
 
-// The same of the first one of its block since its last join, where there is room.
+// Begins the first spawned part of a block since its last join on one path. There must be room for it.
 #[inline(always)]
 fn spawn_first_beside(path: &mut BurdenedPath, counted: u64)
     requires { HasRoomForBlock path.old }
@@ -39,7 +39,7 @@ fn spawn_first_beside(path: &mut BurdenedPath, counted: u64)
     path.spawn_within(counted);
 }
 
-// The spawned part that runs ends, its block joined.
+// Ends the current spawned part, whose block has joined, on one path.
 #[inline(always)]
 fn end_beside(path: &mut BurdenedPath, counted: u64, burden: Burden)
     ensures { EndsLate path.old path.new counted burden }
@@ -48,7 +48,7 @@ fn end_beside(path: &mut BurdenedPath, counted: u64, burden: Burden)
     path.end_child(counted, burden);
 }
 
-// A block joins that has spawned since its last join.
+// Joins a block that has spawned since its last join, on one path.
 #[inline(always)]
 fn join_beside(path: &mut BurdenedPath, counted: u64)
     ensures { JoinsLate path.old path.new counted }
@@ -58,7 +58,7 @@ fn join_beside(path: &mut BurdenedPath, counted: u64)
 }
 
 impl Paths {
-    /// Nothing has run. Takes no memory.
+    /// Returns the paths of a run at its start. Allocates no memory.
     pub fn new(alloc: Global, burden: Burden) -> Paths
         ensures { StartsBoth burden result }
     {
@@ -69,7 +69,11 @@ impl Paths {
         }
     }
 
-    /// A spawned part begins; `first` says that its block has not spawned since its last join.
+    /// Begins a spawned part; `first` says that its block has not spawned since its last join.
+    ///
+    /// # Errors
+    ///
+    /// Returns an `AllocError` if memory runs out.
     #[inline(always)]
     pub fn spawn(&mut self, counted: u64, first: bool) -> Result<(), AllocError>
         ensures { OnOk result (SpawnsBoth self.old self.new counted first) }
@@ -79,7 +83,7 @@ impl Paths {
         Ok(())
     }
 
-    /// Whether there is room for a spawned part.
+    /// Returns whether there is room for a spawned part.
     #[inline(always)]
     pub fn have_room(&self) -> bool
         ensures { result ≡ true → HaveRoom self.now }
@@ -87,7 +91,7 @@ impl Paths {
         self.plain.has_room() && self.burdened.has_room()
     }
 
-    /// The first spawned part of a block since its last join begins, where there is room.
+    /// Begins the first spawned part of a block since its last join. There must be room for it.
     #[inline(always)]
     pub fn spawn_first(&mut self, counted: u64)
         requires { HaveRoom self.old }
@@ -97,7 +101,8 @@ impl Paths {
         spawn_first_beside(&mut self.burdened, counted);
     }
 
-    /// The spawned part that runs ends, its block joined. Apart, so that the loop of a run has room for calls in place.
+    /// Ends the current spawned part, whose block has joined. It is out of line, so that the loop of a run has room
+    /// for plain calls.
     #[inline(never)]
     pub fn end_child(&mut self, counted: u64)
         ensures { EndsBoth self.old self.new counted }
@@ -110,7 +115,7 @@ impl Paths {
         end_beside(&mut self.burdened, counted, self.burden);
     }
 
-    /// A block joins that has spawned since its last join.
+    /// Joins a block that has spawned since its last join.
     #[inline(always)]
     pub fn join(&mut self, counted: u64)
         ensures { JoinsBoth self.old self.new counted }
@@ -119,7 +124,8 @@ impl Paths {
         join_beside(&mut self.burdened, counted);
     }
 
-    /// The weights of the heaviest paths, the charged one last, once no part is open and the block has joined.
+    /// Returns the weights of the heaviest paths without and with charges, if no part is open and the block has
+    /// joined.
     pub fn weights(&mut self, counted: u64) -> (u128, u128)
         ensures { ReadsBoth self.old counted result }
     {

@@ -1,4 +1,4 @@
-//! What the front of the analyser answers to a text.
+//! The answers of the front end to the questions about a text.
 
 use crate::productions::words_text;
 use crate::shown::shown;
@@ -14,30 +14,31 @@ use cw_tree::syntax::Ast;
 use cw_types::check;
 use std::alloc::{AllocError, Global};
 
-/// How far a text goes.
+/// Represents the last stage that processes a text.
 #[derive(Clone, Copy)]
 pub enum Stage {
-    /// No further than that it is read.
+    /// Reading the source.
     Source,
-    /// To its tokens.
+    /// The lexer.
     Tokens,
-    /// To its tree.
+    /// The parser.
     Tree,
-    /// To its types.
+    /// The check of names and types.
     Types,
-    /// To its ownership.
+    /// The check of ownership.
     Ownership,
-    /// To its lowered loops.
+    /// The lowering of loops.
     Loops,
 }
 
-/// The answer to a question: of a stage the line of the first fault of the text there or before it, or `taken`; of `tokens` and
-/// `tree` what the text has, or the line of its fault; of `words` what becomes of it without each of its words; of `loops`,
-/// `numbers` and `shows` what the lowered loops and the typed tree have.
+/// Returns the answer to a question. For the name of a stage it is the line of the first fault of the text in the
+/// stage or before it, or `taken`. For `tokens` and `tree` it is the tokens or the tree of the text, or the line of
+/// its fault. For `words` it is the fault of the text without each of its words and with the word twice. For `loops`,
+/// `numbers` and `shows` it describes the lowered loops and the typed tree.
 ///
 /// # Errors
 ///
-/// An `AllocError` where there is no memory for the answer.
+/// Returns an `AllocError` if there is no memory for the answer.
 pub fn answer(alloc: Global, asked: &Asked) -> Result<String, AllocError> {
     let whole = asked.whole(alloc)?;
     let text = whole.as_slice();
@@ -60,13 +61,13 @@ pub fn answer(alloc: Global, asked: &Asked) -> Result<String, AllocError> {
     }
 }
 
-// The tokens of a text, or its first fault.
+// Returns the tokens of a text, or its first fault.
 fn tokens_of(alloc: Global, text: &[u8]) -> Result<Vec<Token>, Fault> {
     let source = Source::read(alloc, text)?;
     lex(alloc, &source)
 }
 
-// The tree of a text, or its first fault.
+// Returns the tree of a text, or its first fault.
 fn tree_of(alloc: Global, text: &[u8]) -> Result<Ast, Fault> {
     let source = Source::read(alloc, text)?;
     let tokens = lex(alloc, &source)?;
@@ -81,12 +82,16 @@ fn owned(alloc: Global, text: &[u8]) -> Result<Owned, Fault> {
     own(alloc, typed(alloc, text)?)
 }
 
-/// A text whose loops are lowered, or its first fault.
+/// Lowers the loops of a text.
+///
+/// # Errors
+///
+/// Returns the first fault of the text.
 pub fn lowered(alloc: Global, text: &[u8]) -> Result<Core, Fault> {
     lower(alloc, owned(alloc, text)?)
 }
 
-/// The first fault of a text in a stage or before it, if it has one.
+/// Returns the first fault of a text in this stage or before it, if it has one.
 pub fn fault_of(alloc: Global, stage: Stage, text: &[u8]) -> Option<Fault> {
     match stage {
         Stage::Source => Source::read(alloc, text).err(),
@@ -98,7 +103,7 @@ pub fn fault_of(alloc: Global, stage: Stage, text: &[u8]) -> Option<Fault> {
     }
 }
 
-// What is told of the first fault of a text in a stage or before it; `taken` where it has none.
+// Returns the text of the first fault of a text in this stage or before it, or `taken` if it has none.
 fn fault_text(alloc: Global, stage: Stage, text: &[u8]) -> Result<String, AllocError> {
     match fault_of(alloc, stage, text) {
         None => String::from_str(alloc, "taken"),
@@ -106,7 +111,7 @@ fn fault_text(alloc: Global, stage: Stage, text: &[u8]) -> Result<String, AllocE
     }
 }
 
-// Each token with its kind, the byte that it begins at, the byte behind it and its line, or what is told of the fault.
+// Returns each token with its kind, its first byte, the byte after its last and its line, or the text of the fault.
 fn tokens_text(alloc: Global, text: &[u8]) -> Result<String, AllocError> {
     let tokens = match tokens_of(alloc, text) {
         Ok(tokens) => tokens,
@@ -123,7 +128,7 @@ fn tokens_text(alloc: Global, text: &[u8]) -> Result<String, AllocError> {
     Ok(out)
 }
 
-// The tree, or what is told of the fault.
+// Returns the tree as text, or the text of the fault.
 fn tree_text(alloc: Global, text: &[u8]) -> Result<String, AllocError> {
     match tree_of(alloc, text) {
         Ok(tree) => shown(alloc, &tree),
@@ -131,7 +136,7 @@ fn tree_text(alloc: Global, text: &[u8]) -> Result<String, AllocError> {
     }
 }
 
-// How many tokens a text has, or what is told of its fault.
+// Returns the number of tokens of a text, or the text of its fault.
 fn count_text(alloc: Global, text: &[u8]) -> Result<String, AllocError> {
     match tokens_of(alloc, text) {
         Ok(tokens) => format!(in alloc; "{} tokens", tokens.len()),
@@ -139,7 +144,7 @@ fn count_text(alloc: Global, text: &[u8]) -> Result<String, AllocError> {
     }
 }
 
-// Of each loop its line, its grain, and how many integers and arrays it takes along.
+// Returns, for each loop, its line, its grain, and the numbers of captured integers and of its arrays.
 fn loops_text(alloc: Global, text: &[u8]) -> Result<String, AllocError> {
     let core = match lowered(alloc, text) {
         Ok(core) => core,
@@ -160,8 +165,8 @@ fn loop_count_text(alloc: Global, text: &[u8]) -> Result<String, AllocError> {
     }
 }
 
-// The place of main, how many functions, reducers and tags there are, and of each function how many integers and arrays are known
-// at once.
+// Returns the index of main, the numbers of functions, reducers and tags, and for each function the numbers of slots
+// for integers and for arrays.
 fn numbers_text(alloc: Global, text: &[u8]) -> Result<String, AllocError> {
     let typed = match typed(alloc, text) {
         Ok(typed) => typed,
@@ -177,7 +182,7 @@ fn numbers_text(alloc: Global, text: &[u8]) -> Result<String, AllocError> {
     Ok(out)
 }
 
-// Whether the derived text of the last function before a row has the part that the row has.
+// Reports whether the `Debug` text of the last function before a row contains the part that the row gives.
 fn shows_text(alloc: Global, asked: &Asked) -> Result<String, AllocError> {
     let typed = match typed(alloc, asked.before.as_slice()) {
         Ok(typed) => typed,

@@ -1,10 +1,10 @@
-//! The number, the status and the text of each fault.
+//! Checks the number, the status and the text of each fault.
 
 use cw_model::trap::Trap;
 use cw_text::{Fault, Place};
 use std::alloc::{AllocError, Global};
 
-// A fault in brief.
+// Represents a fault without its payload.
 #[derive(Clone, Copy)]
 enum Brief {
     Lexical(u32),
@@ -14,7 +14,7 @@ enum Brief {
     Size(u32),
     Code,
     OverLimit,
-    // Of line 13.
+    // A trap in line 13.
     Trap(Trap),
     Memory,
     Write,
@@ -44,7 +44,7 @@ fn fault_of(alloc: Global, brief: Brief) -> Result<Fault, AllocError> {
     Ok(fault)
 }
 
-// Each fault, with its number, its status and its text.
+// Each fault with its number, its status and its text.
 static FAULTS: &[(Brief, u8, u8, &str)] = &[
     (Brief::Lexical(1), 1, 2, "refused 1 line 1"),
     (Brief::Syntax(20), 2, 2, "refused 2 line 20"),
@@ -65,7 +65,7 @@ static FAULTS: &[(Brief, u8, u8, &str)] = &[
     (Brief::Strands, 12, 4, "too many strands"),
 ];
 
-// Whether a fault has this number, this status and this text.
+// Reports whether a fault has this number, this status and this text.
 fn is_told(
     alloc: Global,
     brief: Brief,
@@ -78,11 +78,11 @@ fn is_told(
     Ok(fault.number() == number && fault.status() == status && shown.as_str() == text)
 }
 
-/// A line for each fault, whether it has its number, its status and its text.
+/// Returns a line for each fault that says whether it has its number, its status and its text.
 ///
 /// # Errors
 ///
-/// An `AllocError` where there is no memory for them.
+/// Returns an `AllocError` if there is no memory for the lines.
 pub fn told(alloc: Global) -> Result<String, AllocError> {
     let mut out = String::new(alloc);
     for (brief, number, status, text) in FAULTS {

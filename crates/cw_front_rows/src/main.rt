@@ -1,6 +1,6 @@
-//! Asks the front of the analyser the rows of the files beside it: texts of programs, and what it answers to each. It prints
-//! each answer that differs from the one that the row expects, and for each file how many rows it has, how many answers were
-//! compared, and how many differ; and of what is no text whether it is as it should be.
+//! Runs the test cases of the `.rows` files on the front end: texts of programs with the expected answers. It prints
+//! each answer that differs from the expected one, and for each file the number of rows, of answers and of
+//! differences. For the tests that are not rows it prints whether the result is as expected.
 #![tactic(auto)]
 
 mod answers;
@@ -14,7 +14,7 @@ use cw_rows::Rows;
 use std::alloc::{AllocError, Global};
 use std::{fs, io};
 
-// The files, in the folder that the program runs in.
+// The files, in the current folder.
 const FILES: [&str; 8] = [
     "tokens.rows",
     "productions.rows",
@@ -35,7 +35,7 @@ fn main(rt: HostRuntime) -> io::Result<()> {
     rt.print(values(rt.alloc())?)
 }
 
-// What is no text: each fault, and two loops that are lowered.
+// Returns the results of the tests that are not rows: each fault, and two lowered loops.
 fn values(alloc: Global) -> Result<String, AllocError> {
     let told = faults::told(alloc)?;
     let slots = lowering::slots_move(alloc);
@@ -45,7 +45,7 @@ fn values(alloc: Global) -> Result<String, AllocError> {
     )
 }
 
-// What is told of a file with this text.
+// Returns the report of a file with this text.
 fn told(alloc: Global, file: &'static str, text: &str) -> Result<String, AllocError> {
     let mut rows = Rows::new(alloc, file);
     for line in text.lines() {
@@ -54,7 +54,7 @@ fn told(alloc: Global, file: &'static str, text: &str) -> Result<String, AllocEr
     rows.told()
 }
 
-// Asks what a line asks.
+// Asks the questions of a line.
 fn compare(alloc: Global, rows: &mut Rows, line: &str) -> Result<(), AllocError> {
     for asked in &rows.read(line)? {
         let found = answer(alloc, asked)?;

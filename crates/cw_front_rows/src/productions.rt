@@ -1,17 +1,17 @@
-//! Productions: what becomes of a text of words that stand alone where one of them is left out, or stands twice.
+//! Checks productions: leaves out or repeats each word of a text of words.
 
 use crate::answers::{Stage, fault_of};
 use cw_rows::Asked;
 use cw_text::{Fault, Place};
 use std::alloc::{AllocError, Global};
 
-/// `without` and the line of the fault where each of these words is left out, `, twice` and that where it stands twice; each word
-/// gets a line of its own. 0 stands for no fault, `?` for one that is not of the grammar. `refused ` stands before it all where
-/// the words as they are have a fault.
+/// Returns `without` with the line of the fault if each of the words is left out, and then `, twice` with the line of
+/// the fault if the word is repeated; each word is on a line of its own. The line 0 means no fault, and `?` means a
+/// fault that is not of the grammar. `refused ` precedes the result if the unchanged words have a fault.
 ///
 /// # Errors
 ///
-/// An `AllocError` where there is no memory for the answer.
+/// Returns an `AllocError` if there is no memory for the answer.
 pub fn words_text(alloc: Global, asked: &Asked) -> Result<String, AllocError> {
     let Ok(words) = str::from_utf8(asked.text.as_slice()) else {
         return String::from_str(alloc, "no words");
@@ -27,7 +27,7 @@ pub fn words_text(alloc: Global, asked: &Asked) -> Result<String, AllocError> {
     Ok(out)
 }
 
-// The line of the fault for each of these words, where it stands so many times.
+// Appends, for each of these words, the line of the fault of the text with the word repeated `times` times.
 fn push_lines(
     out: &mut String,
     alloc: Global,
@@ -46,7 +46,8 @@ fn push_lines(
     Ok(())
 }
 
-// The first fault where the word at `place` stands so many times, between what stands around the row; each word is in a line.
+// Returns the first fault of the text with the word at `place` repeated `times` times, between the two texts around
+// the row; each word is on a line of its own.
 fn fault_of_words(
     alloc: Global,
     asked: &Asked,
@@ -63,7 +64,7 @@ fn fault_of_words(
     Ok(fault_of(alloc, Stage::Tree, text.as_slice()))
 }
 
-// A line of a word so many times.
+// Appends a line with `count` copies of a word.
 fn push_word(text: &mut Vec<u8>, word: &str, count: u32) -> Result<(), AllocError> {
     for _ in 0..count {
         text.extend_from_slice(word.as_bytes())?;

@@ -1,10 +1,10 @@
-//! Trees as text.
+//! Prints trees as text.
 
 use cw_model::syntax::{CallKind, NameKind, Operator, Reduction};
 use cw_tree::syntax::{Ast, Call, Expr, Function, Head, Line, Name, Param, Reducer, Stmt};
 use std::alloc::{AllocError, Global};
 
-// A part of a tree that is still to be shown.
+// Represents a part of a tree that is not printed yet.
 #[derive(Clone, Copy)]
 enum Part<'t> {
     Word(&'static str),
@@ -19,7 +19,7 @@ enum Part<'t> {
     Params(&'t [Param]),
 }
 
-// Parts to be shown next, in this order.
+// Pushes parts so that they are printed next, in this order.
 fn next<'t>(todo: &mut Vec<Part<'t>>, parts: &[Part<'t>]) -> Result<(), AllocError> {
     for part in parts.iter().rev() {
         todo.push(*part)?;
@@ -43,7 +43,7 @@ fn sign(operator: Operator) -> &'static str {
     }
 }
 
-// What stands between a reducer and what it is told.
+// Returns the text between a reducer and the value that updates it.
 fn telling(how: Reduction) -> &'static str {
     match how {
         Reduction::Sum => " += ",
@@ -51,7 +51,7 @@ fn telling(how: Reduction) -> &'static str {
     }
 }
 
-// An expression, with a pair of parentheses for each operator.
+// Pushes the parts of an expression, with a pair of parentheses for each operator.
 fn parts_of_expr<'t>(todo: &mut Vec<Part<'t>>, expr: &'t Expr) -> Result<(), AllocError> {
     match expr {
         Expr::Number(value) => next(todo, &[Part::Number(value.unsigned_abs())]),
@@ -146,7 +146,7 @@ fn parts_of_loop<'t>(
     )
 }
 
-// A statement without its line; a call with its number behind the name of its callee.
+// Pushes the parts of a statement without its line; a call has its number after the name of its callee.
 fn parts_of_stmt<'t>(todo: &mut Vec<Part<'t>>, stmt: &'t Stmt) -> Result<(), AllocError> {
     match stmt {
         Stmt::Declare(name, value) => next(
@@ -259,7 +259,7 @@ fn show_number(alloc: Global, out: &mut String, number: u64) -> Result<(), Alloc
     out.push_str(digits.as_str())
 }
 
-// "LINE STATEMENT;", and then the rest.
+// Pushes "LINE STATEMENT;" and then the remaining lines.
 fn parts_of_lines<'t>(todo: &mut Vec<Part<'t>>, lines: &'t [Line]) -> Result<(), AllocError> {
     match lines {
         [] => Ok(()),
@@ -276,7 +276,7 @@ fn parts_of_lines<'t>(todo: &mut Vec<Part<'t>>, lines: &'t [Line]) -> Result<(),
     }
 }
 
-// "LINE sum NAME" or "LINE max NAME", a line each.
+// Pushes "LINE sum NAME" or "LINE max NAME" for each reducer, on a line of its own.
 fn parts_of_reducers<'t>(
     todo: &mut Vec<Part<'t>>,
     reducers: &'t [Reducer],
@@ -299,7 +299,7 @@ fn parts_of_reducers<'t>(
     }
 }
 
-// "LINE int NAME PARAMETERS {..}" or "LINE void ..", a line each.
+// Pushes "LINE int NAME PARAMETERS {..}" or "LINE void .." for each function, on a line of its own.
 fn parts_of_functions<'t>(
     todo: &mut Vec<Part<'t>>,
     functions: &'t [Function],
@@ -339,7 +339,7 @@ fn parts_of_params<'t>(todo: &mut Vec<Part<'t>>, params: &'t [Param]) -> Result<
     }
 }
 
-// Shows a part, or leaves those that it has.
+// Prints a part, or pushes its parts.
 fn show<'t>(
     alloc: Global,
     out: &mut String,
@@ -363,12 +363,13 @@ fn show<'t>(
     }
 }
 
-/// The reducers of a tree, "LINE sum NAME" or "LINE max NAME", and its functions, "LINE int NAME PARAMETERS {..}" or
-/// "LINE void ..", a line each; in braces "LINE STATEMENT; ..". A tree of more than 1,000,000 parts is not shown to its end.
+/// Returns the reducers of a tree, "LINE sum NAME" or "LINE max NAME", and its functions, "LINE int NAME PARAMETERS
+/// {..}" or "LINE void ..", each on a line of its own; the braces contain "LINE STATEMENT; ..". Stops after 1,000,000
+/// parts.
 ///
 /// # Errors
 ///
-/// An `AllocError` where there is no memory for the text.
+/// Returns an `AllocError` if there is no memory for the text.
 pub fn shown(alloc: Global, ast: &Ast) -> Result<String, AllocError> {
     let mut out = String::new(alloc);
     let mut todo = Vec::new(alloc);

@@ -41,7 +41,7 @@ use Rattle.cw_gen.proofs.Calling.{CallsRun, entering, entered, begins_so, inside
 use Rattle.cw_gen.proofs.Slices.{slices_are, hands_of_loop}
 
 module _ (code : Code) (marks : Marks) (depth : ℕ) where
-  -- integers that are taken along, one instruction for each
+  -- the loads of captured integers execute one instruction each
   pub loads_run : (around : List Around) (locals : Locals) (taken' : Taken) (captured : List Name) (pc : ℕ) (ops : List ℤ) (store : Store)
       (outer : Outside) (frame : Frame) (t : Trace) (left : ℕ) (next : Unit {0} → ℕ → Trace → RunOutcome) →
       HasAt code.instrs pc (emitted_loads (map (λ x. slot_of x locals.ints) captured)) → AllUsable locals.ints taken' captured → Agrees locals taken' frame store outer →
@@ -67,16 +67,16 @@ module _ (code : Code) (fs : List Function) (lists : Lists) (marks : Marks) (dep
   abbrev at : List Around → ℕ → List ℤ → Store → Trace → State
   at around pc ops store t = here marks depth around pc ops store t
 
-  -- the frame of a loop's function, on so many turns from a number on
+  -- the frame of a loop's function for this number of iterations from `low` on
   abbrev loop_given : Function → (captured over : List Name) → Frame → (low turns : ℤ) → Frame
   loop_given f captured over frame low n = loop_frame f.params (low ∷ (low +ℤ n) ∷ map (int_of frame) captured) (map (λ a. take (natural n) (drop (natural low) (array_of frame a))) over) no_frame
 
-  -- what follows when the number of turns is known
+  -- the continuation after the number of iterations is known
   abbrev turns_known : Function → (captured over : List Name) → (line : ℕ) → Frame → (low turns : ℤ) → ℕ → Outcome Completion
   turns_known f captured over line frame low n l = then_do (joined_up (λ q. Series q)
       (calls SameDepth f (loop_given f captured over frame low n) line l)) (λ r. going (slices_back over (natural low) r.1 frame))
 
-  -- the instruction of a loop's first call
+  -- the instruction of a loop's first call executes the call
   start_runs : (around : List Around) (locals : Locals) (taken' : Taken) (level first line pc : ℕ) (size : Room) (name : Name)
       (captured over : List Name) (fn : Func) (low high : ℤ) (store : Store) (outer : Outside) (frame : Frame) (u : Trace) (left : ℕ)
       (next : Completion → ℕ → Trace → RunOutcome) →
@@ -140,7 +140,7 @@ module _ (code : Code) (fs : List Function) (lists : Lists) (marks : Marks) (dep
       ∙ sym (resume_then (ticked u) (joined_up (λ q. Series q) (calls SameDepth f (loop_given f captured over frame low v) line l)) (λ ret. going (slices_back over (natural low) ret.1 frame)) next))
       ∙ sym (resume_then u (pay_for (done_at 1 r) line left) (λ v. turns_known f captured over line frame low v) next)
 
-  -- the first call of a loop's function
+  -- the code of the first call of a loop's function executes the call
   pub begin_runs : (around : List Around) (locals : Locals) (taken' : Taken) (level first line pc : ℕ) (size : Room) (name : Name) (from to : Expr)
       (captured over : List Name) (fn : Func) (store : Store) (outer : Outside) (frame : Frame) (t : Trace) (left : ℕ) (next : Completion → ℕ → Trace → RunOutcome) →
       nat_lt MOST_DEPTH depth ≡ false → HasAt code.instrs pc (stmt_code first marks lists locals line (Begin name from to captured over))

@@ -1,4 +1,4 @@
--- The code of statements with blocks in them, where that of the blocks does what they do.
+-- The code of statements with inner blocks executes them, if the code of the blocks executes the blocks.
 use Rattle.std.proofs.Common.{◌≡◌, ℕ, zero, suc, ◌+◌, ◌-◌, ◌<◌, ◌≤◌, List, [], ◌∷◌, ◌++◌, length, true, false, if◌then◌else◌}
 use Rattle.std.proofs.Common.{Option, Some, None, sym, ap, ◌∙◌, subst, arith, append_assoc, length-append, ℤ}
 use Rattle.std.specs.Prelude.{slice_get, take, drop}
@@ -46,7 +46,7 @@ module _ (code : Code) (fs : List Function) (lists : Lists) (small : length code
   abbrev at : List Around → ℕ → List ℤ → Store → Trace → State
   at around pc ops store t = here marks depth around pc ops store t
 
-  -- a join: what waits for it goes back into slots that are not only read
+  -- a join: what waits for it returns to slots that are not only read
   pub joins_at : (around : List Around) (pc : ℕ) (store : Store) (w : Waits) (t : Trace) → AllOwn marks store.arrived →
       record (at around pc [] (joined_with store w) t) {
         arrays = settled (told_at marks store.arrived) (owned marks store.arrays);
@@ -56,7 +56,7 @@ module _ (code : Code) (fs : List Function) (lists : Lists) (small : length code
       ap (λ l. record (at around pc [] (joined_with store w) t) { arrays = l; readers = read_in marks store.arrays }) (sym (settle_owned marks store.arrived store.arrays own))
       ∙ ap (λ l. record (at around pc [] (joined_with store w) t) { readers = l }) (sym (settle_read marks store.arrived store.arrays own))
 
-  -- what a block between two places does
+  -- the code of a block between two places executes the block
   abbrev pub BlockRuns : List Around → Returns → (level : ℕ) → Locals → Taken → Block → (pc pc' : ℕ) (size : Room) → Outside → (left : ℕ) → Type 0
   BlockRuns around returns level locals taken' b pc pc' size outer left =
       (store : Store) (frame : Frame) (t : Trace) (l : ℕ) (next : Completion → ℕ → Trace → RunOutcome) → l ≤ left → Agrees locals taken' frame store outer → Fills marks store size →
@@ -64,7 +64,7 @@ module _ (code : Code) (fs : List Function) (lists : Lists) (small : length code
       (held_after_all fs level b taken') pc' outer size l next) → Backs code marks depth returns size around l next →
       steps code l (at around pc [] store t) ≡ resume t (run_all b fs calls frame l) next
 
-  -- the same with its names gone at its end
+  -- the code of a block executes it, and the scope of its names ends with it
   abbrev pub BodyRuns : List Around → Returns → (level : ℕ) → Locals → Taken → Block → (pc pc' : ℕ) (size : Room) → Outside → (left : ℕ) → Type 0
   BodyRuns around returns level locals taken' b pc pc' size outer left =
       (store : Store) (frame : Frame) (t : Trace) (l : ℕ) (next : Completion → ℕ → Trace → RunOutcome) → l ≤ left → Agrees locals taken' frame store outer → Fills marks store size →
@@ -72,7 +72,7 @@ module _ (code : Code) (fs : List Function) (lists : Lists) (small : length code
       next) → Backs code marks depth returns size around l next →
       steps code l (at around pc [] store t) ≡ resume t (scoped frame (run_all b fs calls frame) l) next
 
-  -- a block does what it does, and its names are gone at its end
+  -- if the code of a block executes it, it does so with the scope of its names ended
   pub scoped_runs : (around : List Around) (returns : Returns) (level : ℕ) (locals : Locals) (taken' : Taken) (b : Block) (pc pc' : ℕ) (size : Room) (outer : Outside) (left : ℕ) →
       EndsFree fs level Leaves taken' b → BlockRuns around returns level locals taken' b pc pc' size outer left → BodyRuns around returns level locals taken' b pc pc' size outer left
   scoped_runs around returns level locals taken' b pc pc' size outer left free law store frame t l next le a n on backs =
@@ -87,7 +87,7 @@ module _ (code : Code) (fs : List Function) (lists : Lists) (small : length code
       (λ v g arrays l' u may gives le'. backs v g arrays l' u may gives le' ∙ ap (next (ByReturn v g) l') (sym (joined_quiet u)))
       ∙ sym (resume_then t (run_all b fs calls frame l) (λ way. onward way (λ g. going (leave frame g))) next)
 
-  -- a sync block inside a call: what opens it, the block, and its end
+  -- the code of an inner sync block executes it: the instruction that opens it, the block, and its end
   pub inside_block : (around : List Around) (returns : Returns) (level : ℕ) (locals : Locals) (taken' : Taken) (b : Block) (kind : BlockKind)
       (tag : Option Name) (pc : ℕ) (size : Room) (store : Store) (outer : Outside) (frame : Frame) (t : Trace) (left : ℕ)
       (next : Completion → ℕ → Trace → RunOutcome) →
@@ -143,7 +143,7 @@ module _ (code : Code) (fs : List Function) (lists : Lists) (small : length code
       ∙ sym (resume_then (ticked t) (joined_up part (piece l)) (λ way. onward way ends) next))
       ∙ sym (resume_then t (pay 1 left) (λ _ l. then_do (joined_up part (piece l)) (λ way. onward way ends)) next)
 
-  -- a cut, the block that has its parts, and its end
+  -- the code of a cut executes it: the cut, the block in which its parts are known, and its end
   pub cut_runs : (around : List Around) (level : ℕ) (locals : Locals) (taken' : Taken) (x y z : Name) (e : Expr) (b : Block) (line pc : ℕ)
       (size : Room) (store : Store) (outer : Outside) (frame : Frame) (t : Trace) (left : ℕ) (next : Completion → ℕ → Trace → RunOutcome) →
       level ≡ suc (length outer) → HasAt code.instrs pc (stmt_code (first_list code.sites) marks lists locals line (Cut x e y z b)) →
@@ -262,11 +262,11 @@ module _ (code : Code) (fs : List Function) (lists : Lists) (small : length code
       ∙ sym (ap (λ o. resume t o (λ v' l' u'. resume u' (then_do (joined_up (λ q. Series q) (piece v' l')) (λ way. onward way ends)) next)) (value_and_then (evaluate e frame) op line left))
       ∙ sym (resume_then t (pay_for (and_then (evaluate e frame) op) line left) (λ v' l'. then_do (joined_up (λ q. Series q) (piece v' l')) (λ way. onward way ends)) next)
 
-  -- what stands behind an instruction is told by a distance
+  -- a distance within the code fits in an instruction
   pub in_reach : (pc : ℕ) (a b : List Instr) (i : Instr) → HasAt code.instrs pc (a ++ i ∷ b) → distance (length b) ≡ length b
   in_reach pc a b i has = distance_is (length b) (omega (arith, length_within code.instrs pc (a ++ i ∷ b) has, small, length-append a (i ∷ b)))
 
-  -- the turns of a while
+  -- the code of a `while` executes its iterations
   pub while_runs : (n : ℕ) (around : List Around) (returns : Returns) (level : ℕ) (locals : Locals) (taken' : Taken) (e : Expr) (b : Block)
       (line pc : ℕ) (size : Room) (outer : Outside) (left : ℕ) → has_no_half_in b ≡ true →
       HasAt code.instrs pc (stmt_code (first_list code.sites) marks lists locals line (While e b)) → ExprFine locals (held_after fs level (While e b) taken') e →

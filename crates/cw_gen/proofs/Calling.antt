@@ -1,4 +1,4 @@
--- What a call does: it hands values and arrays to a function, and takes its result and its arrays back.
+-- The effect of a call: it passes values and arrays to a function, and receives its result and its arrays.
 use Rattle.std.proofs.Common.{◌≡◌, ℕ, suc, ◌+◌, ◌<◌, ◌≤◌, ◌-◌, List, [], ◌∷◌, ◌++◌, length, Bool, true, false, ◌&&◌}
 use Rattle.std.proofs.Common.{if◌then◌else◌, nat_lt, Option, Some, None, refl, sym, ap, ◌∙◌, subst, arith, ℤ, true≢false}
 use Rattle.std.specs.Prelude.{slice_get, slice_set, replicate, take, drop, map, nat_le, nat_eq, option_map}
@@ -39,13 +39,14 @@ use Rattle.cw_gen.proofs.Codes.{Bound, first_store, here, GivesBack, GivenBy}
 use Rattle.cw_gen.proofs.Texts.{Compiled}
 use Rattle.cw_gen.proofs.Simple.{Onwards}
 
--- what is held when a call has been made: a spawned one takes the name of its result and its arrays, and freezes what it reads
+-- the locals held after a call: a spawn takes the name of its result and its arrays, and freezes the arrays that it
+-- reads
 abbrev pub taken_on : CallKind → (level : ℕ) → Option Name → (given read : List Name) → Taken → Taken
 taken_on Plain level target xs ys taken' = taken'
 taken_on Spawned level target xs ys taken' = frozen_by level ys (taken_by level (target_names target ++ xs) taken')
 
--- what a call hands to a function of this entry: arrays by their names, out of their slots, and a frame of values; and
--- what the arrays are again when the function has left its frame
+-- the values that a call passes to a function with this entry: its arrays, by name and out of their slots, and a frame
+-- of values; and the arrays after the function has ended
 pub record Hands (marks : Marks) (locals : Locals) (taken' : Taken) (frame : Frame) (f : Function) (fn : Func) : Type 0 where
   pub names : List Name
   pub outs : List run.Taken
@@ -65,7 +66,7 @@ pub record Hands (marks : Marks) (locals : Locals) (taken' : Taken) (frame : Fra
   pub back : (g : Frame) → returned g ≡ with_arrays frame (put_backs names (left g) frame.arrays)
 
 module _ (code : Code) (fs : List Function) (lists : Lists) where
-  -- what calls from a depth do, with less than a bound left
+  -- calls from this depth, with less fuel than the bound, execute their functions
   pub record CallsRun (bound depth : ℕ) (calls : Calls) : Type 0 where
     pub enters : (entry : Entry) → nat_lt MOST_DEPTH (depth_of entry depth) ≡ false → (f : Function) (fn : Func) → Compiled code fs lists f fn →
         (vs : List ℤ) (xss : List (List ℤ)) (given : Frame) → length vs ≡ fn.params → length xss ≡ fn.array_params + fn.readers → Bound f.params vs xss no_frame given →
@@ -76,7 +77,7 @@ module _ (code : Code) (fs : List Function) (lists : Lists) where
         steps code left (here (marks_for f.params) (depth_of entry depth) around fn.start [] (first_store fn vs xss) t) ≡ resume t (calls entry f given line left) next
     pub traps : nat_lt MOST_DEPTH (depth + 1) ≡ true → (f : Function) (given : Frame) (line left : ℕ) → left < bound → calls Deeper f given line left ≡ Trapped trap.TooDeep line []
 
-  -- there is room for the call of a function that has its code
+  -- there is room for the call of a function that has code
   has_its_room : (f : Function) (fn : Func) → Compiled code fs lists f fn → (ops : List ℤ) (xss : List (List ℤ)) → length ops ≡ fn.params → length xss ≡ fn.array_params → has_room fn ops xss ≡ true
   has_its_room f fn compiled ops xss n m =
       let arrays = nat_eq (length xss) fn.array_params && nat_le fn.array_params fn.arrays in
@@ -85,7 +86,7 @@ module _ (code : Code) (fs : List Function) (lists : Lists) where
       (both_true (nat_le fn.params fn.slots) arrays (at_most fn.params fn.slots compiled.room)
       (both_true (nat_eq (length xss) fn.array_params) (nat_le fn.array_params fn.arrays) (equal (length xss) fn.array_params m) (at_most fn.array_params fn.arrays compiled.array_room)))
 
-  -- what a function is given of its arrays, and what it is lent
+  -- the arrays that a function is given and the arrays that it is lent
   short : (f : Function) (fn : Func) → Compiled code fs lists f fn → (xss : List (List ℤ)) → length xss ≡ fn.array_params + fn.readers → length (marks_for f.params) ≤ length xss
   short f fn compiled xss m = omega (arith, marks_short f.params, compiled.readers, m)
 
@@ -99,7 +100,7 @@ module _ (code : Code) (fs : List Function) (lists : Lists) where
     abbrev at : List Around → ℕ → List ℤ → Store → Trace → State
     at around pc ops store t = here marks depth around pc ops store t
 
-    -- the integers of a caller when the result of a call has come
+    -- the integers of a caller after it receives the result of a call
     record ComesInt (around : List Around) (names : List Name) (after_it : Taken) (kind : CallKind) (target : Option Name) (v : Option ℤ) (pc : ℕ)
         (store : Store) (outer : Outside) (frame : Frame) (back : Results (List ℤ)) (size : ℕ) (t : Trace) : Type 0 where
       pub slots' : Slots ℤ
@@ -115,7 +116,7 @@ module _ (code : Code) (fs : List Function) (lists : Lists) where
       pub agrees : AgreesOf false names after_it (set_result target v frame).ints slots' (results' ∷ int_waits outer)
       pub count : length slots' ≡ size
 
-    -- what was held is held when a spawn has read too
+    -- a spawn that also reads arrays keeps held names held
     past : (level : ℕ) (read : List Name) (cuts : Bool) (d : ℕ) (x : Name) (more taken' : Taken) → holds cuts d x taken' ≡ true
         → holds cuts d x (map (λ z. (z, ReaderIn level)) read ++ (more ++ taken')) ≡ true
     past level read cuts d x more taken' h = holds_behind cuts d x (map (λ z. (z, ReaderIn level)) read) (more ++ taken') (holds_behind cuts d x more taken' h)
@@ -125,7 +126,7 @@ module _ (code : Code) (fs : List Function) (lists : Lists) where
     arrived_own Plain back arrived h k = k
     arrived_own Spawned back arrived h k = both_own marks back arrived h k
 
-    -- what a call gives back at once, and for the next join
+    -- the arrays that a call returns immediately, and those that it returns at the next join
     plain_back : (around : List Around) (pc : ℕ) (slots : Slots ℤ) (store : Store) (back : Results (List ℤ)) (t : Trace) → AllOwn marks back →
         record (at around pc [] (record { slots = slots; arrays = store.arrays; results = store.results; arrived = store.arrived }) t)
         { arrays = settled (told_at marks back) (owned marks store.arrays) }
@@ -147,7 +148,7 @@ module _ (code : Code) (fs : List Function) (lists : Lists) where
         (at around pc [] (record { slots = slots; arrays = store.arrays; results = results; arrived = store.arrived }) t) { arrived = l }))
         (told_more marks back store.arrived)
 
-    -- the result of a call comes: at once, or for the next join
+    -- the result of a call arrives: immediately or at the next join
     comes : (around : List Around) (locals : Locals) (taken' : Taken) (level : ℕ) (f : Function) (kind : CallKind) (target : Option Name)
         (xs read : List Name) (v : Option ℤ) (pc : ℕ) (store : Store) (outer : Outside) (frame : Frame) (back : Results (List ℤ)) (size : ℕ) (t : Trace) →
         level ≡ suc (length outer) → AllOwn marks back → GivenBy f v → TargetFine locals taken' f target
@@ -197,12 +198,12 @@ module _ (code : Code) (fs : List Function) (lists : Lists) where
           count = length-set store.slots (slot_of x locals.ints) None ∙ n;
         }
 
-    -- the arrays of a caller when those of a call have come back
+    -- the arrays of a caller after it receives the arrays of a call
     record ComesArray (names : List Name) (after_it : Taken) (kind : CallKind) (store : Store) (outer : Outside) (moved : Slots (List ℤ))
         (back : Results (List ℤ)) (entries : Entries (List ℤ)) : Type 0 where
       pub agrees : AgreesOf true names after_it entries (arrays_after kind back moved) (arrived_after kind back store.arrived ∷ array_waits outer)
 
-    -- the arrays of a call come back: at once, or for the next join
+    -- the arrays of a call arrive: immediately or at the next join
     arrays_come : (locals : Locals) (taken' : Taken) (level : ℕ) (kind : CallKind) (target : Option Name) (xs read : List Name) (vs : List (List ℤ))
         (store : Store) (outer : Outside) (entries : Entries (List ℤ)) →
         level ≡ suc (length outer) → (us : AllUsable locals.arrays taken' xs) → differ xs ≡ true → length xs ≡ length vs →
@@ -224,14 +225,14 @@ module _ (code : Code) (fs : List Function) (lists : Lists) where
               (held_by_spawn true level y all taken' (among_right y (target_names target) xs h))) a;
         }
 
-    -- a spawned call finds the name of its result
+    -- the slot for the result of a spawned call is available
     pub can_take : (locals : Locals) (taken' : Taken) (f : Function) (kind : CallKind) (target : Option Name) (store : Store) (outer : Outside) (frame : Frame) →
         TargetFine locals taken' f target → Agrees locals taken' frame store outer → may_take kind (option_map (λ x. slot_of x locals.ints) target) store.slots ≡ true
     can_take locals taken' f Plain target store outer frame fine a = refl
     can_take locals taken' f Spawned None store outer frame fine a = refl
     can_take locals taken' f Spawned (Some x) store outer frame fine a = writes locals taken' x frame store outer fine.0 a
 
-    -- the caller as it waits
+    -- the state of the caller while it waits
     abbrev waits : (pc : ℕ) → Store → CallKind → (mark slot : Option ℕ) → (moved : List ℕ) → List run.Taken → Trace → Waiting
     waits pc store kind mark slot moved outs u = record {
       place = pc + 1;
@@ -249,7 +250,7 @@ module _ (code : Code) (fs : List Function) (lists : Lists) where
       events = (ticked u).events;
     }
 
-    -- a call as it begins
+    -- the state of a call before its function begins
     abbrev pub entering : CallKind → (mark slot : Option ℕ) → (inner : ℕ) → Func → List ℤ → (given : List (List ℤ)) → List run.Taken → (read : Readers) → Entering
     entering kind mark slot inner fn vs xss outs read = record {
       kind = kind;
@@ -263,23 +264,23 @@ module _ (code : Code) (fs : List Function) (lists : Lists) where
       lent = read;
     }
 
-    -- the function as it begins
+    -- the state at the start of the function
     abbrev pub entered : (around : List Around) (pc : ℕ) → Store → CallKind → (mark slot : Option ℕ) → (inner : ℕ) → (moved : List ℕ)
         → List run.Taken → Marks → Func → (vs : List ℤ) → List (List ℤ) → Trace → State
     entered around pc store kind mark slot inner moved outs callee fn vs xss u =
         here callee inner (Caller (waits pc store kind mark slot moved outs u) ∷ around) fn.start [] (first_store fn vs xss) (inside (ticked u))
 
-    -- where there is no operand none is kept
+    -- without operands no operand is kept
     none_kept : (kind : CallKind) → kept_by kind [] ≡ []
     none_kept Plain = refl
     none_kept Spawned = refl
 
-    -- and none may be kept
+    -- a call may keep no operands
     may_keep_none : (kind : CallKind) → may_keep kind [] ≡ true
     may_keep_none Plain = refl
     may_keep_none Spawned = refl
 
-    -- where a call can begin, it does
+    -- a call that can begin begins
     pub begins_so : (around : List Around) (pc : ℕ) (ops : List ℤ) (store : Store) (kind : CallKind) (mark slot : Option ℕ) (inner : ℕ)
         (f : Function) (fn : Func) (vs : List ℤ) (xss : List (List ℤ)) (outs : List run.Taken) (moved : List ℕ) (u : Trace) →
         Compiled code fs lists f fn → length ops ≡ fn.params → length xss ≡ fn.array_params + fn.readers → map slot_taken outs ≡ moved → OwnSlots marks moved → may_take kind slot store.slots ≡ true →
@@ -319,7 +320,7 @@ module _ (code : Code) (fs : List Function) (lists : Lists) where
         ∙ ap (λ ls. On (record first { arrays = ls; readers = read })) (sym (owned_full callee xss more (short f fn compiled xss m)))
         ∙ ap (λ ls. On (record first { readers = ls })) (sym (read_full callee xss more (short f fn compiled xss m)))
 
-    -- a call, from its function's beginning on
+    -- the code executes a call, from the start of its function on
     module _ (bound : ℕ) (calls : Calls) (run_calls : CallsRun bound depth calls) where
       pub inside_runs : (around : List Around) (locals : Locals) (taken' : Taken) (level : ℕ) (kind : CallKind) (entry : Entry) (mark : Option ℕ)
           (target : Option Name) (line pc : ℕ) (size : Room) (f : Function) (fn : Func) (frame : Frame) (h : Hands marks locals taken' frame f fn)

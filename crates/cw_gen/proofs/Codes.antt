@@ -1,4 +1,4 @@
--- The code of each part of a program, and what its calls find.
+-- The code of each part of a program, and the functions that its calls find.
 use Rattle.std.proofs.Common.{◌≡◌, ℕ, suc, ◌≤◌, Bool, not, cond, filter, List, [], ◌∷◌, ◌++◌, length, true, false, if◌then◌else◌, Option, Some, None, refl, sym, ap, ◌∙◌, arith, append_assoc, ℤ}
 use Rattle.std.specs.Prelude.{reverse, take, map, min, is_none}
 use Rattle.std.proofs.lemmas.List.{append-nil, length-reverse, reverse-reverse}
@@ -25,7 +25,7 @@ use Rattle.cw_gen.proofs.Fine.{NoArray, ArrayAlone, Room, Begins}
 use Rattle.cw_gen.proofs.Stores.{Store, Outside, array_waits, Agrees}
 use Rattle.cw_gen.proofs.Names.{names_in, values_in, names_more, values_more, all_of}
 
--- all are taken
+-- taking the length of a list returns the list
 pub take_all : (xs : List ℤ) (n : ℕ) → n ≡ length xs → take n xs ≡ xs
 take_all xs n e = ap (λ m. take m xs) e ∙ whole xs
   where
@@ -33,17 +33,17 @@ take_all xs n e = ap (λ m. take m xs) e ∙ whole xs
     whole [] = refl
     whole (x ∷ xs) = ap (λ l. x ∷ l) (whole xs)
 
--- what follows a call in its caller
+-- the continuation in the caller after a call
 abbrev pub leaves : Option Name → List Param → List Expr → Frame → Returned → ℕ → Outcome Completion
 leaves target ps es frame r = going (set_result target r.0 (returned_arrays ps es r.1 frame))
 
--- the arrays among arguments, whether they are given away or only read
+-- the arrays among arguments, whether given away or only read
 abbrev pub arrays_named : List Param → List Expr → List Name
 arrays_named [] es = []
 arrays_named (p ∷ ps) [] = []
 arrays_named (p ∷ ps) (e ∷ es) = (if wants_array p then ownership.names_in e else []) ++ arrays_named ps es
 
--- a frame after values for parameters: integers and arrays, each in order
+-- a frame after parameters are bound to values: integers and arrays, each in order
 pub record Bound (ps : List Param) (vs : List ℤ) (xss : List (List ℤ)) (before after : Frame) : Type 0 where
   pub ints : names_in after.ints ≡ names_in before.ints ++ (locals_of ps).ints
   pub values : values_in after.ints ≡ values_in before.ints ++ vs
@@ -51,7 +51,7 @@ pub record Bound (ps : List Param) (vs : List ℤ) (xss : List (List ℤ)) (befo
   pub elements : values_in after.arrays ≡ values_in before.arrays ++ xss
   pub whole : after.sliced ≡ before.sliced
 
--- no parameter
+-- without parameters nothing is bound
 pub bound_none : (g : Frame) → Bound [] [] [] g g
 bound_none g = record {
   ints = sym (append-nil (names_in g.ints));
@@ -61,7 +61,7 @@ bound_none g = record {
   whole = refl;
 }
 
--- one integer, and then the rest
+-- one integer, and then the other parameters
 pub bound_int : (p : Param) (ps : List Param) (v : ℤ) (vs : List ℤ) (xss : List (List ℤ)) (g after : Frame) → (wants_array p) ≡ false
     → Bound ps vs xss (new_int p.name v g) after → Bound (p ∷ ps) (v ∷ vs) xss g after
 bound_int p ps v vs xss g after is b = record {
@@ -81,7 +81,7 @@ bound_int p ps v vs xss g after is b = record {
     left_out true e = cc
     left_out false e = refl
 
--- one array, and then the rest
+-- one array, and then the other parameters
 pub bound_array : (p : Param) (ps : List Param) (xs : List ℤ) (vs : List ℤ) (xss : List (List ℤ)) (g after : Frame) → (wants_array p) ≡ true
     → Bound ps vs xss (new_array p.name xs g) after → Bound (p ∷ ps) vs (xs ∷ xss) g after
 bound_array p ps xs vs xss g after is b = record {
@@ -101,7 +101,7 @@ bound_array p ps xs vs xss g after is b = record {
     left_out true e = cc
     left_out false e = refl
 
--- the frame of main
+-- the frame of main binds its parameters
 pub bound_main : (ps : List Param) (vs : List ℤ) (g : Frame) → list_all (λ p. not (wants_array p)) ps ≡ true → length vs ≡ length ps → Bound ps vs [] g (main_frame ps vs g)
 bound_main [] [] g ints n = bound_none g
 bound_main [] (v ∷ vs) g ints n = absurd (omega (arith, n))
@@ -111,7 +111,7 @@ bound_main (p ∷ ps) (v ∷ vs) g ints n =
     bound_int p ps v vs [] g (main_frame ps vs (new_int p.name v g)) (not_true (wants_array p) (first_true (not (wants_array p)) rest ints))
     (bound_main ps vs (new_int p.name v g) (second_true (not (wants_array p)) rest ints) (omega (arith, n)))
 
--- main takes no array, and an integer for each parameter
+-- main takes only integers, one for each parameter
 pub main_locals : (ps : List Param) → list_all (λ p. not (wants_array p)) ps ≡ true → (length (locals_of ps).ints ≡ length ps) × (length (locals_of ps).arrays ≡ 0)
 main_locals [] ints = (refl, refl)
 main_locals (p ∷ ps) ints =
@@ -125,15 +125,15 @@ main_locals (p ∷ ps) ints =
     test true h a b = cc
     test false h a b = (ap suc a, b)
 
--- the arguments of a call from its operands
+-- the arguments of a call, read from its operands
 pub arguments_are : (fn : Func) (vs : List ℤ) → fn.params ≡ length vs → arguments_of fn (reverse vs) ≡ vs
 arguments_are fn vs n = ap reverse (take_all (reverse vs) fn.params (n ∙ sym (length-reverse vs))) ∙ reverse-reverse vs
 
--- the slots of a call as it begins
+-- the slots of a call at its begin
 abbrev pub first_store : Func → List ℤ → List (List ℤ) → Store
 first_store fn vs xss = record { slots = slots_of fn vs; arrays = arrays_of fn xss; results = []; arrived = [] }
 
--- a distance within the limit is told as it is
+-- a distance within the limit is not changed
 pub distance_is : (n : ℕ) → n ≤ most_jump → distance n ≡ n
 distance_is n le = least n most_jump le
   where
@@ -156,7 +156,7 @@ array_code marks locals line ps (Variable x) h =
     either false = refl
 array_code marks locals line ps _ h = absurd h
 
--- the state of a call at a place; array slots that are only read are readers there
+-- the state of a call at a place; array slots that are only read are readers in the code
 abbrev pub here : Marks → (depth : ℕ) → List Around → ℕ → List ℤ → Store → Trace → State
 here marks depth around place operands store trace = record {
   place = place;
@@ -171,36 +171,36 @@ here marks depth around place operands store trace = record {
   trace = trace;
 }
 
--- the arrays of a call that ends are those of its frame, and its parameters' come first
+-- the arrays of a call that ends are the arrays of its frame; the arrays of its parameters come first
 pub record GivesBack (marks : Marks) (given : List Name) (frame : Frame) (arrays : Slots (List ℤ)) : Type 0 where
   pub more : List Name
   pub named : names_in frame.arrays ≡ given ++ more
   pub rest : List (List ℤ)
   pub are : arrays ≡ owned marks (full (values_in frame.arrays ++ rest))
 
--- a return stands in no block
+-- a return is in no inner block
 abbrev pub Outermost : Returns → Outside → Type 0
 Outermost Nowhere outer = Unit {0}
 Outermost WithInt outer = outer ≡ []
 Outermost Alone outer = outer ≡ []
 
--- a statement that goes on, before a block that may go on
+-- a statement that does not return, followed by a block that does not return
 pub both_go_on : (line : ℕ) (s : Stmt) (b : Block) → surely_returns s ≡ false → block_returns b ≡ false → block_returns (Then line s b) ≡ false
 both_go_on line s End h k = h
 both_go_on line s (Then line' s' b) h k = k
 
--- what a call gives, where its function does
+-- the result of a call, which exists only if its function returns an integer
 abbrev pub GivenBy : Function → Option ℤ → Type 0
 GivenBy f (Some v) = Unit {0}
 GivenBy f None = f.gives_int ≡ false
 
--- what may be returned
+-- the result that a return may have
 abbrev pub MayGive : Returns → Option ℤ → Type 0
 MayGive Nowhere v = ⊥
 MayGive WithInt v = is_none v ≡ false
 MayGive Alone v = is_none v ≡ true
 
--- what a call that ends gives back
+-- the arrays that a call returns at its end are the arrays of its frame
 pub gives_back : (marks : Marks) (room : Room) (locals : Locals) (taken' : Taken) (frame : Frame) (store : Store) (outer : Outside) → outer ≡ []
     → Begins room.given locals.arrays → Agrees locals taken' frame store outer → AllOwn marks store.arrived
     → GivesBack marks room.given frame (settled (told_at marks store.arrived) (owned marks store.arrays))
@@ -219,6 +219,6 @@ full_slot (Some (Some x)) w h = refl
 full_slot (Some None) w h = cc
 full_slot None w h = cc
 
--- a piece, and what goes on from there
+-- a part of a run, and its continuation
 abbrev pub then_do_after : {A B : Type 0} → (A → ℕ → Outcome B) → (ℕ → Outcome A) → ℕ → Outcome B
 then_do_after go piece = λ l. then_do (piece l) go

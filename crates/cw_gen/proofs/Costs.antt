@@ -1,4 +1,4 @@
--- Instructions are paid one after another.
+-- Costs in sequence.
 use Rattle.std.proofs.Common.{◌≡◌, ℕ, zero, suc, ◌+◌, ◌-◌, [], ◌∷◌, ◌++◌, refl, sym, ap, ◌∙◌, arith, ℤ, Bool, true, false, nat_lt, if◌then◌else◌}
 use Rattle.std.proofs.lemmas.Bool.Decides.{nat_tests}
 use Rattle.cw_model.specs.declared.trap.Trap.{Trap}
@@ -11,7 +11,7 @@ use Rattle.cw_model.specs.Syntax.{Name, Expr}
 use Rattle.cw_model.specs.Outcome.{Outcome, Done, Trapped, Over, Trace, shows, after, then_do, pay, pay_for}
 use Rattle.cw_loops.specs.lemmas.Outcomes.{then_same}
 
--- instructions are counted one after another
+-- the cost of a sum is the cost of its terms in sequence
 pub works_more : (a b : ℕ) → works (a + b) ≡ works a ++ works b
 works_more zero b = let e : 0 + b ≡ b = omega arith in ap works e
 works_more (suc a) b = let e : suc a + b ≡ suc (a + b) = omega arith in ap works e ∙ ap (λ es. Work 1 ∷ es) (works_more a b)
@@ -22,7 +22,7 @@ two_tests left c c' = grind (arith, nat_tests)
 abbrev over_int : Outcome ℤ
 over_int = Over
 
--- an end at so many instructions more
+-- the result after more instructions
 later : (r : Result) (v : ℤ) (c c' line left : ℕ) → pay_for (done_at (c + c') r) line left ≡ then_do (pay_for (Gives v c) line left) (λ _ l. pay_for (done_at c' r) line l)
 later (Value w) v c c' line left =
     ap (λ z. if z then Over else Done w (left - (c + c')) (shows (works (c + c')))) (two_tests left c c') ∙ cases (nat_lt left c) (nat_lt (left - c) c') ∙ sym (outer (nat_lt left c))
@@ -59,7 +59,7 @@ trap_ends trap c line l go = cases (nat_lt l c)
     cases true = refl
     cases false = refl
 
--- an operand, and its instruction
+-- an operand, followed by its instruction
 pub value_and_then : (x : Evaluated) (op : ℤ → Result) (line left : ℕ) →
     pay_for (and_then x op) line left ≡ then_do (pay_for x line left) (λ a l. pay_for (done_at 1 (op a)) line l)
 value_and_then (Traps trap c) op line left = sym (trap_ends trap c line left _)
@@ -70,7 +70,7 @@ value_and_then (Gives v c) op line left = later (op v) v c 1 line left ∙ same 
     same true = refl
     same false = refl
 
--- two operands, one after the other, and their instruction
+-- two operands in sequence, followed by their instruction
 pub value_also : (x y : Evaluated) (op : ℤ → ℤ → Result) (line left : ℕ) →
     pay_for (also x y op) line left ≡ then_do (pay_for x line left) (λ a l. then_do (pay_for y line l) (λ b l'. pay_for (done_at 1 (op a b)) line l'))
 value_also (Traps trap c) y op line left = sym (trap_ends trap c line left _)
@@ -96,7 +96,7 @@ value_also (Gives v c) (Gives w c') op line left =
     inner true = refl
     inner false = ap (after (shows (works c))) (later (op v w) w c' 1 line (left - c) ∙ last (nat_lt (left - c) c'))
 
--- an index into an array of no loop costs no more
+-- outside of loops an index has no additional cost
 pub not_dearer : (a : Name) (e : Expr) (frame : Frame) → frame.sliced ≡ [] → dearer (index_cost frame a) (evaluate e frame) ≡ evaluate e frame
 not_dearer a e frame h = ap (λ l. dearer (if is_among a l then 2 else 0) (evaluate e frame)) h ∙ none (evaluate e frame)
   where
@@ -104,15 +104,15 @@ not_dearer a e frame h = ap (λ l. dearer (if is_among a l then 2 else 0) (evalu
     none (Traps trap c) = refl
     none (Gives v c) = let e : c + 0 ≡ c = omega arith in ap (Gives v) e
 
--- nothing is paid
+-- a payment of zero leaves the fuel unchanged
 pub pay_none : (left : ℕ) → pay 0 left ≡ Done tt left (shows [])
 pay_none left = grind (arith, nat_tests)
 
--- so much is left, and this was shown
+-- a finished run with this fuel and this trace
 abbrev done : ℕ → Trace → Outcome (Unit {0})
 done left t = Done tt left t
 
--- a cost is paid in two parts
+-- a cost may be paid in two parts
 pub pay_more : (c c' left : ℕ) → pay (c + c') left ≡ then_do (pay c left) (λ _ l. pay c' l)
 pay_more c c' left =
     ap (λ z. if z then Over else done (left - (c + c')) (shows (works (c + c')))) (two_tests left c c') ∙ cases (nat_lt left c) (nat_lt (left - c) c') ∙ sym (outer (nat_lt left c))

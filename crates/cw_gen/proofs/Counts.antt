@@ -1,4 +1,4 @@
--- Code has as many instructions as the static size of its program.
+-- The number of instructions of the code is the static size of its program.
 use Rattle.std.proofs.Common.{◌≡◌, ℕ, suc, ◌+◌, List, [], ◌∷◌, ◌++◌, length, Bool, true, false, if◌then◌else◌, Some, None, refl, sym, ap, ◌∙◌, arith, length-append}
 use Rattle.std.specs.Prelude.{sum_by, map}
 use Rattle.std.proofs.lemmas.List.Sums.{sum_by-cons}

@@ -1,4 +1,4 @@
--- A cut that is open stays so up to its end.
+-- An open cut stays open until its end.
 use Rattle.std.proofs.Common.{◌≡◌, ℕ, ◌+◌, List, [], ◌∷◌, ◌++◌, Bool, true, false, not, refl, sym, ap, ◌∙◌, subst, inr, true≢false}
 use Rattle.std.specs.Prelude.{map}
 use Rattle.std.proofs.lemmas.List.{append-nil}
@@ -19,7 +19,7 @@ use Rattle.cw_gen.proofs.FreeMembers.{In, in_taken, in_held, in_kept, in_left as
 use Rattle.cw_gen.specs.Marks.{Marks}
 use Rattle.cw_gen.proofs.Rows.{Opened, CutsOpen, cuts_kept}
 
--- a cut is none of the names of a block that ends free
+-- a cut does not hold a name of a block whose names are free at its end
 in_left : (q : Name) (own : List Name) (closing : Closing) (depth : ℕ) (after_it : Taken)
     → ((x : Name) → is_among x own ≡ true → is_held (at_end closing depth after_it) x ≡ false) → In (q, CutOf) after_it → In (q, CutOf) (without own after_it)
 in_left q own closing depth after_it free h = in_kept (λ t. not (is_among t.0 own)) (q, CutOf) after_it h (ap not (apart (is_among q own) refl))
@@ -37,7 +37,7 @@ in_freed q depth taken h = in_kept (λ t. not (is_spawn_in depth t.1)) (q, CutOf
 
 module _ (fs : List Function) (lists : Lists) (tables : Tables) (size : Room) where
   mutual
-    -- where no return may stand nothing surely returns
+    -- if no return is allowed, no statement surely returns
     stmt_goes : (level : ℕ) (locals : Locals) (taken : Taken) (s : Stmt) → StmtFine fs lists tables size.marks size Nowhere level locals taken s → surely_returns s ≡ false
     stmt_goes level locals taken (Return e) fine = absurd fine.0
     stmt_goes level locals taken (IfElse e b c) fine = first_false (block_returns b) (block_returns c) (block_goes level locals taken b fine.1.0)
@@ -97,12 +97,12 @@ module _ (fs : List Function) (lists : Lists) (tables : Tables) (size : Room) wh
     block_keeps level locals taken End q fine h = h
     block_keeps level locals taken (Then line s b) q fine h = block_keeps level (locals_after locals s) (held_after fs level s taken) b q fine.1 (stmt_keeps level locals taken s q fine.0 h)
 
-  -- the arrays behind those that are known
+  -- the arrays after a statement begin with the known arrays
   arrays_next : (locals : Locals) (s : Stmt) → (more : List Name) × ((locals_after locals s).arrays ≡ locals.arrays ++ more)
   arrays_next locals (DeclareArray x e) = (x ∷ [], refl)
   arrays_next locals _ = ([], sym (append-nil locals.arrays))
 
-  -- after a statement
+  -- open cuts after a statement
   pub cuts_next : (opened : Opened) (level : ℕ) (locals : Locals) (taken : Taken) (s : Stmt)
       → StmtFine fs lists tables size.marks size Nowhere level locals taken s → CutsOpen size.marks opened locals taken
       → CutsOpen size.marks opened (locals_after locals s) (held_after fs level s taken)
@@ -110,6 +110,6 @@ module _ (fs : List Function) (lists : Lists) (tables : Tables) (size : Room) wh
       let n = arrays_next locals s in
       cuts_kept size.marks opened locals (locals_after locals s) n.0 taken (held_after fs level s taken) n.1 (λ q k. stmt_keeps level locals taken s q fine k) h
 
--- where more is taken
+-- open cuts if more is held
 pub cuts_more : (marks : Marks) (opened : Opened) (level : ℕ) (locals : Locals) (taken more : Taken) → CutsOpen marks opened locals taken → CutsOpen marks opened locals (taken ++ more)
 cuts_more marks opened level locals taken more h = cuts_kept marks opened locals locals [] taken (taken ++ more) (sym (append-nil locals.arrays)) (λ q k. in_before (q, CutOf) taken more k) h

@@ -1,4 +1,4 @@
--- What a cut does to the slots of a call, and its end.
+-- The effect of a cut, and of its end, on the slots of a call.
 use Rattle.std.proofs.Common.{◌≡◌, ℕ, suc, ◌+◌, ◌≤◌, List, [], ◌∷◌, ◌++◌, length, Bool, true, false, not, ◌&&◌, if◌then◌else◌}
 use Rattle.std.proofs.Common.{cond, Some, None, refl, sym, ap, ◌∙◌, subst, arith, append_assoc, length-append, ℤ}
 use Rattle.std.specs.Prelude.{slice_get, slice_set, take, drop}
@@ -30,15 +30,15 @@ use Rattle.cw_gen.proofs.Stores.{Store, Waits, Outside, int_waits, array_waits, 
 abbrev pub cut_halves : Locals → (x y : Name) → Halves
 cut_halves locals x y = record { array = slot_of x locals.arrays; left = length locals.arrays; right = length (locals.arrays ++ y ∷ []) }
 
--- what waits outside a cut: the array too
+-- the results that wait outside of a cut, including its array
 abbrev pub cut_waits : Locals → (x : Name) → List ℤ → Store → Waits
 cut_waits locals x xs store = record { ints = store.results; arrays = (slot_of x locals.arrays, xs) ∷ store.arrived }
 
--- the slots in a cut
+-- the slots inside a cut
 abbrev pub cut_store : Locals → (x y : Name) → List ℤ → ℕ → Store → Store
 cut_store locals x y xs n store = record { slots = store.slots; arrays = cut_arrays (cut_halves locals x y) xs n store.arrays; results = []; arrived = [] }
 
--- the slots behind it
+-- the slots after a cut
 abbrev pub uncut_store : Locals → (x y : Name) → (left right : List ℤ) → (inner store : Store) → Store
 uncut_store locals x y left right inner store =
     record {
@@ -73,7 +73,7 @@ uncut_fills marks locals x y left right inner store room own m =
       own = own;
     }
 
--- a cut finds its slots
+-- the slots of a cut are available
 pub can_cut : (locals : Locals) (taken : Taken) (x y : Name) (frame : Frame) (store : Store) (outer : Outside) → IsUsable locals.arrays taken x
     → suc (suc (length locals.arrays)) ≤ length store.arrays → Agrees locals taken frame store outer → may_cut (cut_halves locals x y) store.arrays ≡ true
 can_cut locals taken x y frame store outer u room a =
@@ -92,7 +92,7 @@ can_cut locals taken x y frame store outer u room a =
     both_true (is_full (slice_get s h.array)) (is_full (slice_get s1 h.left) && is_full (slice_get s2 h.right)) one
     (both_true (is_full (slice_get s1 h.left)) (is_full (slice_get s2 h.right)) two three)
 
--- a name put as it is
+-- storing the value of a name again changes nothing
 put_same : {A : Type 0} (none : A) (x : Name) (es : Entries A) → put x (find none x es) es ≡ es
 put_same none x [] = refl
 put_same none x (e ∷ es) = test (put_same none x es) (same_name x e.0)
@@ -137,14 +137,14 @@ among_end x (y ∷ ns) = test (among_end x ns) (same_name x y)
     test more true = refl
     test more false = more
 
--- the same with names behind it
+-- the slot of a new name with other names after it
 pub slot_first : (x : Name) (ns more : List Name) → is_among x ns ≡ false → slot_of x (ns ++ x ∷ more) ≡ length ns
 slot_first x ns more h = ap (slot_of x) (sym (append_assoc ns (x ∷ []) more)) ∙ slot_stays x (ns ++ x ∷ []) more (among_end x ns) ∙ slot_new x ns h
 
 pub among_first : (x : Name) (ns more : List Name) → is_among x (ns ++ x ∷ more) ≡ true
 among_first x ns more = ap (is_among x) (sym (append_assoc ns (x ∷ []) more)) ∙ among_left x (ns ++ x ∷ []) more (among_end x ns)
 
--- a name that is not taken is not taken of fewer
+-- a name that is not taken is not taken if fewer names are held
 free_without : (own : List Name) (taken : Taken) (x : Name) → is_taken taken x ≡ false → is_taken (without own taken) x ≡ false
 free_without own [] x h = refl
 free_without own ((y, SpawnIn d) ∷ taken) x h = test (free_without own taken x) (is_among y own) (same_name x y) refl h
@@ -167,7 +167,7 @@ free_without own ((y, ReaderIn d) ∷ taken) x h = test (free_without own taken 
     test more true = more
     test more false = more
 
--- names left out one after another
+-- removing names in two steps
 without_both : (y z : Name) (own : List Name) (taken : Taken) → without (y ∷ z ∷ []) (without own taken) ≡ without (y ∷ z ∷ own) taken
 without_both y z own [] = refl
 without_both y z own (t ∷ taken) = test (without_both y z own taken) (is_among t.0 own) (same_name t.0 y) (same_name t.0 z) refl refl
@@ -186,7 +186,7 @@ without_both y z own (t ∷ taken) = test (without_both y z own taken) (is_among
     test more false false false e e' = ap (λ q. cond (not q) (t ∷ without (y ∷ z ∷ []) (without own taken))
         (without (y ∷ z ∷ []) (without own taken))) (left_out false false e e') ∙ ap (λ l. t ∷ l) more
 
--- what the end of a cut finds and leaves
+-- the state at the end of a cut, and after it
 pub record CutEnds (locals : Locals) (x y z : Name) (own : List Name) (all : Taken) (frame left_inner : Frame) (st store : Store) (outer : Outside) : Type 0 where
   pub left : slice_get (settled st.arrived st.arrays) (length locals.arrays) ≡ Some (Some (array_of left_inner y))
   pub right : slice_get (settled st.arrived st.arrays) (length (locals.arrays ++ y ∷ [])) ≡ Some (Some (array_of left_inner z))

@@ -1,4 +1,4 @@
--- What a jump that is filled in later leaves, and whether a block surely returns, statement by statement.
+-- The effect of filling a reserved jump, and whether a block surely returns, statement by statement.
 use Rattle.std.proofs.Common.{◌≡◌, ℕ, ◌+◌, ◌-◌, ◌≤◌, List, [], ◌∷◌, ◌++◌, length, Bool, false, refl, sym, ap, ◌∙◌, arith, append_assoc, length-append}
 use Rattle.std.specs.Prelude.{slice_set}
 use Rattle.std.proofs.Math.Seq.{set-append_seam}
@@ -7,7 +7,7 @@ use Rattle.cw_code.specs.declared.code.Instr.{Instr}
 use Rattle.cw_code.specs.declared.code.Instr.TheVariants as instr
 use Rattle.cw_gen.specs.Emit.{stmt_returns, returns, distance, emitted_over, past, emitted_branches, emitted_turn}
 
--- whether a block surely returns, where what came before it did or did not
+-- whether a block surely returns, given whether the statements before it do
 abbrev pub returns_after : Bool → Block → Bool
 returns_after before End = before
 returns_after before (Then line s b) = returns_after (stmt_returns s) b
@@ -17,14 +17,14 @@ block_returns_after End = refl
 block_returns_after (Then line s End) = refl
 block_returns_after (Then line s (Then line' s' b)) = block_returns_after (Then line' s' b)
 
--- a place is filled
+-- filling a reserved instruction replaces only this instruction
 pub filled : (old body : List Instr) (i j : Instr) → slice_set ((old ++ i ∷ []) ++ body) (length old) j ≡ old ++ j ∷ body
 filled old body i j = ap (λ l. slice_set l (length old) j) (append_assoc old (i ∷ []) body) ∙ set-append_seam old i body j
 
 behind : (old body : List Instr) (i : Instr) → length ((old ++ i ∷ []) ++ body) - length old - 1 ≡ length body
 behind old body i = omega (arith, length-append (old ++ i ∷ []) body, length-append old (i ∷ []))
 
--- code that is passed over
+-- filling the test before skipped code results in `emitted_over`
 pub over_filled : (old body all : List Instr) (i : Instr) (n : ℕ) → all ≡ (old ++ i ∷ []) ++ body → n ≡ distance (length all - length old - 1)
     → slice_set all (length old) (instr.SkipIfZero n) ≡ old ++ emitted_over body
 over_filled old body all i n is at =
@@ -32,7 +32,7 @@ over_filled old body all i n is at =
     ∙ ap (λ l. slice_set l (length old) (instr.SkipIfZero (distance (length body)))) is
     ∙ filled old body i (instr.SkipIfZero (distance (length body)))
 
--- two branches
+-- filling both jumps of two branches results in `emitted_branches`
 pub branches_filled : (old one other first all : List Instr) (does : Bool) (i : Instr) (k n m : ℕ)
     → first ≡ ((old ++ i ∷ []) ++ one) ++ instr.Skip k ∷ [] → n ≡ distance (length first - length old - 1) →
     all ≡ slice_set first (length old) (instr.SkipIfZero n) ++ other → m ≡ past does (length all - length ((old ++ i ∷ []) ++ one) - 1) →
@@ -57,7 +57,7 @@ branches_filled old one other first all does i k n m is at whole at' =
     ∙ ap (λ q. old ++ instr.SkipIfZero (distance q) ∷ (one ++ instr.Skip (past does (length other)) ∷ other)) same_length
     ∙ ap (λ l. old ++ instr.SkipIfZero (distance (length (one ++ instr.Skip (past does (length other)) ∷ []))) ∷ l) (sym (append_assoc one (instr.Skip (past does (length other)) ∷ []) other))
 
--- a turn
+-- filling the test of an iteration results in `emitted_turn`
 pub turn_filled : (old body mid all : List Instr) (start : ℕ) (i : Instr) (n m : ℕ) → start ≤ length old → mid ≡ (old ++ i ∷ []) ++ body
     → n ≡ distance (length mid - start) → all ≡ mid ++ instr.GoBack n ∷ [] → m ≡ distance (length all - length old - 1) →
     slice_set all (length old) (instr.SkipIfZero m) ≡ old ++ emitted_turn (length old - start) body
@@ -66,7 +66,7 @@ turn_filled old body mid all start i n m le is at whole at' =
     let jump = instr.GoBack (distance (length old - start + 1 + length body)) in
     over_filled old (body ++ jump ∷ []) all i m (whole ∙ ap (λ k. mid ++ instr.GoBack k ∷ []) (at ∙ ap distance back) ∙ ap (λ l. l ++ jump ∷ []) is ∙ append_assoc (old ++ i ∷ []) body (jump ∷ [])) at'
 
--- the code of both branches, from what each step of the emission leaves
+-- the code of both branches results from the steps of the generator
 pub if_else_emitted : (start test_code h0 h1 b1 first landed all new one other : List Instr) (test end : ℕ) (does found : Bool)
     → h0 ≡ start ++ test_code → h1 ≡ h0 ++ instr.Skip 0 ∷ [] → test ≡ length h0 → b1 ≡ h1 ++ one → found ≡ does →
     first ≡ b1 ++ instr.Skip 0 ∷ [] → end ≡ length b1 → landed ≡ slice_set first test (instr.SkipIfZero (distance (length first - test - 1)))
@@ -86,7 +86,7 @@ if_else_emitted start test_code h0 h1 b1 first landed all new one other test end
     ∙ ap (λ l. l ++ emitted_branches does one other) eh0
     ∙ append_assoc start test_code (emitted_branches does one other)
 
--- the code of a loop
+-- the code of a `while` results from the steps of the generator
 pub while_emitted : (start test_code h0 new body : List Instr) (from : ℕ) → from ≡ length start → h0 ≡ start ++ test_code
     → new ≡ h0 ++ emitted_turn (length h0 - from) body → new ≡ start ++ (test_code ++ emitted_turn (length test_code) body)
 while_emitted start test_code h0 new body from efrom eh0 enew =

@@ -1,4 +1,4 @@
--- What the entry of a function keeps of its text, and where main's stands.
+-- The entry of a function agrees with its text; the index of main.
 use Rattle.std.proofs.Common.{◌≡◌, ℕ, ◌≤◌, List, [], ◌∷◌, ◌++◌, length, Bool, true, false, if◌then◌else◌, refl, sym, ap, ◌∙◌, arith}
 use Rattle.std.specs.Prelude.{map}
 use Rattle.std.proofs.lemmas.List.{map-append}
@@ -23,7 +23,7 @@ ints_of room = room.ints
 abbrev pub arrays_of : Room → ℕ
 arrays_of room = room.arrays
 
--- the entry has the room of the text, where there is a slot for each parameter
+-- the entry has the room that the text needs, if there is a slot for each parameter
 pub as_counted : (lists : Lists) (g : Function) (first start : ℕ) → length (locals_of g.params).arrays ≤ (room_of lists g).arrays
     → room_of lists g ≡ room_of_func g (emitted_func first start (slotted_function lists g))
 as_counted lists g first start array_room =
@@ -38,7 +38,7 @@ as_counted lists g first start array_room =
     room : ℕ → ℕ → Room
     room ints arrays = record { ints = ints; arrays = arrays; given = (locals_of g.params).arrays; marks = marks_for g.params }
 
--- the name of a function is one of the names
+-- the name of a function is among the names of functions
 pub named : (x : Name) (fs : List Function) → is_function x fs ≡ true → is_among x (function_names fs) ≡ true
 named x [] h = h
 named x (f ∷ fs) h = test (named x fs) (same_name x f.name) h
@@ -47,7 +47,7 @@ named x (f ∷ fs) h = test (named x fs) (same_name x f.name) h
     test more true h' = refl
     test more false h' = more h'
 
--- the index of main is that among the lowered functions
+-- the index of main in the code is its index among the lowered functions
 pub main_slot : (program : Program) → is_function main_name program.functions ≡ true → (code_of program).main ≡ slot_of main_name (lowered_lists program).functions
 main_slot program h =
     let fs = program.functions in

@@ -1,4 +1,5 @@
--- A function's code has few array slots: each that is no parameter's has an instruction of its own, and so has each array of a loop.
+-- The code of a function has few array slots: each array that is not a parameter has an instruction of its own, and so
+-- does each array of a loop.
 use Rattle.std.proofs.Common.{ℕ, suc, ◌+◌, ◌≤◌, Bool, true, false, cond, filter, List, [], ◌∷◌, ◌++◌, length, map, max, pos, ap, ◌≡◌, arith, length-append}
 use Rattle.std.specs.Prelude.{flat_map}
 use Rattle.std.proofs.lemmas.List.{length_push}
@@ -24,7 +25,7 @@ use Rattle.cw_gen.proofs.KnownParams.{loop_arrays}
 use Rattle.cw_gen.proofs.Texts.{expr_code, stmt_code, block_code, function_code}
 
 module _ (first : ℕ) (marks : Marks) (lists : Lists) where
-  -- a statement declares no more arrays than it has instructions
+  -- a statement declares at most one array for each of its instructions
   few_after : (locals : Locals) (line : ℕ) (s : Stmt) → length (locals_after locals s).arrays ≤ length locals.arrays + length (stmt_code first marks lists locals line s)
   few_after locals line (DeclareArray a e) = omega (
     arith,
@@ -34,7 +35,7 @@ module _ (first : ℕ) (marks : Marks) (lists : Lists) where
   few_after locals line _ = omega arith
 
   mutual
-    -- no slot that it needs is beyond these
+    -- a statement needs no slot beyond these
     few_here : (n most : ℕ) (locals : Locals) (line : ℕ) (s : Stmt) → n ≤ most
         → length locals.arrays + length (stmt_code first marks lists locals line s) ≤ most → arrays_in n (slotted_stmt lists locals s) ≤ most
     few_here n most locals line (DeclareArray a e) h k = omega (arith, h, k, length_push (expr_code marks locals line e) (instr.NewArray (array_at marks (length locals.arrays)) line))
@@ -67,7 +68,7 @@ module _ (first : ℕ) (marks : Marks) (lists : Lists) where
     few_here n most locals line (Region tag b) h k = few_in n most locals b h (omega (arith, k, length_push (block_code first marks lists locals b) instr.Close))
     few_here n most locals line _ h k = h
 
-    -- nor one that a block needs
+    -- a block needs no slot beyond these
     pub few_in : (n most : ℕ) (locals : Locals) (b : Block) → n ≤ most → length locals.arrays + length (block_code first marks lists locals b) ≤ most
         → arrays_in_block n (slotted_block lists locals b) ≤ most
     few_in n most locals End h k = h
@@ -84,7 +85,7 @@ module _ (first : ℕ) (marks : Marks) (lists : Lists) where
       let cb = block_code first marks lists inner (in_cuts line rest inside) in
       omega (arith, length-append cb (instr.EndCut ∷ []), length-append (cb ++ instr.EndCut ∷ []) [], cuts_long inner line rest inside)
 
-  -- so the code of its function is no shorter
+  -- the code of its function has at least one instruction for each array
   loop_long : (locals : Locals) (name : Name) (line : ℕ) (x : Name) (grain : ℕ) (ints over : List Name) (body : Block)
       → length over ≤ length (block_code first marks lists locals (loop_function name line x grain ints over body).body)
   loop_long locals name line x grain ints over body =
@@ -108,7 +109,7 @@ module _ (first : ℕ) (marks : Marks) (lists : Lists) where
         cuts_long after line over inside,
       )
 
--- the arrays among the parameters of a function are few, or no more than the instructions of its code
+-- the number of array parameters keeps the limit, or is at most the number of instructions
 abbrev pub FewGiven : (first : ℕ) → Lists → List Function → Type 0
 FewGiven first lists [] = Unit {0}
 FewGiven first lists (g ∷ gs) = (length (locals_of g.params).arrays ≤ MOST_DECLARED + length (function_code first lists g)) × FewGiven first lists gs
@@ -133,7 +134,7 @@ sources_few first lists k (f ∷ fs) h =
     (omega (arith, here, few_params f.params), sources_few first lists (k + loop_count_in f.body) fs (right_none (function_limits f) (flat_map function_limits fs) h))
 
 module _ (first : ℕ) (lists : Lists) where
-  -- a function of a loop cuts each of its arrays
+  -- the function of a loop cuts each of its arrays
   loop_few : (name : Name) (line : ℕ) (x : Name) (grain : ℕ) (ints over : List Name) (body : Block) → FewGiven first lists (loop_function name line x grain ints over body ∷ [])
   loop_few name line x grain ints over body =
       let g = loop_function name line x grain ints over body in

@@ -1,4 +1,4 @@
--- A program within its limits has few functions, those of its loops counted too.
+-- A program within its limits has few functions, including the functions of its loops.
 use Rattle.std.proofs.Common.{◌≡◌, ℕ, ◌+◌, ◌≤◌, List, [], ◌∷◌, ◌++◌, length, refl, sym, ap, ◌∙◌, arith, length-append}
 use Rattle.std.specs.Prelude.{map, flat_map}
 use Rattle.std.proofs.lemmas.List.{length-map, length-drop}
@@ -12,7 +12,7 @@ use Rattle.cw_loops.specs.Lowered.{loop_name, loop_count, loop_count_in, lower_b
 use Rattle.cw_loops.specs.SlotLaws.{IsWithinLimits}
 use Rattle.cw_loops.specs.lemmas.Numbering.{count_stays}
 
--- no line is beyond the limit, so there are no more of them
+-- if no line is beyond the limit, the number of lines keeps it
 none_beyond : (most : ℕ) (lines : List ℕ) → lines_beyond most lines ≡ [] → length lines ≤ most
 none_beyond most lines h = omega (arith, sym (length-drop most lines) ∙ ap length h)
 
@@ -20,7 +20,7 @@ both_long : (fs gs : List Function) (xs ys : List ℕ) → length fs ≡ length 
 both_long fs gs xs ys h k = omega (arith, length-append fs gs, length-append xs ys, h, k)
 
 mutual
-  -- each loop of a statement makes one function
+  -- each loop of a statement becomes one function
   made_count : (line k : ℕ) (s : Stmt) → length (made_by line k s) ≡ length (loops_in line s)
   made_count line k (If e b) = made_count_in k b
   made_count line k (IfElse e b c) = both_long (made_in k b) (made_in (k + loop_count_in b) c) (loops_in_block b) (loops_in_block c) (made_count_in k b) (made_count_in (k + loop_count_in b) c)

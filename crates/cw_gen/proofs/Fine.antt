@@ -1,4 +1,4 @@
--- Lowered programs whose code does what they do, as the laws read them.
+-- The conditions under which the code of a lowered program is correct.
 use Rattle.std.specs.Prelude.{◌≡◌, ◌++◌, suc, map, not, ℕ, ◌+◌, if◌then◌else◌, ◌-◌, ◌<◌, ◌≤◌, Bool, true, false, List, [], ◌∷◌, length, Option, Some, None, slice_get}
 use Rattle.cw_model.specs.declared.syntax.NameKind.{NameKind}
 use Rattle.cw_model.specs.declared.syntax.NameKind.TheVariants.{Integer, Array, Const}
@@ -21,18 +21,18 @@ use Rattle.cw_model.specs.Answers.{main_name}
 use Rattle.std.specs.List.{list_all, list_any}
 use Rattle.cw_code.specs.Fits.{are_apart}
 
--- a name that is known, and not taken
+-- a known name that is not taken
 pub record IsUsable (names : List Name) (taken : Taken) (x : Name) : Type 0 where
   pub declared : is_among x names ≡ true
   pub free : is_taken taken x ≡ false
 
--- an array that may be written too: no spawn reads it, and it is no parameter that is only read
+-- an array that may also be written: no spawn reads it, and it is not a read-only parameter
 pub record IsWritable (marks : Marks) (names : List Name) (taken : Taken) (x : Name) : Type 0 where
   pub usable : IsUsable names taken x
   pub loose : is_held taken x ≡ false
   pub own : IsOwn marks (slot_of x names)
 
--- an expression names such integers and arrays alone
+-- an expression uses only known integers and arrays that are not taken
 abbrev pub ExprFine : Locals → Taken → Expr → Type 0
 ExprFine locals taken (Number n) = Unit {0}
 ExprFine locals taken (Variable x) = IsUsable locals.ints taken x
@@ -42,12 +42,12 @@ ExprFine locals taken (Negative e) = ExprFine locals taken e
 ExprFine locals taken (Not e) = ExprFine locals taken e
 ExprFine locals taken (Binary operator d e) = ExprFine locals taken d × ExprFine locals taken e
 
--- a name alone is no array
+-- the expression is not the name of an array
 abbrev pub NoArray : Locals → Expr → Type 0
 NoArray locals (Variable x) = is_among x locals.arrays ≡ false
 NoArray locals _ = Unit {0}
 
--- an integer, or an array alone: one that may be written, or one that is only read
+-- an argument for a parameter of this kind: an integer, an array that may be written, or an array that is only read
 abbrev pub ArgFine : NameKind → Marks → Locals → Taken → Expr → Type 0
 ArgFine Integer marks locals taken e = ExprFine locals taken e × NoArray locals e
 ArgFine Array marks locals taken (Variable a) = IsWritable marks locals.arrays taken a
@@ -55,12 +55,12 @@ ArgFine Array marks locals taken _ = ⊥
 ArgFine Const marks locals taken (Variable a) = IsUsable locals.arrays taken a
 ArgFine Const marks locals taken _ = ⊥
 
--- an array alone
+-- the expression is the name of an array
 abbrev pub ArrayAlone : Locals → Expr → Type 0
 ArrayAlone locals (Variable a) = is_among a locals.arrays ≡ true
 ArrayAlone locals _ = ⊥
 
--- what an argument is, whether or not it may be written
+-- an integer or an array as an argument, whether or not it may be written
 abbrev pub ArgKept : Bool → Locals → Taken → Expr → Type 0
 ArgKept false locals taken e = ExprFine locals taken e × NoArray locals e
 ArgKept true locals taken e = ArrayAlone locals e
@@ -84,51 +84,51 @@ ArgsFine marks locals taken [] [] = Unit {0}
 ArgsFine marks locals taken (p ∷ ps) (e ∷ es) = ArgFine p.kind marks locals taken e × ArgsFine marks locals taken ps es
 ArgsFine marks locals taken _ _ = ⊥
 
--- what takes the result of a function that gives one
+-- the target of a result fits a function that returns one
 abbrev pub TargetFine : Locals → Taken → Function → Option Name → Type 0
 TargetFine locals taken f None = Unit {0}
 TargetFine locals taken f (Some x) = IsUsable locals.ints taken x × (f.gives_int ≡ true)
 
--- a function of this name is there
+-- there is a function with this name
 abbrev pub is_function : Name → List Function → Bool
 is_function name [] = false
 is_function name (f ∷ fs) = if same_name name f.name then true else is_function name fs
 
--- what may be returned
+-- the expression of a return fits
 abbrev pub ReturnFine : Returns → Locals → Taken → Option Expr → Type 0
 ReturnFine WithInt locals taken (Some e) = ExprFine locals taken e
 ReturnFine Alone locals taken None = Unit {0}
 ReturnFine _ locals taken _ = ⊥
 
--- a name is found at its place
+-- a name is found at its index
 abbrev pub IsListed : List Name → Name → Type 0
 IsListed names x = slice_get names (slot_of x names) ≡ Some x
 
--- as a block ends, none of these names is held
+-- none of these names is held at the end of the block
 abbrev pub FreeAtEnd : List Function → (depth : ℕ) → Closing → Taken → List Name → Block → Type 0
 FreeAtEnd fs depth closing taken own b = (x : Name) → is_among x own ≡ true → is_held (at_end closing depth (held_after_all fs depth b taken)) x ≡ false
 
--- as a block ends, none of its names is held
+-- no name of the block is held at its end
 abbrev pub EndsFree : List Function → (depth : ℕ) → Closing → Taken → Block → Type 0
 EndsFree fs depth closing taken b = FreeAtEnd fs depth closing taken (own_names b) b
 
--- how many slots a call has, the arrays among its parameters, and which of those are only read
+-- the numbers of slots of a call, the arrays among its parameters, and the marks of those that are only read
 pub record Room : Type 0 where
   pub ints : ℕ
   pub arrays : ℕ
   pub given : List Name
   pub marks : Marks
 
--- the names begin with these
+-- the second list begins with the first
 pub record Begins (given names : List Name) : Type 0 where
   pub more : List Name
   pub is : names ≡ given ++ more
 
--- the list of a call site
+-- the list of a call site is this one
 abbrev pub IsPassed : {A : Type 0} → List (List A) → (site : ℕ) → List A → Type 0
 IsPassed passed site slots = slice_get passed site ≡ Some slots
 
--- the call site of this number is there, of this kind and of this function
+-- there is a call site with this number, this kind and this function
 pub record HasSite (sites : List CodeSite) (kind : CallKind) (number function : ℕ) : Type 0 where
   pub site : CodeSite
   pub positive : 0 < number
@@ -137,34 +137,34 @@ pub record HasSite (sites : List CodeSite) (kind : CallKind) (number function : 
   pub of_kind : site.told.kind ≡ Of kind
   pub calls : site.function ≡ function
 
--- each of these names is known, and not taken
+-- each of these names is known and not taken
 abbrev pub AllUsable : List Name → Taken → List Name → Type 0
 AllUsable names taken [] = Unit {0}
 AllUsable names taken (x ∷ xs) = IsUsable names taken x × AllUsable names taken xs
 
--- each may be written too
+-- each of these names is an array that may be written
 abbrev pub AllWritable : Marks → List Name → Taken → List Name → Type 0
 AllWritable marks names taken [] = Unit {0}
 AllWritable marks names taken (x ∷ xs) = IsWritable marks names taken x × AllWritable marks names taken xs
 
--- no array is read by the call that takes it
+-- no array is both given away and read by a call
 abbrev pub NotBoth : (given read : List Name) → Type 0
 NotBoth given read = list_any (λ a. is_among a given) read ≡ false
 
--- the function that a name lists has the parameters of that which it is
+-- the listed parameters of a name are the parameters of its function
 abbrev pub IsCallee : Lists → List Function → Name → Type 0
 IsCallee lists fs f = params_of lists f ≡ (function_named f fs).params
 
--- integers come before arrays among parameters
+-- integers precede arrays among the parameters
 abbrev pub ints_first : List Param → Bool
 ints_first [] = true
 ints_first (p ∷ ps) = if wants_array p then list_all (λ q. wants_array q) ps else ints_first ps
 
--- the marks of a function of these parameters
+-- the marks of a function with these parameters
 abbrev pub marks_for : List Param → Marks
 marks_for ps = marks_of (map (λ p. p.kind) ps)
 
--- the function of a loop takes the two ends of a range, then so many integers, and these arrays, by their names
+-- the function of a loop takes the two ends of a range, then the captured integers, and these arrays, by name
 pub record TakesRange (f : Function) (captured over : List Name) : Type 0 where
   pub ints : length (locals_of f.params).ints ≡ suc (suc (length captured))
   pub arrays : (locals_of f.params).arrays ≡ over
@@ -181,7 +181,8 @@ pub record PartsFine (marks : Marks) (room : Room) (locals : Locals) (l r : Name
   pub begins : Begins room.given locals.arrays
 
 abbrev mutual
-  -- a statement in so many sync blocks, with these names known and these taken, in a call of so much room
+  -- the conditions on a statement at this depth of sync blocks, with these known and held names, in a call with this
+  -- room
   pub StmtFine : List Function → Lists → (tables : Tables) → Marks → Room → Returns → (depth : ℕ) → Locals → Taken → Stmt → Type 0
   StmtFine fs lists tables marks room returns depth locals taken (Declare x e) = (length locals.ints < room.ints) × ExprFine locals taken e
   StmtFine fs lists tables marks room returns depth locals taken (DeclareArray a e) =
@@ -243,14 +244,14 @@ abbrev mutual
   StmtFine fs lists tables marks room returns depth locals taken (Return e) = ReturnFine returns locals taken e × Begins room.given locals.arrays
   StmtFine fs lists tables marks room returns depth locals taken _ = ⊥
 
-  -- the statements of a block
+  -- the conditions on the statements of a block
   pub BlockFine : List Function → Lists → (tables : Tables) → Marks → Room → Returns → (depth : ℕ) → Locals → Taken → Block → Type 0
   BlockFine fs lists tables marks room returns depth locals taken End = Unit {0}
   BlockFine fs lists tables marks room returns depth locals taken (Then line s b) =
       StmtFine fs lists tables marks room returns depth locals taken s
       × BlockFine fs lists tables marks room returns depth (locals_after locals s) (held_after fs depth s taken) b
 
--- the slots of a call of a function: those of its parameters, and those of what its text declares
+-- the slots of a call of a function: one for each parameter and for each name that its text declares
 abbrev pub room_of : Lists → Function → Room
 room_of lists f =
     let locals = locals_of f.params in
@@ -262,7 +263,7 @@ room_of lists f =
       marks = marks_of (map (λ p. p.kind) f.params);
     }
 
--- a function
+-- the conditions on a function
 pub record FunctionFine (fs : List Function) (lists : Lists) (tables : Tables) (f : Function) : Type 0 where
   pub apart : differ (map (λ p. p.name) f.params) ≡ true
   pub room : length (locals_of f.params).ints ≤ (room_of lists f).ints
@@ -270,12 +271,12 @@ pub record FunctionFine (fs : List Function) (lists : Lists) (tables : Tables) (
   pub body : BlockFine fs lists tables (marks_for f.params) (room_of lists f) (if f.gives_int then WithInt else Alone) 1 (locals_of f.params) [] f.body
   pub returns : f.gives_int ≡ true → block_returns f.body ≡ true
 
--- functions in a row
+-- each of these functions satisfies the conditions
 abbrev pub FunctionsFine : List Function → Lists → Tables → List Function → Type 0
 FunctionsFine all lists tables [] = Unit {0}
 FunctionsFine all lists tables (f ∷ fs) = FunctionFine all lists tables f × FunctionsFine all lists tables fs
 
--- a lowered program, the names that it lists, and what its calls rely on
+-- the conditions on a lowered program with these lists and tables
 pub record ProgramFine (program : Program) (lists : Lists) (tables : Tables) : Type 0 where
   pub functions : FunctionsFine program.functions lists tables program.functions
   pub names : lists.functions ≡ map (λ f. f.name) program.functions

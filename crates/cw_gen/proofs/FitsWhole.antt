@@ -1,4 +1,4 @@
--- The code of each function fits, and the functions lie one after another.
+-- The code of each function is well formed, and the functions follow each other.
 use Rattle.std.proofs.Common.{◌≡◌, ℕ, zero, suc, ◌+◌, ◌-◌, ◌^◌, ◌<◌, ◌≤◌, List, [], ◌∷◌, ◌++◌, length, Bool, true, false, not, if◌then◌else◌}
 use Rattle.std.proofs.Common.{Option, Some, None, refl, sym, ap, ◌∙◌, subst, arith, append_assoc, length-append, true≢false}
 use Rattle.std.specs.Prelude.{slice_get, map, replicate}
@@ -36,7 +36,7 @@ use Rattle.cw_gen.proofs.Settings.{Setting, StandsAt, stands_front, stands_back,
 use Rattle.cw_gen.proofs.FittingFirsts.{block_enters}
 use Rattle.cw_gen.proofs.Fitting.{block_fits}
 
--- a list stands in a longer one behind what comes before it
+-- a part of a list is at the position after the elements before it
 stands_all : (before now later : Shapes) → StandsAt (before ++ (now ++ later)) (length before) now
 stands_all before [] later = tt
 stands_all before (s ∷ now) later =
@@ -46,7 +46,7 @@ stands_all before (s ∷ now) later =
     let rest = subst (λ l. StandsAt l (length (before ++ s ∷ [])) now) (append_assoc before (s ∷ []) (now ++ later)) (stands_all (before ++ s ∷ []) now later) in
     (at, subst (λ m. StandsAt (before ++ s ∷ (now ++ later)) m now) n rest)
 
--- nothing stands before the first place of a function
+-- there is nothing before the first place of a function
 within_shapes : (start : ℕ) (ss : Shapes) (place : ℕ) (shape : Shape) → flat (slice_get (replicate start None ++ ss) place) ≡ Some shape → (start ≤ place) × (place < start + length ss)
 within_shapes zero ss place shape h = (omega arith, there (slice_get ss place) refl h)
   where
@@ -64,7 +64,7 @@ module _ (code : Code) (fs : List Function) (lists : Lists) (small : length code
   abbrev tables : Tables
   tables = tables_in code
 
-  -- what the places of a function find
+  -- the shapes of the places of a function
   abbrev function_shapes : Room → Function → Shapes
   function_shapes size g =
       block_shapes fs size [] (locals_of g.params) [] g.body ++ (if g.gives_int then [] else reached (block_returns g.body) (end_shape fs size [] (locals_of g.params) [] g.body) ∷ [])
@@ -184,7 +184,7 @@ module _ (code : Code) (fs : List Function) (lists : Lists) (small : length code
         (returning g.gives_int refl) fine_body short (stands_front tab start body_shapes (end_shapes g.gives_int) stands) closes)
         (ends g.gives_int refl (block_returns g.body))
 
-    -- a row of arrays is as long as the entry says
+    -- a row of arrays has the length that the entry gives
     as_long : length (array_row size 1 locals.arrays []) ≡ f.arrays
     as_long =
         let r = row size.arrays 1 locals.arrays [] in
@@ -205,7 +205,7 @@ module _ (code : Code) (fs : List Function) (lists : Lists) (small : length code
     abbrev FitsHere : ℕ → Option Shape → Instr → Type 0
     FitsHere place o i = FitsAt setting place o i
 
-    -- what one place finds
+    -- the condition on one place
     at_place : (ss : Shapes) (is : List Instr) (place m : ℕ) (i : Instr) → AllFit setting place ss is → StandsAt tab place ss
         → HasAt code.instrs place is → m < length is → slice_get code.instrs (place + m) ≡ Some i → FitsHere (place + m) (flat (slice_get tab (place + m))) i
     at_place [] [] place m i fit stand has below e = absurd (omega (arith, below))
@@ -233,7 +233,7 @@ module _ (code : Code) (fs : List Function) (lists : Lists) (small : length code
     found_at : (place : ℕ) (shape : Shape) (i : Instr) → flat (slice_get tab place) ≡ Some shape → slice_get code.instrs place ≡ Some i → FitsHere place (Some shape) i
     found_at place shape i e e' = let is = within place shape e in subst (λ o. FitsHere place o i) e (fits_at place i is.0 is.1 e')
 
-    -- the arrays of a call are few
+    -- the number of arrays of a call is bounded
     numbered : f.arrays + f.readers ≤ 2 ^ 32
     numbered =
         let given = length locals.arrays in
@@ -260,7 +260,7 @@ module _ (code : Code) (fs : List Function) (lists : Lists) (small : length code
     pub not_empty : start < f.end
     not_empty = (within start starts.there starts.found).1
 
-  -- functions in a row
+  -- the code of consecutive functions is well formed
   record RowFits (start : ℕ) (gs : List Function) : Type 0 where
     pub lie : LieFrom start (emitted_funcs first start (map (slotted_function lists) gs)) (start + length (emitted_instrs first (map (slotted_function lists) gs)))
     pub each : (k : ℕ) (f : Func) → slice_get (emitted_funcs first start (map (slotted_function lists) gs)) k ≡ Some f → FitsFunc code f
@@ -293,7 +293,7 @@ module _ (code : Code) (fs : List Function) (lists : Lists) (small : length code
       pick zero f e' here rest = let same : emitted_func first (length pre) (slotted_function lists g) ≡ f = cc e' in subst (λ q. FitsFunc code q) same here
       pick (suc k) f e' here rest = rest k f e'
 
--- where functions are compiled, the code of a lowered program fits
+-- the code of a lowered program is well formed
 pub generated_fits : (program : Program) → is_function main_name program.functions ≡ true → IsWithinLimits program
     → length (code_of program).instrs ≤ MOST_INSTRUCTIONS → TurnsClose (lowered program).functions
     → texts.Table (code_of program) (lowered program).functions (lowered_lists program) →

@@ -1,4 +1,4 @@
--- Generated code fits: each place finds what its instruction needs, and leads on to places that take what it leaves.
+-- Generated code is well formed: the shape at each place fits its instruction, and flows into the places after it.
 use Rattle.std.proofs.Common.{◌≡◌, ℕ, ◌+◌, ◌-◌, ◌≤◌, [], ◌∷◌, ◌++◌, length, true, false, ◌&&◌, not, nat_lt, Some, None, refl, sym, ap, ◌∙◌, subst, arith, append_assoc, length-append}
 use Rattle.std.specs.Prelude.{nat_le, option_map}
 use Rattle.std.proofs.lemmas.List.{append-nil}
@@ -53,7 +53,7 @@ six p a b m e = omega (arith, e)
 
 module _ (setting : Setting) where
   mutual
-    -- the places of a statement fit, where the place behind it takes what it leaves
+    -- the places of a statement fit if the place after it accepts the shape that the statement leaves
     pub stmt_fits : (returns : Returns) (level : ℕ) (opened : Opened) (locals : Locals) (taken : Taken) (line : ℕ) (s : Stmt) (place : ℕ)
         → level ≡ depth_in opened → HasRoom setting locals → CutsOpen setting.marks opened locals taken → Returning returns opened setting.f.gives_int
         → StmtFine setting.fs setting.lists (tables setting) setting.marks (size setting) returns level locals taken s →
@@ -375,7 +375,7 @@ module _ (setting : Setting) where
         valued_fits setting opened locals taken room cuts e line place instr.ReturnValue is.2 stands (is.1, none_round setting opened locals taken is.0, tt, refl)
     stmt_fits returns level opened locals taken line _ place at room cuts returning fine short stands leads = absurd fine
 
-    -- so do those of a block
+    -- the places of a block fit if the place after it accepts the shape that the block leaves
     pub block_fits : (returns : Returns) (level : ℕ) (opened : Opened) (locals : Locals) (taken : Taken) (b : Block) (place : ℕ)
         → level ≡ depth_in opened → HasRoom setting locals → CutsOpen setting.marks opened locals taken → Returning returns opened setting.f.gives_int
         → BlockFine setting.fs setting.lists (tables setting) setting.marks (size setting) returns level locals taken b →

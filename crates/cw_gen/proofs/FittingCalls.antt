@@ -1,4 +1,4 @@
--- The instructions of calls fit.
+-- Call instructions are well formed.
 use Rattle.std.proofs.Common.{◌≡◌, ℕ, suc, ◌+◌, ◌-◌, ◌≤◌, List, [], ◌∷◌, ◌++◌, length, Bool, true, false, ◌&&◌, not}
 use Rattle.std.proofs.Common.{if◌then◌else◌, nat_lt, Option, Some, None, refl, sym, ap, ◌∙◌, subst, arith, cond, filter}
 use Rattle.std.specs.Prelude.{slice_get, map, nat_eq, option_map}
@@ -45,7 +45,7 @@ use Rattle.cw_gen.proofs.Shapes.{Opened, depth_in, after_arg, args_after}
 use Rattle.cw_gen.proofs.Settings.{Setting, takes_less, tables, table, size, HasRoom, FitsAt, made}
 use Rattle.cw_gen.proofs.FittingExprs.{slot_is_there, array_is_there}
 
--- as many operands as the call takes
+-- the number of operands is the number that the call takes
 pub as_many_args : (marks : Marks) (locals : Locals) (taken : Taken) (n : ℕ) (ps : List Param) (es : List Expr) → ArgsFine marks locals taken ps es
     → args_after n ps es ≡ n + length (locals_of ps).ints
 as_many_args marks locals taken n [] [] fine = omega arith
@@ -58,7 +58,7 @@ as_many_args marks locals taken n (p ∷ ps) (e ∷ es) fine = as_many_args mark
     one true = refl
     one false = omega arith
 
--- as many arrays are lent as parameters are only read
+-- the number of lent arrays is the number of read-only parameters
 pub as_many_lent : (marks : Marks) (locals : Locals) (taken : Taken) (ps : List Param) (es : List Expr) → ArgsFine marks locals taken ps es
     → length (arrays_lent ps es) ≡ count_readers (map (λ p. p.kind) ps)
 as_many_lent marks locals taken [] [] fine = refl
@@ -77,7 +77,7 @@ as_many_lent marks locals taken (p ∷ ps) (e ∷ es) fine = one p.kind e fine.0
     one Const (Variable a) h more = ap suc more
     one Const _ h more = absurd h
 
--- arrays that a spawn takes
+-- the row after a spawn covers the row before it without the arrays that the spawn takes
 pub gone_covered : (size : Room) (depth : ℕ) (names given : List Name) (taken taken' : Taken) → length names ≤ size.arrays
     → AllUsable names taken given → OwnSlots size.marks (slots_for names given) → ((y : Name) → holds false depth y taken ≡ true → holds false depth y taken' ≡ true) →
     ((y : Name) → is_among y given ≡ true → holds false depth y taken' ≡ true)
@@ -87,7 +87,7 @@ gone_covered size depth names (a ∷ given) taken taken' le us own more is =
     covers_array size depth names a (with_gone (numbers_at size.marks (slots_for names given)) (array_row size depth names taken)) taken' le own.0
     (gone_covered size depth names given taken taken' le us.1 own.1 more (λ y h. is y (later_among y a given h))) (is a (front_among a given)) us.0.declared
 
--- arrays that it only reads: those of slots are frozen
+-- the row of frozen arrays after a spawn covers the row before it with the arrays in slots that the spawn reads
 pub lent_covered : (size : Room) (depth : ℕ) (names reads : List Name) (taken : Taken) (cold cold' : Taken) → length names ≤ size.arrays
     → AllUsable names taken reads → ((y : Name) → holds false depth y cold ≡ true → holds false depth y cold' ≡ true) →
     ((y : Name) → is_among y reads ≡ true → holds false depth y cold' ≡ true)
@@ -109,25 +109,25 @@ lent_covered size depth names (a ∷ reads) taken cold cold' le us more is =
         subst (λ l. Covers (array_row size depth names cold') (with_gone (slots_lent (l ∷ loans)) (array_row size depth names cold))) (sym (place_own size.marks s own))
         (covers_array size depth names a (with_gone (slots_lent loans) (array_row size depth names cold)) cold' le own rest (is a (front_among a reads)) us.0.declared)
 
--- a call finds as many operands as it takes
+-- a call has the operands that it takes
 pub arguments_there : (kind : CallKind) (n m : ℕ) → n ≡ m → has_arguments kind n m ≡ true
 arguments_there Plain n m e = at_most n m (omega (arith, e))
 arguments_there Spawned n m e = equal n m e
 
--- what is held behind a spawn that takes some names and only reads others
+-- the locals held after a spawn that takes some names and only reads others
 abbrev pub spawned : (depth : ℕ) → (names reads : List Name) → Taken → Taken
 spawned depth names reads taken = frozen_by depth reads (taken_by depth names taken)
 
--- what was held before it is held behind it
+-- names held before a spawn are held after it
 pub spawn_keeps : (depth : ℕ) (names reads : List Name) (taken : Taken) (d : ℕ) (y : Name) → holds false d y taken ≡ true → holds false d y (spawned depth names reads taken) ≡ true
 spawn_keeps depth names reads taken d y q = holds_behind false d y (map (λ z. (z, ReaderIn depth)) reads) (taken_by depth names taken)
     (holds_behind false d y (map (λ z. (z, SpawnIn depth)) names) taken q)
 
--- its names are
+-- the names of a spawn are held after it
 pub spawn_holds : (depth : ℕ) (names reads : List Name) (taken : Taken) (y : Name) → is_among y names ≡ true → holds false depth y (spawned depth names reads taken) ≡ true
 spawn_holds depth names reads taken y h = holds_behind false depth y (map (λ z. (z, ReaderIn depth)) reads) (taken_by depth names taken) (held_by_spawn false depth y names taken h)
 
--- what is frozen behind it
+-- the arrays frozen after a spawn
 frozen_is : (depth : ℕ) (names reads : List Name) (taken : Taken) → frozen_of (spawned depth names reads taken) ≡ taken_by depth reads (frozen_of taken)
 frozen_is depth names reads taken = frozen_read depth reads (taken_by depth names taken) ∙ ap (taken_by depth reads) (frozen_taken depth names taken)
 
@@ -139,7 +139,7 @@ pub spawn_reads : (depth : ℕ) (names reads : List Name) (taken : Taken) (y : N
 spawn_reads depth names reads taken y h = ap (holds false depth y) (frozen_is depth names reads taken) ∙ held_by_spawn false depth y reads (frozen_of taken) h
 
 module _ (setting : Setting) where
-  -- an array that none of these names is
+  -- an array that is not one of these names has another number
   none_of_them : (locals : Locals) (taken : Taken) (a : Name) → is_among a locals.arrays ≡ true → IsOwn setting.marks (slot_of a locals.arrays)
       → (bs : List Name) → AllWritable setting.marks locals.arrays taken bs → is_among a bs ≡ false →
       is_none_of (array_at setting.marks (slot_of a locals.arrays)) (numbers_at setting.marks (slots_for locals.arrays bs)) ≡ true
@@ -153,7 +153,7 @@ module _ (setting : Setting) where
       (none_of_them locals taken a declared own bs us.1 other.1)
 
   module _ (opened : Opened) (locals : Locals) (taken : Taken) (room : HasRoom setting locals) (cuts : CutsOpen setting.marks opened locals taken) where
-    -- the array slots that a call names
+    -- the array slots that a call refers to are valid
     pub slots_named_well : (given : List Name) → AllWritable setting.marks locals.arrays taken given → differ given ≡ true
         → names_arrays setting.f.arrays (numbers_at setting.marks (slots_for locals.arrays given)) ≡ true
     slots_named_well [] us apart = refl
@@ -166,7 +166,7 @@ module _ (setting : Setting) where
         (not_true (is_among a given) (first_true (not (is_among a given)) (differ given) apart)))
         (slots_named_well given us.1 (second_true (not (is_among a given)) (differ given) apart)))
 
-    -- arrays that may be written are full
+    -- arrays that may be written have full slots
     pub slots_full : (given : List Name) (n : ℕ) → AllWritable setting.marks locals.arrays taken given
         → has_arrays (made setting opened locals taken n) (numbers_at setting.marks (slots_for locals.arrays given)) ≡ true
     slots_full [] n us = refl
@@ -175,7 +175,7 @@ module _ (setting : Setting) where
         (has_arrays (made setting opened locals taken n) (numbers_at setting.marks (slots_for locals.arrays given)))
         (array_is_full (size setting) opened locals taken a n room.1 us.0.usable us.0.own cuts) (slots_full given n us.1)
 
-    -- and not frozen
+    -- arrays that may be written are not frozen
     pub slots_thawed : (given : List Name) → AllWritable setting.marks locals.arrays taken given →
         none_frozen (array_row (size setting) (depth_in opened) locals.arrays (frozen_of taken)
         ∷ frozen_rows (outers (size setting) opened locals taken)) (numbers_at setting.marks (slots_for locals.arrays given)) ≡ true
@@ -186,7 +186,7 @@ module _ (setting : Setting) where
         (none_frozen rows (numbers_at setting.marks (slots_for locals.arrays given)))
         (array_is_thawed (size setting) opened locals taken a room.1 us.0) (slots_thawed given us.1)
 
-    -- an array that a call only reads, none of those that it takes
+    -- an array that a call only reads is not one that it takes
     loan_named : (given : List Name) → AllWritable setting.marks locals.arrays taken given → (a : Name) → IsUsable locals.arrays taken a → is_among a given ≡ false →
         names_loan setting.f (numbers_at setting.marks (slots_for locals.arrays given)) (place_of setting.marks (slot_of a locals.arrays)) ≡ true
     loan_named given us a u other = test (is_read setting.marks s) refl
@@ -215,7 +215,7 @@ module _ (setting : Setting) where
         (names_loans setting.f passed (map (place_of setting.marks) (slots_for locals.arrays reads))) (loan_named given us a rs.0 p.0)
         (loans_named_well given us reads rs.1 p.1)
 
-    -- what is lent is full
+    -- lent arrays have full slots
     pub loans_full : (reads : List Name) (n : ℕ) → AllUsable locals.arrays taken reads
         → has_loans (made setting opened locals taken n) (map (place_of setting.marks) (slots_for locals.arrays reads)) ≡ true
     loans_full [] n rs = refl
@@ -229,7 +229,7 @@ module _ (setting : Setting) where
         test false own = ap (has_loan (made setting opened locals taken n)) (place_own setting.marks (slot_of a locals.arrays) own)
             ∙ array_is_full (size setting) opened locals taken a n room.1 rs.0 own cuts
 
-    -- a call names a function that is there, and an array slot of the caller for each array that it takes
+    -- a call refers to an existing function, and to an array slot of the caller for each array that it takes
     pub passed_named : (name : Name) (passed : List ℕ) (xs : List Name) → is_function name setting.fs ≡ true
         → AllWritable setting.marks locals.arrays taken xs → differ xs ≡ true → passed ≡ numbers_at setting.marks (slots_for locals.arrays xs) →
         length xs ≡ length (taken_params (function_named name setting.fs).params) → names_passed setting.code setting.f (slot_of name setting.lists.functions) passed ≡ true
@@ -255,7 +255,7 @@ module _ (setting : Setting) where
         (spawn_keeps (depth_in opened) names reads taken (depth_in opened))
         (λ y h. spawn_holds (depth_in opened) names reads taken y (each y h))
 
-    -- those that it only reads are frozen
+    -- the arrays that a spawn only reads are frozen
     pub spawn_covers_frozen : (names reads : List Name) → AllUsable locals.arrays taken reads →
         Covers (array_row (size setting) (depth_in opened) locals.arrays (frozen_of (spawned (depth_in opened) names reads taken)))
         (with_gone (slots_lent (map (place_of setting.marks) (slots_for locals.arrays reads)))
@@ -265,7 +265,7 @@ module _ (setting : Setting) where
         (frozen_of (spawned (depth_in opened) names reads taken)) room.1 rs (spawn_freezes (depth_in opened) names reads taken (depth_in opened))
         (λ y h. spawn_reads (depth_in opened) names reads taken y h)
 
-    -- so are they in the blocks around
+    -- the arrays of a spawn are gone or frozen in the enclosing blocks too
     pub spawn_covers_outside : (names reads : List Name) → CoversEach (outers (size setting) opened locals (spawned (depth_in opened) names reads taken)) (outers (size setting) opened locals taken)
     spawn_covers_outside names reads =
         outers_more (size setting) opened locals taken (spawned (depth_in opened) names reads taken)
@@ -285,12 +285,12 @@ module _ (setting : Setting) where
       same_kind Plain = refl
       same_kind Spawned = refl
 
-  -- the readers of a function that is called
+  -- the readers of a called function
   pub readers_are : (name : Name) (is : is_function name setting.fs ≡ true)
       → readers_of (slice_get setting.code.funcs (slot_of name setting.lists.functions)) ≡ readers_in (marks_for (function_named name setting.fs).params)
   readers_are name is = let entry = setting.functions.entry name is in ap readers_of entry.1 ∙ sym entry.2.marked
 
-  -- a function that reads no array alone is lent none
+  -- a function without read-only parameters is lent no array
   pub none_lent : (name : Name) (passed : List ℕ) → is_function name setting.fs ≡ true → marks_for (function_named name setting.fs).params ≡ []
       → names_lent setting.code setting.f (slot_of name setting.lists.functions) passed [] ≡ true
   none_lent name passed is unread =
@@ -298,7 +298,7 @@ module _ (setting : Setting) where
       both_true (nat_eq 0 (readers_of (slice_get setting.code.funcs (slot_of name setting.lists.functions)))) true
       (equal 0 (readers_of (slice_get setting.code.funcs (slot_of name setting.lists.functions))) (sym none)) refl
 
-  -- the instruction of a call
+  -- the instruction of a call is well formed
   pub call_fits : (opened : Opened) (locals : Locals) (taken : Taken) → HasRoom setting locals → CutsOpen setting.marks opened locals taken
       → (kind : CallKind) (site : ℕ) (target : Option Name) (name : Name) (es : List Expr) (line place : ℕ) →
       StmtFine setting.fs setting.lists (tables setting) setting.marks (size setting) Nowhere (depth_in opened) locals taken (Call kind site target name es) →

@@ -1,4 +1,4 @@
--- A cut, the block that has its parts, and its end fit.
+-- A cut, the block in which its parts are known, and its end are well formed.
 use Rattle.std.proofs.Common.{◌≡◌, ◌≢◌, ℕ, suc, ◌+◌, ◌<◌, ◌≤◌, List, [], ◌∷◌, ◌++◌, length, Bool, true, false, ◌&&◌, not, if◌then◌else◌, nat_lt}
 use Rattle.std.proofs.Common.{Some, refl, sym, ap, ◌∙◌, subst, arith, append_assoc, length-append, inl, inr, true≢false}
 use Rattle.std.specs.Prelude.{slice_get, nat_le, nat_eq}
@@ -39,14 +39,14 @@ use Rattle.cw_gen.proofs.FittingEnds.{held_outside, frozen_outside, none_outside
 use Rattle.cw_gen.proofs.FittingFirsts.{block_enters}
 
 module _ (setting : Setting) where
-  -- a slot behind those of parameters has a number behind theirs
+  -- a slot after the slots of the parameters has a number after theirs
   pub behind_params : (locals : Locals) (m : ℕ) → Begins setting.given_arrays locals.arrays → length locals.arrays ≤ m → length setting.marks ≤ m
       → nat_le setting.f.array_params (array_at setting.marks m) ≡ true
   behind_params locals m begins le short =
       at_most setting.f.array_params (array_at setting.marks m) (omega
       (arith, le, setting.few_given, setting.many_read, at_behind setting.marks m short, ap length begins.is, length-append setting.given_arrays begins.more))
 
-  -- an array that is cut, and that nothing held, is not frozen outside the block that has its parts
+  -- an array that is cut, and that was not held, is not frozen outside of the block of the cut
   cut_thawed : (level : ℕ) (taken : Taken) (a : Name) (b : Block) → is_held taken a ≡ false → (d : ℕ) → d < level
       → holds false d a (frozen_of (held_after_all setting.fs level b ((a, CutOf) ∷ taken))) ≡ false
   cut_thawed level taken a b loose d less = cases (holds false d a (frozen_of after_it)) refl
@@ -63,7 +63,7 @@ module _ (setting : Setting) where
       cases true e = absurd (true≢false (before (block_from setting.fs level b ((a, CutOf) ∷ taken) (a, ReaderIn d) (frozen_in d a after_it e))))
       cases false e = refl
 
-  -- the end of a cut
+  -- the end of a cut is well formed
   pub cut_closes : (opened : Opened) (locals : Locals) (taken : Taken) (a l r : Name) (b : Block) (next_place : ℕ) → HasRoom setting locals
       → CutsOpen setting.marks opened locals taken → IsWritable setting.marks locals.arrays taken a → PartsFine setting.marks (size setting) locals l r →
       ((x : Name) → is_among x (l ∷ r ∷ own_names b) ≡ true → is_held (freed (suc (depth_in opened)) (held_after_all setting.fs (suc (depth_in opened)) b ((a, CutOf) ∷ taken))) x ≡ false) →
@@ -164,7 +164,7 @@ module _ (setting : Setting) where
           test false true k' = refl
           test false false k' = more x k'
 
-  -- a cut, the block that has its parts, and its end
+  -- a cut, the block in which its parts are known, and its end are well formed
   pub cut_fits : (level : ℕ) (opened : Opened) (locals : Locals) (taken : Taken) (a l r : Name) (e : Expr) (b : Block) (line place : ℕ)
       → level ≡ depth_in opened → HasRoom setting locals → CutsOpen setting.marks opened locals taken → IsWritable setting.marks locals.arrays taken a
       → ExprFine locals taken e → PartsFine setting.marks (size setting) locals l r →

@@ -1,4 +1,4 @@
--- What a block leaves as it ends.
+-- The shape that a block leaves at its end.
 use Rattle.std.proofs.Common.{◌≡◌, ◌≢◌, ℕ, suc, ◌+◌, ◌≤◌, List, ◌∷◌, ◌++◌, Bool, true, false, None, refl, sym, ap, ◌∙◌, subst, arith, true≢false}
 use Rattle.cw_model.specs.Syntax.{Name, Block}
 use Rattle.cw_model.specs.Names.{is_among}
@@ -15,12 +15,12 @@ use Rattle.cw_gen.proofs.Rows.{array_covers, covers_held, KeepsHeld, NoneHeld, O
 use Rattle.cw_gen.proofs.Shapes.{Opened, depth_in, shape_at, end_shape}
 use Rattle.cw_gen.proofs.Settings.{Setting, size, made}
 
--- what is held outside an inner sync block at its end
+-- the locals held outside of an inner sync block at its end
 pub held_outside : (level : ℕ) (own : List Name) (after_it : Taken) (d : ℕ) (x : Name) → d ≢ level → holds false d x after_it ≡ true
     → is_among x own ≡ false → holds false d x (freed level (without own after_it)) ≡ true
 held_outside level own after_it d x apart h a = held_past false level d x (without own after_it) apart (held_without false d x own after_it a h)
 
--- none of the names of the block is
+-- no name of the block is held outside of it
 pub free_outside : (level : ℕ) (own : List Name) (after_it : Taken)
     → ((x : Name) → is_among x own ≡ true → is_taken (freed level after_it) x ≡ false) → (d : ℕ) (x : Name) → d ≢ level → is_among x own ≡ true
     → holds false d x after_it ≡ false
@@ -30,13 +30,13 @@ free_outside level own after_it free d x apart a = cases (holds false d x after_
     cases true e = absurd (true≢false (sym (held_is_taken false d x (freed level after_it) (held_past false level d x after_it apart e)) ∙ free x a))
     cases false e = refl
 
--- the same of what is frozen
+-- no name of the block is frozen outside of it
 pub frozen_outside : (level : ℕ) (own : List Name) (after_it : Taken) (d : ℕ) (x : Name) → d ≢ level → holds false d x (frozen_of after_it) ≡ true
     → is_among x own ≡ false → holds false d x (frozen_of (freed level (without own after_it))) ≡ true
 frozen_outside level own after_it d x apart h a =
     ap (holds false d x) (frozen_freed level (without own after_it) ∙ ap (freed level) (frozen_without own after_it)) ∙ held_outside level own (frozen_of after_it) d x apart h a
 
--- names that nothing holds at the end
+-- names that are not held at the end are not held outside
 pub none_outside : (level : ℕ) (own : List Name) (after_it : Taken) → ((x : Name) → is_among x own ≡ true → is_held (freed level after_it) x ≡ false)
     → (d : ℕ) (x : Name) → d ≢ level → is_among x own ≡ true → holds false d x after_it ≡ false
 none_outside level own after_it free d x apart a = free_outside level own after_it (λ y h. loose_free y (freed level after_it) (free y h)) d x apart a
@@ -47,7 +47,7 @@ pub thawed_outside : (level : ℕ) (own : List Name) (after_it : Taken)
 thawed_outside level own after_it free d x apart a =
     free_outside level own (frozen_of after_it) (λ y h. ap (λ us. is_taken us y) (sym (frozen_freed level after_it)) ∙ loose_thawed y (freed level after_it) (free y h)) d x apart a
 
--- where none of some names is held, and all others stay so
+-- a held name stays held if none of these names is held and every other name stays held
 stays_held : (own : List Name) (before after : Taken) (d : ℕ) (x : Name) → (is_among x own ≡ true → holds false d x before ≡ false)
     → (is_among x own ≡ false → holds false d x before ≡ true → holds false d x after ≡ true) → holds false d x before ≡ true → holds false d x after ≡ true
 stays_held own before after d x free keeps h = cases (is_among x own) refl
@@ -57,7 +57,7 @@ stays_held own before after d x free keeps h = cases (is_among x own) refl
     cases false e = keeps e h
 
 module _ (setting : Setting) where
-  -- the rows round a place, and those of the place, where more is held, and fewer names are there
+  -- the shape of a place covers the shape with more names, if more is held and none of the other names is held
   rows_cover : (opened : Opened) (locals : Locals) (ints arrays : List Name) (after_it taken' : Taken) → KeepsHeld after_it taken' (depth_in opened)
       → KeepsHeld (frozen_of after_it) (frozen_of taken') (depth_in opened) →
       NoneHeld ints after_it (depth_in opened) → NoneHeld arrays after_it (depth_in opened) → NoneHeld arrays (frozen_of after_it) (depth_in opened) →
@@ -75,7 +75,7 @@ module _ (setting : Setting) where
             (λ d x le. f d x (omega (arith, le))) (λ d x le. k d x (omega (arith, le))) (λ d x le. m d x (omega (arith, le))) (λ d x le. z d x (omega (arith, le))),
       )
 
-  -- at the end of a branch or a turn
+  -- the shape after a branch or an iteration covers the shape at its end
   pub branch_covers : (opened : Opened) (locals : Locals) (taken taken' : Taken) (b : Block) → EndsFree setting.fs (depth_in opened) Leaves taken b →
       ((d : ℕ) (x : Name) → holds false d x (without (own_names b) (held_after_all setting.fs (depth_in opened) b taken)) ≡ true → holds false d x taken' ≡ true) →
       ((d : ℕ) (x : Name) → holds false d x (frozen_of (without (own_names b) (held_after_all setting.fs (depth_in opened) b taken))) ≡ true → holds false d x (frozen_of taken') ≡ true) →
@@ -93,7 +93,7 @@ module _ (setting : Setting) where
       (λ a h. freeze d x (ap (holds false d x) (frozen_without own after_it) ∙ held_without false d x own (frozen_of after_it) a h)))
       (λ d x le a. none d x (ext.own x a)) (λ d x le a. none d x (ext.own_arrays x a)) (λ d x le a. thawed d x (ext.own_arrays x a)))
 
-  -- at the end of a sync block, where its names were some of these
+  -- the shape after a sync block with some of these names covers the shape at its end
   pub outer_covers : (opened : Opened) (locals : Locals) (ints arrays own : List Name) (after_it taken' : Taken) (level : ℕ)
       → level ≡ suc (depth_in opened) → ((x : Name) → is_among x own ≡ true → is_held (freed level after_it) x ≡ false) →
       ((x : Name) → is_among x ints ≡ true → is_among x own ≡ true) → ((x : Name) → is_among x arrays ≡ true → is_among x own ≡ true) →
@@ -109,7 +109,7 @@ module _ (setting : Setting) where
       (λ d x le. stays_held own (frozen_of after_it) (frozen_of taken') d x (thawed d x (not_level d le)) (λ a h. freeze d x (not_level d le) h a))
       (λ d x le a. none d x (not_level d le) (own_ints x a)) (λ d x le a. none d x (not_level d le) (own_arrays x a)) (λ d x le a. thawed d x (not_level d le) (own_arrays x a))
 
-  -- at the end of a scope or a region
+  -- the shape after a scope or a region covers the shape that its end leaves
   pub inside_covers : (opened : Opened) (locals : Locals) (taken : Taken) (b : Block) (level : ℕ) → level + 1 ≡ suc (depth_in opened) → EndsFree setting.fs (level + 1) Joins taken b →
       Over (made setting opened locals (freed (level + 1) (without (own_names b) (held_after_all setting.fs (level + 1) b taken))) 0)
       (leaves setting.code (end_shape setting.fs (size setting) (None ∷ opened) locals taken b) instr.Close)

@@ -1,4 +1,4 @@
--- Expressions and arguments fit.
+-- The code of expressions and arguments is well formed.
 use Rattle.std.proofs.Common.{◌≡◌, ℕ, ◌+◌, ◌-◌, ◌<◌, ◌≤◌, List, [], ◌∷◌, ◌++◌, length, Bool, true, false, nat_lt, Some, refl, sym, ap, subst, arith, append_assoc, length-append}
 use Rattle.std.specs.Prelude.{nat_le}
 use Rattle.cw_facts.specs.Tests.{both_true, at_most, below}
@@ -23,7 +23,7 @@ use Rattle.cw_gen.proofs.Shapes.{Opened, Shapes, arg_shapes, after_arg, args_aft
 use Rattle.cw_gen.proofs.Settings.{Setting, StandsAt, stands_front, stands_back, exact, table, size, HasRoom, FitsAt, AllFit, both_fit, made}
 
 module _ (setting : Setting) where
-  -- a slot that is not only read is one of the function
+  -- a slot that is not only read is a slot of the function
   pub own_below : (s : ℕ) → IsOwn setting.marks s → s < (size setting).arrays → array_at setting.marks s < setting.f.arrays
   own_below s own h =
       let n = (size setting).arrays in
@@ -35,23 +35,23 @@ module _ (setting : Setting) where
     abbrev here : ℕ → Shape
     here n = made setting opened locals taken n
 
-    -- a name that may be used has a slot
+    -- a usable name has a slot
     pub slot_is_there : (x : Name) → IsUsable locals.ints taken x → nat_lt (slot_of x locals.ints) (size setting).ints ≡ true
     slot_is_there x u = below (slot_of x locals.ints) (size setting).ints (omega (arith, slot_in x locals.ints u.declared, room.0))
 
-    -- an array is within the slots
+    -- an array has a slot
     pub array_within : (x : Name) → IsUsable locals.arrays taken x → slot_of x locals.arrays < (size setting).arrays
     array_within x u = omega (arith, slot_in x locals.arrays u.declared, room.1)
 
-    -- so has an array that is not only read
+    -- an array that is not only read has a number among the arrays
     pub array_is_there : (x : Name) → IsUsable locals.arrays taken x → IsOwn setting.marks (slot_of x locals.arrays) → nat_lt (array_at setting.marks (slot_of x locals.arrays)) setting.f.arrays ≡ true
     array_is_there x u own = below (array_at setting.marks (slot_of x locals.arrays)) setting.f.arrays (own_below (slot_of x locals.arrays) own (array_within x u))
 
-    -- and one that is has a reader
+    -- an array that is only read has a number among the readers
     reader_is_there : (s : ℕ) → is_read setting.marks s ≡ true → nat_lt (array_at setting.marks s) setting.f.readers ≡ true
     reader_is_there s r = below (array_at setting.marks s) setting.f.readers (omega (arith, read_below setting.marks s r, setting.many_read))
 
-    -- an element of an array, in a slot or behind a reader
+    -- the instruction that loads an element, from a slot or a reader, is well formed
     element_fits : (x : Name) (line place n : ℕ) → IsUsable locals.arrays taken x → FlowsInto (table setting) (place + 1) (here (n + 1))
         → FitsAt setting place (Some (here (n + 1))) (element_at (place_of setting.marks (slot_of x locals.arrays)) line)
     element_fits x line place n u leads = test (is_read setting.marks s) refl
@@ -72,7 +72,7 @@ module _ (setting : Setting) where
               refl,
             )
 
-    -- and its length
+    -- the instruction that loads a length, from a slot or a reader, is well formed
     length_fits : (x : Name) (place n : ℕ) → IsUsable locals.arrays taken x → FlowsInto (table setting) (place + 1) (here (n + 1))
         → FitsAt setting place (Some (here n)) (length_at (place_of setting.marks (slot_of x locals.arrays)))
     length_fits x place n u leads = test (is_read setting.marks s) refl
@@ -86,7 +86,7 @@ module _ (setting : Setting) where
             subst (λ l. FitsAt setting place (Some (here n)) (length_at l)) (sym (place_own setting.marks s own))
             (array_is_there x u own, array_is_full (size setting) opened locals taken x n room.1 u own cuts, (leads, tt), refl)
 
-    -- the first place of an expression takes what comes to it
+    -- the first place of an expression accepts the shape before it
     pub expr_enters : (e : Expr) (place n : ℕ) (more : Shapes) → ExprFine locals taken e → StandsAt setting.tab place (expr_shapes here n e ++ more) → FlowsInto (table setting) place (here n)
     expr_enters (Number v) place n more fine h = exact setting.tab place (here n) h.0
     expr_enters (Variable x) place n more fine h = exact setting.tab place (here n) h.0
@@ -101,7 +101,7 @@ module _ (setting : Setting) where
         expr_enters d place n ((expr_shapes here (n + 1) e ++ Some (here (n + 1 + 1)) ∷ []) ++ more) fine.0
         (subst (λ ss. StandsAt setting.tab place ss) (append_assoc (expr_shapes here n d) (expr_shapes here (n + 1) e ++ Some (here (n + 1 + 1)) ∷ []) more) h)
 
-    -- an expression leaves one operand more
+    -- the code of an expression is well formed, and leaves one more operand
     pub expr_fits : (e : Expr) (line place n : ℕ) → ExprFine locals taken e → StandsAt setting.tab place (expr_shapes here n e)
         → FlowsInto (table setting) (place + length (expr_code setting.marks locals line e)) (here (n + 1))
         → AllFit setting place (expr_shapes here n e) (expr_code setting.marks locals line e)
@@ -166,7 +166,7 @@ module _ (setting : Setting) where
           tt,
         ))
 
-    -- an expression and an instruction on its value
+    -- an expression and the instruction that uses its value are well formed
     pub valued_fits : (e : Expr) (line place : ℕ) (i : Instr) → ExprFine locals taken e
         → StandsAt setting.tab place (expr_shapes here 0 e ++ Some (here 1) ∷ [])
         → FitsAt setting (place + length (expr_code setting.marks locals line e)) (Some (here 1)) i
@@ -178,13 +178,13 @@ module _ (setting : Setting) where
         both_fit setting place ss (Some (here 1) ∷ []) ce (i ∷ []) (expr_fits e line place 0 fine
         (stands_front setting.tab place ss (Some (here 1) ∷ []) stands) (exact setting.tab (place + length ce) (here 1) top.0)) (last, tt)
 
-    -- the first place of an expression before an instruction on its value
+    -- the first place of an expression followed by the instruction that uses its value
     pub valued_enters : (e : Expr) (place : ℕ) (more : Shapes) → ExprFine locals taken e
         → StandsAt setting.tab place ((expr_shapes here 0 e ++ Some (here 1) ∷ []) ++ more) → FlowsInto (table setting) place (here 0)
     valued_enters e place more fine h = expr_enters e place 0 (Some (here 1) ∷ [] ++ more) fine
         (subst (λ ss. StandsAt setting.tab place ss) (append_assoc (expr_shapes here 0 e) (Some (here 1) ∷ []) more) h)
 
-    -- the first place of arguments, or the place behind where they are none, takes what comes to it
+    -- the first place of arguments accepts the shape before it; without arguments the place after them accepts it
     pub args_enters : (ps : List Param) (es : List Expr) (line place n : ℕ) (more : Shapes) → ArgsFine setting.marks locals taken ps es
         → StandsAt setting.tab place (args_shapes here n ps es ++ more) → FlowsInto (table setting)
         (place + length (args_code setting.marks locals line ps es)) (here (args_after n ps es)) → FlowsInto (table setting) place (here n)
@@ -205,7 +205,7 @@ module _ (setting : Setting) where
         one rest false fine' h k = expr_enters e place n (args_shapes here (n + 1) ps es ++ more) fine'.0
             (subst (λ ss. StandsAt setting.tab place ss) (append_assoc (expr_shapes here n e) (args_shapes here (n + 1) ps es) more) h)
 
-    -- arguments leave an operand for each integer
+    -- the code of arguments is well formed, and leaves one operand for each integer
     pub args_fit : (ps : List Param) (es : List Expr) (line place n : ℕ) → ArgsFine setting.marks locals taken ps es
         → StandsAt setting.tab place (args_shapes here n ps es) → FlowsInto (table setting)
         (place + length (args_code setting.marks locals line ps es)) (here (args_after n ps es))
@@ -243,7 +243,7 @@ module _ (setting : Setting) where
             (subst (λ ss'. StandsAt setting.tab (place + length ce) ss') (sym (append-nil more)) second) leads'))
             (rest (place + length ce) (n + 1) second leads'))
 
-    -- arguments and an instruction that takes them
+    -- arguments and the instruction that takes them are well formed
     pub given_fits : (ps : List Param) (es : List Expr) (line place : ℕ) (i : Instr) (next : Shape) → ArgsFine setting.marks locals taken ps es
         → StandsAt setting.tab place (args_shapes here 0 ps es ++ Some (here (args_after 0 ps es)) ∷ []) →
         (FlowsInto (table setting) (place + length (args_code setting.marks locals line ps es) + 1) next

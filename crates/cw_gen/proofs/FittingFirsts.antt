@@ -1,4 +1,4 @@
--- The first place of a statement takes what comes to it.
+-- The first place of a statement accepts the shape before it.
 use Rattle.std.proofs.Common.{◌≡◌, ℕ, ◌+◌, List, [], ◌∷◌, ◌++◌, length, false, Some, None, refl, sym, ap, ◌∙◌, subst, arith, append_assoc, length-append}
 use Rattle.cw_model.specs.Syntax.{Expr, Stmt, Declare, DeclareArray, Assign, AssignElement, Reduce, Call, Start, Begin, Sync, If}
 use Rattle.cw_model.specs.Syntax.{IfElse, While, Scope, Cut, Region, Print, Return, Block, End, Then, Param}
@@ -19,7 +19,7 @@ use Rattle.cw_gen.proofs.Settings.{Setting, StandsAt, stands_back, exact, takes_
 use Rattle.cw_gen.proofs.FittingExprs.{expr_enters, valued_enters, args_enters}
 
 module _ (setting : Setting) where
-  -- there is a slot for what a statement declares
+  -- there is a slot for each name that a statement declares
   pub room_after : (returns : Returns) (level : ℕ) (locals : Locals) (taken : Taken) (s : Stmt)
       → StmtFine setting.fs setting.lists (tables setting) setting.marks (size setting) returns level locals taken s → HasRoom setting locals
       → HasRoom setting (locals_after locals s)
@@ -27,7 +27,7 @@ module _ (setting : Setting) where
   room_after returns level locals taken (DeclareArray x e) fine room = (room.0, omega (arith, fine.0, length-append locals.arrays (x ∷ [])))
   room_after returns level locals taken _ fine room = room
 
-  -- arguments and the instruction of their call
+  -- arguments and the call instruction
   args_enter_call : (opened : Opened) (locals : Locals) (taken : Taken) (ps : List Param) (es : List Expr) (place : ℕ) (more : Shapes)
       → HasRoom setting locals → CutsOpen setting.marks opened locals taken → ArgsFine setting.marks locals taken ps es →
       StandsAt setting.tab place ((args_shapes (made setting opened locals taken) 0 ps es
@@ -42,7 +42,7 @@ module _ (setting : Setting) where
       let end = (stands_back setting.tab place n ss (last ++ more) count h').0 in
       args_enters setting opened locals taken room cuts ps es 1 place 0 (last ++ more) fine h' (exact setting.tab (place + n) shape end)
 
-  -- the first place of a statement takes what comes to it
+  -- the first place of a statement accepts the shape before it
   pub stmt_enters : (returns : Returns) (level : ℕ) (opened : Opened) (locals : Locals) (taken : Taken) (s : Stmt) (place : ℕ) (more : Shapes)
       → level ≡ depth_in opened → HasRoom setting locals → CutsOpen setting.marks opened locals taken
       → StmtFine setting.fs setting.lists (tables setting) setting.marks (size setting) returns level locals taken s
@@ -91,7 +91,7 @@ module _ (setting : Setting) where
       returned Alone fine' = absurd fine'
   stmt_enters returns level opened locals taken _ place more at room cuts fine h = absurd fine
 
-  -- so does that of a block, or the place behind an empty one
+  -- the first place of a block, or the place after an empty block, accepts the shape before it
   pub block_enters : (returns : Returns) (level : ℕ) (opened : Opened) (locals : Locals) (taken : Taken) (b : Block) (place : ℕ)
       → level ≡ depth_in opened → HasRoom setting locals → CutsOpen setting.marks opened locals taken
       → BlockFine setting.fs setting.lists (tables setting) setting.marks (size setting) returns level locals taken b
@@ -104,7 +104,7 @@ module _ (setting : Setting) where
       stmt_enters returns level opened locals taken s place (block_shapes setting.fs (size setting) opened (locals_after locals s)
       (held_after setting.fs (depth_in opened) s taken) b) at room cuts fine.0 h
 
-  -- cuts stay open where a statement goes on
+  -- cuts stay open after a statement that does not return
   pub cuts_behind : (returns : Returns) (level : ℕ) (opened : Opened) (locals : Locals) (taken : Taken) (s : Stmt) → level ≡ depth_in opened
       → Returning returns opened setting.f.gives_int → StmtFine setting.fs setting.lists (tables setting) setting.marks
       (size setting) returns level locals taken s → CutsOpen setting.marks opened locals taken

@@ -1,4 +1,4 @@
--- The call of a loop's function on one half of its range fits.
+-- The call of a loop's function on one half of its range is well formed.
 use Rattle.std.proofs.Common.{◌≡◌, ℕ, ◌+◌, ◌-◌, List, [], ◌∷◌, length, true, ◌&&◌, Some, sym, ap, ◌∙◌, subst, arith}
 use Rattle.std.specs.Prelude.{slice_get}
 use Rattle.cw_facts.specs.Tests.{both_true}
@@ -26,7 +26,7 @@ use Rattle.cw_gen.proofs.Settings.{Setting, takes_less, tables, first, table, si
 use Rattle.cw_gen.proofs.FittingCalls.{as_many_args, slots_full, slots_thawed, passed_named, none_lent, arguments_there, spawned, spawn_keeps, spawn_covers, spawn_covers_frozen, spawn_covers_outside}
 
 module _ (setting : Setting) where
-  -- the instruction of a call on a half
+  -- the instruction of a call on a half is well formed
   pub half_fits : (opened : Opened) (locals : Locals) (taken : Taken) → HasRoom setting locals → CutsOpen setting.marks opened locals taken
       → (kind : CallKind) (name : Name) (es : List Expr) (place : ℕ) →
       StmtFine setting.fs setting.lists (tables setting) setting.marks (size setting) Nowhere (depth_in opened) locals taken (Start kind name es) →

@@ -1,4 +1,5 @@
--- The parts of statements fit: jumps, blocks, returns, and an expression with an instruction on its value.
+-- The parts of statements are well formed: jumps, blocks, returns, and an expression with the instruction that uses its
+-- value.
 use Rattle.std.proofs.Common.{◌≡◌, ℕ, suc, ◌+◌, ◌-◌, List, [], ◌∷◌, ◌++◌, length, Bool, true, false, nat_lt, Some, None, refl, sym, ap, ◌∙◌, subst, arith, length-append}
 use Rattle.std.specs.Prelude.{nat_le}
 use Rattle.std.proofs.lemmas.List.{length-map}
@@ -31,12 +32,12 @@ use Rattle.cw_gen.proofs.FittingFirsts.{block_enters}
 pub index_there : (ks names : List Name) (x : Name) → ks ≡ names → IsListed names x → nat_lt (slot_of x names) (length ks) ≡ true
 index_there ks names x e h = below (slot_of x names) (length ks) (omega (arith, slice_get_within names (slot_of x names) x h, ap length e))
 
--- so has a reducer
+-- a listed reducer has an index
 pub reducer_there : (ks : List Reducer) (names : List Name) (x : Name) → reducer_names ks ≡ names → IsListed names x → nat_lt (slot_of x names) (length ks) ≡ true
 reducer_there ks names x e h = below (slot_of x names) (length ks) (omega (arith, slice_get_within names (slot_of x names) x h, ap length e, length-map ks (λ r. r.name)))
 
 module _ (setting : Setting) where
-  -- the jump over the second branch
+  -- the jump over the second branch is well formed
   pub jump_fits : (returns : Bool) (place n : ℕ) (shape next : Shape) → FlowsInto (table setting) (place + 1) next
       → (returns ≡ false → FlowsInto (table setting) (place + 1 + n) shape) → distance n ≡ n → (r : Bool) → r ≡ returns
       → FitsAt setting place (reached returns shape) (instr.Skip (past r n))
@@ -48,13 +49,13 @@ module _ (setting : Setting) where
       let there = subst (λ p. FlowsInto (table setting) p shape) at (leads refl) in
       (lies setting (place + 1 + past r n) shape there, refl, (there, tt), refl)
 
-  -- the jump back to a test
+  -- the jump back to a test is well formed
   pub back_fits : (returns : Bool) (place n : ℕ) (shape : Shape) → nat_le (setting.f.start + n) place ≡ true
       → (returns ≡ false → FlowsInto (table setting) (place - n) shape) → FitsAt setting place (reached returns shape) (instr.GoBack n)
   back_fits true place n shape named leads = named
   back_fits false place n shape named leads = (named, refl, (leads refl, tt), refl)
 
-  -- a block between an instruction that opens it and one that closes it
+  -- a block is well formed with the instruction that opens it and the instruction that closes it
   pub inside_fits : (level : ℕ) (opened : Opened) (locals : Locals) (taken : Taken) (b : Block) (kind : BlockKind) (place : ℕ)
       → level ≡ depth_in opened → HasRoom setting locals → CutsOpen setting.marks opened locals taken → names_tag setting.code kind ≡ true
       → BlockFine setting.fs setting.lists (tables setting) setting.marks (size setting) Nowhere (level + 1) locals taken b
@@ -125,26 +126,26 @@ module _ (setting : Setting) where
         refl,
       )
 
-  -- where a return alone may stand
+  -- a return without a value is outside of all blocks, and its function returns no integer
   pub return_place : (returns : Returns) (opened : Opened) (locals : Locals) (taken : Taken) → Returning returns opened setting.f.gives_int
       → ReturnFine returns locals taken None → (opened ≡ []) × (setting.f.gives_int ≡ false)
   return_place Nowhere opened locals taken r fine = absurd fine
   return_place WithInt opened locals taken r fine = absurd fine
   return_place Alone opened locals taken r fine = r
 
-  -- where a return of a value may stand
+  -- a return with a value is outside of all blocks, and its function returns an integer
   pub value_place : (returns : Returns) (opened : Opened) (locals : Locals) (taken : Taken) (e : Expr) → Returning returns opened setting.f.gives_int
       → ReturnFine returns locals taken (Some e) → (opened ≡ []) × (setting.f.gives_int ≡ true) × ExprFine locals taken e
   value_place Nowhere opened locals taken e r fine = absurd fine
   value_place WithInt opened locals taken e r fine = (r.0, r.1, fine)
   value_place Alone opened locals taken e r fine = absurd fine
 
-  -- outside every block no block is open
+  -- outside of all blocks no block is open
   pub none_round : (opened : Opened) (locals : Locals) (taken : Taken) → opened ≡ [] → none_open (outers (size setting) opened locals taken) ≡ true
   none_round [] locals taken e = refl
   none_round (c ∷ opened) locals taken e = cc
 
-  -- an expression and the store of its value
+  -- an expression and the store of its value are well formed
   pub store_fits : (opened : Opened) (locals locals' : Locals) (taken : Taken) → HasRoom setting locals → CutsOpen setting.marks opened locals taken
       → (e : Expr) (line place a : ℕ) → nat_lt a (size setting).ints ≡ true → has_slot (made setting opened locals taken 1) a ≡ true
       → ExprFine locals taken e → StandsAt setting.tab place (expr_shapes (made setting opened locals taken) 0 e ++ Some (made setting opened locals taken 1) ∷ []) →
@@ -165,7 +166,7 @@ module _ (setting : Setting) where
         refl,
       )
 
-  -- an expression and an instruction that takes its value
+  -- an expression and the instruction that takes its value are well formed
   pub tell_fits : (opened : Opened) (locals : Locals) (taken : Taken) → HasRoom setting locals → CutsOpen setting.marks opened locals taken
       → (e : Expr) (line place : ℕ) (i : Instr) → ExprFine locals taken e
       → StandsAt setting.tab place (expr_shapes (made setting opened locals taken) 0 e ++ Some (made setting opened locals taken 1) ∷ []) →

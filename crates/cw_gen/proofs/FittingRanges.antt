@@ -1,4 +1,5 @@
--- The first call of a loop's function fits: the ends of its range, the integers that it takes along, and its instruction.
+-- The first call of a loop's function is well formed: the ends of its range, the captured integers, and its
+-- instruction.
 use Rattle.std.proofs.Common.{◌≡◌, ℕ, ◌+◌, ◌-◌, List, [], ◌∷◌, ◌++◌, length, true, ◌&&◌, Some, refl, sym, ap, ◌∙◌, subst, arith, length-append}
 use Rattle.std.specs.Prelude.{slice_get, map, nat_le}
 use Rattle.cw_facts.specs.Tests.{both_true, at_most}
@@ -25,7 +26,7 @@ use Rattle.cw_gen.proofs.Settings.{Setting, StandsAt, stands_front, stands_back,
 use Rattle.cw_gen.proofs.FittingExprs.{slot_is_there, expr_enters, expr_fits}
 use Rattle.cw_gen.proofs.FittingCalls.{slots_full, slots_thawed, passed_named, none_lent}
 
--- as many operands as were there, and one for each integer
+-- the number of operands after the captured integers are loaded
 loads_many : (n : ℕ) (xs : List Name) → loads_after n xs ≡ n + length xs
 loads_many n [] = omega arith
 loads_many n (x ∷ xs) = loads_many (n + 1) xs ∙ one
@@ -34,7 +35,7 @@ loads_many n (x ∷ xs) = loads_many (n + 1) xs ∙ one
     one = omega arith
 
 module _ (setting : Setting) (opened : Opened) (locals : Locals) (taken : Taken) (room : HasRoom setting locals) (cuts : CutsOpen setting.marks opened locals taken) where
-  -- a place of the statement with so many operands
+  -- the shape in this statement with `n` operands
   abbrev here : ℕ → Shape
   here n = made setting opened locals taken n
 
@@ -42,13 +43,13 @@ module _ (setting : Setting) (opened : Opened) (locals : Locals) (taken : Taken)
   abbrev loads_code : List Name → List Instr
   loads_code xs = emitted_loads (map (λ x. slot_of x locals.ints) xs)
 
-  -- the first place of the loads takes what comes to it
+  -- the first place of the loads accepts the shape before it
   loads_enter : (xs : List Name) (place n : ℕ) (more : Shapes) → StandsAt setting.tab place (loads_shapes here n xs ++ more)
       → FlowsInto (table setting) (place + length (loads_code xs)) (here (loads_after n xs)) → FlowsInto (table setting) place (here n)
   loads_enter [] place n more stands leads = let e : place + 0 ≡ place = omega arith in subst (λ p. FlowsInto (table setting) p (here n)) e leads
   loads_enter (x ∷ xs) place n more stands leads = exact setting.tab place (here n) stands.0
 
-  -- the loads fit
+  -- the loads of captured integers are well formed
   loads_fit : (xs : List Name) (place n : ℕ) → AllUsable locals.ints taken xs → StandsAt setting.tab place (loads_shapes here n xs)
       → FlowsInto (table setting) (place + length (loads_code xs)) (here (loads_after n xs)) → AllFit setting place (loads_shapes here n xs) (loads_code xs)
   loads_fit [] place n us stands leads = tt
@@ -66,7 +67,7 @@ module _ (setting : Setting) (opened : Opened) (locals : Locals) (taken : Taken)
         loads_fit xs (place + 1) (n + 1) us.1 more leads',
       )
 
-  -- the instruction of a first call
+  -- the instruction of a first call is well formed
   begin_fits : (name : Name) (from to : Expr) (captured over : List Name) (line place : ℕ)
       → StmtFine setting.fs setting.lists (tables setting) setting.marks (size setting) Nowhere (depth_in opened) locals taken
       (Begin name from to captured over) → FlowsInto (table setting) (place + 1) (here 0) →
@@ -97,7 +98,7 @@ module _ (setting : Setting) (opened : Opened) (locals : Locals) (taken : Taken)
         ap (none_frozen rows) passed ∙ slots_thawed setting opened locals taken room cuts over us,
       )
 
-  -- a first call with what it is given
+  -- a first call with its arguments is well formed
   pub range_fits : (name : Name) (from to : Expr) (captured over : List Name) (line place : ℕ)
       → StmtFine setting.fs setting.lists (tables setting) setting.marks (size setting) Nowhere (depth_in opened) locals taken
       (Begin name from to captured over) → StandsAt setting.tab place (range_shapes here from to captured) →

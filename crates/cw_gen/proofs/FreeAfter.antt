@@ -1,4 +1,5 @@
--- After a statement a lowered function holds no more than its source, where it was so before.
+-- If a lowered function holds at most the names that its source holds before a statement, it does so after the
+-- statement.
 use Rattle.cw_model.specs.declared.syntax.NameKind.TheVariants as name_kind
 use Rattle.std.proofs.Common.{◌≡◌, ℕ, ◌+◌, List, [], ◌∷◌, ◌++◌, true, sym, ap, ◌∙◌, subst, arith}
 use Rattle.std.specs.Prelude.{not, ◌&&◌, ◌||◌, Option}
@@ -29,19 +30,19 @@ use Rattle.cw_gen.proofs.FreeStays.{for_keeps}
 use Rattle.cw_gen.proofs.FreeCarried.{deeper, AllCarried, carried_in, deeper_all, inside_more, inside_outer, freed_carried, left_carried, goes_carried, both_carried}
 use Rattle.cw_gen.proofs.FreeCarried.{cut_carried, ended_carried, spawned_carried, frozen_carried, more_carried, call_plain, lent_call_plain, then_names, part_names}
 
--- where a lowered block goes on
+-- a lowered block returns exactly where its source does
 goes_same : (over : List Name) (k : ℕ) (b : Block) (held : Taken) →
     where_it_goes_on (block_returns (lower_block over k b)) (without (own_names (lower_block over k b)) held) ≡ where_it_goes_on (block_returns b) (without (own_names b) held)
 goes_same over k b held =
     ap (λ r. where_it_goes_on r (without (own_names (lower_block over k b)) held)) (returns_same over b k) ∙ ap (λ o. where_it_goes_on (block_returns b) (without o held)) (own_same over b k)
 
--- the same arrays are given to a call, source and lowered
+-- the source and the lowered text give the same arrays to a call
 pub call_same : (fs gs : List Function) (over : List Name) (known : Known) (target : Option Name) (f : Name) (es : List Expr)
     → (function_named f gs).params ≡ (function_named f fs).params → CallKept fs known target f es →
     given gs f (lower_exprs over es) ≡ given fs f es
 call_same fs gs over known target f es e k = ap (λ ps. arrays_given ps (lower_exprs over es)) e ∙ given_same over known (function_named f fs).params es k.arguments
 
--- and the same are only read
+-- the source and the lowered text lend the same arrays to a call
 pub lent_call_same : (fs gs : List Function) (over : List Name) (known : Known) (target : Option Name) (f : Name) (es : List Expr)
     → (function_named f gs).params ≡ (function_named f fs).params → CallKept fs known target f es →
     lent gs f (lower_exprs over es) ≡ lent fs f es
@@ -62,7 +63,7 @@ module _ (program : Program) (least : WhilesAreLeast) (gs : List Function) (same
       → owner_faults_in program.functions around owners source closing taken declared b ≡ [] → AllCarried shift depth owners held taken →
       AllCarried shift depth (own_names b ++ owners) (held_after_all gs depth (lower_block over k b) held) (taken_after_all program.functions source b taken)
 
-  -- the block of a branch or of a turn
+  -- names stay carried after the block of a branch or of an iteration
   branch_carries : (b : Block) → BlockCarries b → (over : List Name) (k : ℕ) (known : Known) (owners : List Name) (around : Around)
       → SameKnown known owners → (returns : Returns) (depth source shift : ℕ) → source ≡ depth + shift → (held taken : Taken) →
       is_source_block b ≡ true → faults_in_block program returns known b ≡ []
@@ -77,7 +78,7 @@ module _ (program : Program) (least : WhilesAreLeast) (gs : List Function) (same
       (taken_after_all program.functions source b taken) (more over k known owners around same returns depth source shift e Leaves held taken
       [] src types owns all))
 
-  -- the block of a scope
+  -- names stay carried after the block of a scope
   scope_carries : (b : Block) → BlockCarries b → (over : List Name) (k : ℕ) (known : Known) (owners : List Name) (around : Around)
       → SameKnown known owners → (depth source shift : ℕ) → source ≡ depth + shift → (held taken : Taken) →
       is_source_block b ≡ true → faults_in_block program Nowhere known b ≡ []
@@ -174,7 +175,7 @@ module _ (program : Program) (least : WhilesAreLeast) (gs : List Function) (same
       (sym (call_same program.functions gs over known target f es (same_params f t.0) c)) reading)
 
   mutual
-    -- after a statement
+    -- names stay carried after a statement
     pub stmt_carries : (s : Stmt) → StmtCarries s
     stmt_carries (Declare x e') over k known owners around same returns line depth source shift e held taken src types owns all =
         more_carried shift depth owners (x ∷ owners) held taken (λ y o. later_among y x owners o) all
@@ -223,7 +224,7 @@ module _ (program : Program) (least : WhilesAreLeast) (gs : List Function) (same
     stmt_carries (Print e') over k known owners around same returns line depth source shift e held taken src types owns all = all
     stmt_carries (Return e') over k known owners around same returns line depth source shift e held taken src types owns all = freed_carried shift depth source owners held taken e all
 
-    -- after a block, its own names beside the owners'
+    -- names stay carried after a block, whose names join the names of its owners
     pub block_carries : (b : Block) → BlockCarries b
     block_carries End over k known owners around same returns depth source shift e closing held taken declared src types owns all = all
     block_carries (Then line s b) over k known owners around same returns depth source shift e closing held taken declared src types owns all =

@@ -1,4 +1,5 @@
--- What a lowered function holds taken, its source holds taken where it stands: a spawn at a depth is one as much deeper.
+-- Each name that a lowered function holds, its source holds at the corresponding statement; depths of spawns differ by
+-- a constant.
 use Rattle.std.proofs.Common.{◌≡◌, ℕ, ◌+◌, ◌≤◌, ◌==◌, List, [], ◌∷◌, ◌++◌, Bool, true, false, refl, sym, ap, ◌∙◌, inl, inr, subst, true≢false, arith}
 use Rattle.std.specs.Prelude.{map, not, if◌then◌else◌, Option, Some, None}
 use Rattle.std.specs.List.{list_all}
@@ -20,30 +21,30 @@ use Rattle.cw_loops.specs.lemmas.Naming.{Placed, at_front, after_it, placed, Sid
 use Rattle.cw_loops.specs.lemmas.Seeing.{SameKnown, CallKept}
 use Rattle.cw_gen.proofs.FreeMembers.{In, in_append, in_left, in_right, in_filter, in_kept, in_taken, not_in, in_held, not_held, by_holder, holder_has, Outer, either_way}
 
--- a holder as much deeper
+-- a holder whose depth is increased by `shift`
 abbrev pub deeper : ℕ → Holder → Holder
 deeper shift (SpawnIn d) = SpawnIn (d + shift)
 deeper shift (ReaderIn d) = ReaderIn (d + shift)
 deeper shift CutOf = CutOf
 
--- no deeper than this
+-- the depth of the holder is at most `depth`
 abbrev pub Inside : ℕ → Holder → Type 0
 Inside depth (SpawnIn d) = d ≤ depth
 Inside depth (ReaderIn d) = d ≤ depth
 Inside depth CutOf = Unit {0}
 
--- the source holds it too, and it is a plain name of its owners
+-- the source also holds the name, and it is a plain name of its owners
 pub record Carried (shift depth : ℕ) (names : List Name) (taken : Taken) (t : Name × Holder) : Type 0 where
   pub there : In (t.0, deeper shift t.1) taken
   pub plain : is_plain t.0 ≡ true
   pub named : is_among t.0 names ≡ true
   pub inside : Inside depth t.1
 
--- so is each that is held
+-- each held name is carried
 abbrev pub AllCarried : (shift depth : ℕ) → (names : List Name) → (held taken : Taken) → Type 0
 AllCarried shift depth names held taken = (t : Name × Holder) → In t held → Carried shift depth names taken t
 
--- where more is taken
+-- a carried name stays carried if more is held
 pub carried_in : (shift depth : ℕ) (names : List Name) (taken after : Taken) (t : Name × Holder) → Carried shift depth names taken t
     → (In (t.0, deeper shift t.1) taken → In (t.0, deeper shift t.1) after) → Carried shift depth names after t
 carried_in shift depth names taken after t c f = record { there = f c.there; plain = c.plain; named = c.named; inside = c.inside }
@@ -52,13 +53,13 @@ renamed : (shift depth : ℕ) (names others : List Name) (taken : Taken) (t : Na
     → Carried shift depth names taken t → Carried shift depth others taken t
 renamed shift depth names others taken t f c = record { there = c.there; plain = c.plain; named = f c.named; inside = c.inside }
 
--- no deeper than a depth, nor than the next
+-- the bound on the depth may be increased
 pub inside_more : (depth : ℕ) (k : Holder) → Inside depth k → Inside (depth + 1) k
 inside_more depth (SpawnIn d) h = omega (arith, h)
 inside_more depth (ReaderIn d) h = omega (arith, h)
 inside_more depth CutOf h = tt
 
--- what is carried at a depth is carried one deeper
+-- names carried at a depth are carried one level deeper
 pub deeper_all : (shift depth : ℕ) (names : List Name) (held taken : Taken) → AllCarried shift depth names held taken → AllCarried shift (depth + 1) names held taken
 deeper_all shift depth names held taken all t h = let c = all t h in record { there = c.there; plain = c.plain; named = c.named; inside = inside_more depth t.1 c.inside }
 
@@ -77,13 +78,13 @@ inside_less depth (SpawnIn d) n h = not_last d depth n h
 inside_less depth (ReaderIn d) n h = not_last d depth n h
 inside_less depth CutOf n h = tt
 
--- outside the body of a loop in the source
+-- the holder is outside of the body of a loop in the source
 pub inside_outer : (shift depth source : ℕ) (k : Holder) → source ≡ depth + shift → Inside depth k → Outer (source + 1) (deeper shift k)
 inside_outer shift depth source (SpawnIn d) e h = omega (arith, e, h)
 inside_outer shift depth source (ReaderIn d) e h = omega (arith, e, h)
 inside_outer shift depth source CutOf e h = tt
 
--- a spawn of the lowered block is one of the source's block
+-- a spawn of the lowered block is a spawn of the source block
 moved_not : (shift depth source d : ℕ) → source ≡ depth + shift → (d == depth) ≡ false → (d + shift == source) ≡ false
 moved_not shift depth source d e h = refuted ((d + shift) == source) (λ q. never (d == depth) (eq-eqb d depth (omega (arith, e, eqb-true (d + shift) source q))) h)
 
@@ -97,13 +98,13 @@ cut_moved shift a x (SpawnIn d) = refl
 cut_moved shift a x (ReaderIn d) = refl
 cut_moved shift a x CutOf = refl
 
--- one that only reads is one there
+-- a spawn that only reads does so in both
 pub reader_moved : (shift : ℕ) (k : Holder) → is_reader (deeper shift k) ≡ is_reader k
 reader_moved shift (SpawnIn d) = refl
 reader_moved shift (ReaderIn d) = refl
 reader_moved shift CutOf = refl
 
--- a join on both sides
+-- a join keeps names carried
 pub freed_carried : (shift depth source : ℕ) (names : List Name) (held taken : Taken) → source ≡ depth + shift
     → AllCarried shift depth names held taken → AllCarried shift depth names (freed depth held) (freed source taken)
 freed_carried shift depth source names held taken e all t h =
@@ -112,7 +113,7 @@ freed_carried shift depth source names held taken e all t h =
     (λ i. in_kept (λ u. not (is_spawn_in source u.1)) (t.0, deeper shift t.1) taken i
     (ap not (spawn_moved shift depth source t.1 e (not_true (is_spawn_in depth t.1) one.1))))
 
--- the end of a block's names on both sides
+-- the end of the scope of a block's names keeps names carried
 pub without_carried : (shift depth : ℕ) (own names : List Name) (held taken : Taken) → AllCarried shift depth (own ++ names) held taken
     → AllCarried shift depth names (without own held) (without own taken)
 without_carried shift depth own names held taken all t h =
@@ -120,7 +121,7 @@ without_carried shift depth own names held taken all t h =
     renamed shift depth (own ++ names) names (without own taken) t (among_split t.0 own names (not_true (is_among t.0 own) one.1))
     (carried_in shift depth (own ++ names) taken (without own taken) t (all t one.0) (λ i. in_kept (λ u. not (is_among u.0 own)) (t.0, deeper shift t.1) taken i one.1))
 
--- out of an inner sync block on both sides
+-- the end of an inner sync block keeps names carried
 pub left_carried : (shift depth source : ℕ) (own names : List Name) (held taken : Taken) → source ≡ depth + shift → AllCarried shift (depth + 1) (own ++ names) held taken →
     AllCarried shift depth names (freed (depth + 1) (without own held)) (freed (source + 1) (without own taken))
 left_carried shift depth source own names held taken e all t h =
@@ -128,33 +129,33 @@ left_carried shift depth source own names held taken e all t h =
     let one = in_filter (λ u. not (is_spawn_in (depth + 1) u.1)) t (without own held) h in
     record { there = c.there; plain = c.plain; named = c.named; inside = inside_less depth t.1 (not_true (is_spawn_in (depth + 1) t.1) one.1) c.inside }
 
--- where a block goes on, on both sides
+-- the end of a block that does not return keeps names carried
 pub goes_carried : (shift depth : ℕ) (returns : Bool) (own names : List Name) (held taken : Taken) → AllCarried shift depth (own ++ names) held taken →
     AllCarried shift depth names (where_it_goes_on returns (without own held)) (where_it_goes_on returns (without own taken))
 goes_carried shift depth true own names held taken all t h = absurd h
 goes_carried shift depth false own names held taken all t h = without_carried shift depth own names held taken all t h
 
--- of what is taken in two parts
+-- names that are held in two parts are carried if both parts are
 pub both_carried : (shift depth : ℕ) (names : List Name) (held held' taken taken' : Taken) → AllCarried shift depth names held taken
     → AllCarried shift depth names held' taken' → AllCarried shift depth names (held ++ held') (taken ++ taken')
 both_carried shift depth names held held' taken taken' all all' t h =
     either_way (in_append t held held' h) (λ i. carried_in shift depth names taken (taken ++ taken') t (all t i) (in_left (t.0, deeper shift t.1) taken taken'))
     (λ i. carried_in shift depth names taken' (taken ++ taken') t (all' t i) (in_right (t.0, deeper shift t.1) taken taken'))
 
--- one more cut on both sides
+-- a further cut in both keeps names carried
 pub cut_carried : (shift depth : ℕ) (names : List Name) (a : Name) (held taken : Taken) → is_plain a ≡ true → is_among a names ≡ true
     → AllCarried shift depth names held taken → AllCarried shift depth names ((a, CutOf) ∷ held) ((a, CutOf) ∷ taken)
 cut_carried shift depth names a held taken plain named all t (inl e) = subst (Carried shift depth names ((a, CutOf) ∷ taken)) e (record { there = inl refl; plain = plain; named = named; inside = tt })
 cut_carried shift depth names a held taken plain named all t (inr h) = carried_in shift depth names taken ((a, CutOf) ∷ taken) t (all t h) (λ i. inr i)
 
--- the end of a cut on both sides
+-- the end of a cut in both keeps names carried
 pub ended_carried : (shift depth : ℕ) (names : List Name) (a : Name) (held taken : Taken) → AllCarried shift depth names held taken
     → AllCarried shift depth names (cut_ended a held) (cut_ended a taken)
 ended_carried shift depth names a held taken all t h =
     let one = in_filter (λ u. not (is_cut_of a u)) t held h in
     carried_in shift depth names taken (cut_ended a taken) t (all t one.0) (λ i. in_kept (λ u. not (is_cut_of a u)) (t.0, deeper shift t.1) taken i (ap not (cut_moved shift a t.0 t.1) ∙ one.1))
 
--- names with one holder on both sides
+-- names with the same holder in both are carried
 added_carried : (shift depth : ℕ) (k : Holder) (names xs : List Name) (held taken : Taken) → Inside depth k
     → ((x : Name) → is_among x xs ≡ true → (is_plain x ≡ true) × (is_among x names ≡ true)) → AllCarried shift depth names held taken →
     AllCarried shift depth names (map (λ x. (x, k)) xs ++ held) (map (λ x. (x, deeper shift k)) xs ++ taken)
@@ -175,49 +176,49 @@ added_carried shift depth k names xs held taken inside fine all =
 here_inside : (depth : ℕ) → depth ≤ depth
 here_inside depth = omega arith
 
--- a spawn on both sides
+-- a spawn in both keeps names carried
 pub spawned_carried : (shift depth source : ℕ) (names xs : List Name) (held taken : Taken) → source ≡ depth + shift
     → ((x : Name) → is_among x xs ≡ true → (is_plain x ≡ true) × (is_among x names ≡ true)) → AllCarried shift depth names held taken →
     AllCarried shift depth names (taken_by depth xs held) (taken_by source xs taken)
 spawned_carried shift depth source names xs held taken e fine all =
     subst (λ d. AllCarried shift depth names (taken_by depth xs held) (taken_by d xs taken)) (sym e) (added_carried shift depth (SpawnIn depth) names xs held taken (here_inside depth) fine all)
 
--- and what it only reads
+-- the arrays that a spawn only reads in both keep names carried
 pub frozen_carried : (shift depth source : ℕ) (names xs : List Name) (held taken : Taken) → source ≡ depth + shift
     → ((x : Name) → is_among x xs ≡ true → (is_plain x ≡ true) × (is_among x names ≡ true)) → AllCarried shift depth names held taken →
     AllCarried shift depth names (frozen_by depth xs held) (frozen_by source xs taken)
 frozen_carried shift depth source names xs held taken e fine all =
     subst (λ d. AllCarried shift depth names (frozen_by depth xs held) (frozen_by d xs taken)) (sym e) (added_carried shift depth (ReaderIn depth) names xs held taken (here_inside depth) fine all)
 
--- what is free in the source is free in the lowered function
+-- a name that is free in the source is free in the lowered function
 pub free_carried : (shift depth : ℕ) (names : List Name) (held taken : Taken) → AllCarried shift depth names held taken → (x : Name) → is_taken taken x ≡ false → is_taken held x ≡ false
 free_carried shift depth names held taken all x free =
     not_in x held (λ k h loud. true≢false (sym (in_taken (x, deeper shift k) taken (all (x, k) h).there (reader_moved shift k ∙ loud)) ∙ free))
 
--- what nothing holds in the source nothing holds there
+-- a name that is not held in the source is not held in the lowered function
 pub loose_carried : (shift depth : ℕ) (names : List Name) (held taken : Taken) → AllCarried shift depth names held taken → (x : Name) → is_held taken x ≡ false → is_held held x ≡ false
 loose_carried shift depth names held taken all x loose = not_held x held (λ k h. true≢false (sym (in_held (x, deeper shift k) taken (all (x, k) h).there) ∙ loose))
 
--- nothing holds what is not plain
+-- no name that is not plain is held
 pub plain_carried : (shift depth : ℕ) (names : List Name) (held taken : Taken) → AllCarried shift depth names held taken → (x : Name) → is_plain x ≡ false → is_held held x ≡ false
 plain_carried shift depth names held taken all x other = not_held x held (λ k h. true≢false (sym (all (x, k) h).plain ∙ other))
 
--- nor what its owners do not have
+-- no name that is not a name of the owners is held
 pub named_carried : (shift depth : ℕ) (names : List Name) (held taken : Taken) → AllCarried shift depth names held taken → (x : Name) → is_among x names ≡ false → is_held held x ≡ false
 named_carried shift depth names held taken all x other = not_held x held (λ k h. true≢false (sym (all (x, k) h).named ∙ other))
 
--- the end of a block on both sides
+-- the end of a block in both keeps names carried
 pub end_carried : (shift depth source : ℕ) (names : List Name) (closing : Closing) (held taken : Taken) → source ≡ depth + shift
     → AllCarried shift depth names held taken → AllCarried shift depth names (at_end closing depth held) (at_end closing source taken)
 end_carried shift depth source names Joins held taken e all = freed_carried shift depth source names held taken e all
 end_carried shift depth source names Leaves held taken e all = all
 
--- where the owners have more names
+-- names stay carried if the owners have more names
 pub more_carried : (shift depth : ℕ) (names others : List Name) (held taken : Taken)
     → ((x : Name) → is_among x names ≡ true → is_among x others ≡ true) → AllCarried shift depth names held taken → AllCarried shift depth others held taken
 more_carried shift depth names others held taken f all t h = renamed shift depth names others taken t (f t.0) (all t h)
 
--- what a call gives, or lends, is plain and known
+-- the arrays that a call gives away or lends are plain and known
 
 one_plain : (known : Known) (a : Name) → is_array known a ≡ true → is_plain a ≡ true → (x : Name) → is_among x (a ∷ []) ≡ true → (is_plain x ≡ true) × (is_array known x ≡ true)
 one_plain known a h s x o = go (placed x a [] o)
@@ -275,7 +276,7 @@ target_plain known f (Some y) h s x o = go (placed x y [] o)
     go (at_front same) = (ap is_plain same ∙ s, ap (is_int known) same ∙ (and_parts (is_int known y) f.gives_int h).0)
     go (after_it other p) = absurd cc
 
--- the names of a call
+-- the names that a call takes are plain and known
 pub call_plain : (fs : List Function) (known : Known) (owners : List Name) → SameKnown known owners
     → (target : Option Name) (f : Name) (es : List Expr) → CallKept fs known target f es → is_source_target target ≡ true → list_all is_source_expr es ≡ true →
     (x : Name) → is_among x (target_names target ++ given fs f es) ≡ true → (is_plain x ≡ true) × (is_among x owners ≡ true)
@@ -285,7 +286,7 @@ call_plain fs known owners same target f es k st se x o = go (side x (target_nam
     go (in_first p) = let r = target_plain known (function_named f fs) target k.target_fine st x p in (r.0, same x ∙ either_left (is_int known x) (is_array known x) r.1)
     go (in_second p) = let r = arrays_plain known (function_named f fs).params es k.arguments se x p in (r.0, same x ∙ either_right (is_int known x) (is_array known x) r.1)
 
--- the arrays that it only reads
+-- the arrays that a call only reads are plain and known
 pub lent_call_plain : (fs : List Function) (known : Known) (owners : List Name) → SameKnown known owners
     → (target : Option Name) (f : Name) (es : List Expr) → CallKept fs known target f es → list_all is_source_expr es ≡ true →
     (x : Name) → is_among x (lent fs f es) ≡ true → (is_plain x ≡ true) × (is_among x owners ≡ true)
@@ -293,7 +294,7 @@ lent_call_plain fs known owners same target f es k se x o =
     let r = lent_plain known (function_named f fs).params es k.arguments se x o in
     (r.0, same x ∙ either_right (is_int known x) (is_array known x) r.1)
 
--- names behind those that a statement declares
+-- names after the names that a statement declares
 pub then_names : (s : Stmt) (line : ℕ) (b : Block) (owners : List Name) (x : Name) → is_among x (own_names b ++ known_after owners s) ≡ true → is_among x (own_names (Then line s b) ++ owners) ≡ true
 then_names s line b owners x h = by s (side x (own_names b) (known_after owners s) h)
   where

@@ -1,4 +1,4 @@
--- In the function of a loop nothing that is taken is used, where that holds of its body.
+-- In the function of a loop no taken name is used, if this holds for its body.
 use Rattle.std.proofs.Common.{◌≡◌, ℕ, ◌+◌, List, [], ◌∷◌, ◌++◌, true, false, refl, sym, ap, ◌∙◌, subst, inl, inr, true≢false}
 use Rattle.std.specs.Prelude.{map, not, if◌then◌else◌}
 use Rattle.std.proofs.lemmas.Bool.{and_parts}
@@ -20,18 +20,18 @@ use Rattle.cw_gen.proofs.Kept.{ExprsFree, BlockFree}
 use Rattle.cw_gen.proofs.FreeTexts.{free_all, free_one, loose_all}
 use Rattle.cw_gen.proofs.FreeMembers.{In, in_append, in_filter, in_taken, not_in, in_held, not_held, by_spawn, scope_from, cut_from, free_after, either_way}
 
--- nothing is taken
+-- nothing is held
 abbrev pub Nothing : Taken → Type 0
 Nothing held = (t : Name × Holder) → In t held → ⊥
 
--- then nothing holds a name
+-- if nothing is held, no name is held
 pub nothing_taken : (held : Taken) → Nothing held → (x : Name) → is_held held x ≡ false
 nothing_taken held h x = not_held x held (λ k i. h (x, k) i)
 
 nothing_free : (held : Taken) → Nothing held → (x : Name) → is_taken held x ≡ false
 nothing_free held h x = loose_free x held (nothing_taken held h x)
 
--- each name that is taken is plain
+-- each held name is plain
 abbrev OnlyPlain : Taken → Type 0
 OnlyPlain held = (t : Name × Holder) → In t held → is_plain t.0 ≡ true
 
@@ -41,7 +41,7 @@ hash_loose held h x other = not_held x held (λ k i. true≢false (sym (h (x, k)
 hash_free : (held : Taken) → OnlyPlain held → (x : Name) → is_plain x ≡ false → is_taken held x ≡ false
 hash_free held h x other = loose_free x held (hash_loose held h x other)
 
--- arguments that are names alone
+-- arguments that are names
 
 named_free : (held : Taken) (xs : List Name) → ((x : Name) → is_among x xs ≡ true → is_taken held x ≡ false) → ExprsFree held (variables xs)
 named_free held [] h = tt
@@ -51,7 +51,7 @@ exprs_both : (held : Taken) (es ds : List Expr) → ExprsFree held es → ExprsF
 exprs_both held [] ds h g = g
 exprs_both held (e ∷ es) ds h g = (h.0, exprs_both held es ds h.1 g)
 
--- the arrays that a half is given are the parts of these
+-- the arrays that a call on a half is given are the parts of these
 parts_given : (part : Name → Name) (over : List Name) → arrays_given (array_params over) (variables (map part over)) ≡ map part over
 parts_given part [] = refl
 parts_given part (a ∷ over) = ap (λ l. part a ∷ l) (parts_given part over)
@@ -60,7 +60,7 @@ half_given : (part : Name → Name) (ints over : List Name) → arrays_given (in
 half_given part [] over = parts_given part over
 half_given part (x ∷ ints) over = half_given part ints over
 
--- a part of one of these is a part of one of them alone
+-- a name determines its part: a part is among the parts of names exactly if its name is among the names
 part_among : (part : Name → Name) → ((a b : Name) → same_name (part a) (part b) ≡ same_name a b) → (a : Name) (over : List Name) → is_among (part a) (map part over) ≡ is_among a over
 part_among part same a [] = refl
 part_among part same a (b ∷ over) = ap (λ q. if q then true else is_among (part a) (map part over)) (same a b) ∙ ap (λ q. if same_name a b then true else q) (part_among part same a over)
@@ -71,12 +71,12 @@ parts_differ part same (a ∷ over) h =
     let p = and_parts (not (is_among a over)) (differ over) h in
     both_true (not (is_among (part a) (map part over))) (differ (map part over)) (ap not (part_among part same a over) ∙ p.0) (parts_differ part same over p.1)
 
--- none of the parts
+-- a name that is not a part
 no_part : (part : Name → Name) (x : Name) → ((a : Name) → same_name x (part a) ≡ false) → (over : List Name) → is_among x (map part over) ≡ false
 no_part part x h [] = refl
 no_part part x h (a ∷ over) = ap (λ q. if q then true else is_among x (map part over)) (h a) ∙ no_part part x h over
 
--- a name that is one of the parts begins as generated names do
+-- a part has a generated name
 part_hash : (part : Name → Name) → ((a : Name) → is_plain (part a) ≡ false) → (over : List Name) (x : Name) → is_among x (map part over) ≡ true → is_plain x ≡ false
 part_hash part h [] x o = absurd cc
 part_hash part h (a ∷ over) x o = go (placed x (part a) (map part over) o) (λ p. part_hash part h over x p)
@@ -85,7 +85,7 @@ part_hash part h (a ∷ over) x o = go (placed x (part a) (map part over) o) (λ
     go (at_front same) more = ap is_plain same ∙ h a
     go (after_it other p) more = more p
 
--- a right part is no left part
+-- a right part is not a left part
 right_left : (over all : List Name) (y : Name) → is_among y (map right_part all) ≡ true → is_among y (map left_part over) ≡ false
 right_left over [] y o = absurd cc
 right_left over (a ∷ all) y o = go (placed y (right_part a) (map right_part all) o) (λ p. right_left over all y p)
@@ -94,13 +94,13 @@ right_left over (a ∷ all) y o = go (placed y (right_part a) (map right_part al
     go (at_front same) more = ap (λ z. is_among z (map left_part over)) same ∙ no_part left_part (right_part a) (λ b. refl) over
     go (after_it other p) more = more p
 
--- of names that a spawn took, and of those before
+-- a name that a spawn did not take stays free
 spawn_free : (depth : ℕ) (xs : List Name) (held : Taken) (x : Name) → is_among x xs ≡ false → is_taken held x ≡ false → is_taken (taken_by depth xs held) x ≡ false
 spawn_free depth xs held x n free =
     not_in x (taken_by depth xs held) (λ k i loud. either_way (in_append (x, k) (map (λ y. (y, SpawnIn depth)) xs) held i)
     (λ j. true≢false (sym (by_spawn depth xs (x, k) j).0 ∙ n)) (λ j. true≢false (sym (in_taken (x, k) held j loud) ∙ free)))
 
--- so nothing holds them
+-- a name that a spawn did not take stays not held
 spawn_loose : (depth : ℕ) (xs : List Name) (held : Taken) (x : Name) → is_among x xs ≡ false → is_held held x ≡ false → is_held (taken_by depth xs held) x ≡ false
 spawn_loose depth xs held x n free =
     not_held x (taken_by depth xs held) (λ k i. either_way (in_append (x, k) (map (λ y. (y, SpawnIn depth)) xs) held i)
@@ -110,7 +110,7 @@ module _ (gs : List Function) (name : Name) (line : ℕ) (x : Name) (grain : ℕ
     (ints_plain : (y : Name) → is_among y ints ≡ true → is_plain y ≡ true) (over_plain : (a : Name) → is_among a over ≡ true → is_plain a ≡ true)
     (no_int : (y : Name) → is_among y ints ≡ true → is_among y over ≡ false) (apart : differ over ≡ true)
     (body_free : (held : Taken) → Nothing held → BlockFree gs 2 held body × EndsFree gs 2 Joins held body) where
-  -- the turns of a leaf
+  -- nothing is held after an iteration of a leaf
 
   turn_leaves : (held : Taken) → Nothing held → Nothing (held_after gs 1 (Scope body) held)
   turn_leaves held h t i = h t (scope_from gs 1 body held t i)
@@ -160,7 +160,7 @@ module _ (gs : List Function) (name : Name) (line : ℕ) (x : Name) (grain : ℕ
   rights_given : given gs name rights ≡ map right_part over
   rights_given = ap (λ (f : Function). arrays_given f.params rights) found ∙ half_given right_part ints over
 
-  -- what is taken where arrays are cut: some of these, by cuts
+  -- the names held inside the cuts: some of these arrays, by cuts
   abbrev OnlyOver : Taken → Type 0
   OnlyOver held = (t : Name × Holder) → In t held → is_among t.0 over ≡ true
 
@@ -213,7 +213,7 @@ module _ (gs : List Function) (name : Name) (line : ℕ) (x : Name) (grain : ℕ
       plain_part : (y : Name) → is_plain y ≡ true → is_among y (map left_part over) ≡ false
       plain_part y plain = no_part left_part y (λ a. plain_apart y (60 ∷ a) plain) over
 
-  -- no name is declared among the cuts
+  -- the statements inside the cuts declare no name
   own_none : (todo : List Name) → own_names (in_cuts line todo (both_halves line name lefts rights)) ≡ []
   own_none [] = refl
   own_none (a ∷ todo) = refl
@@ -268,7 +268,7 @@ module _ (gs : List Function) (name : Name) (line : ℕ) (x : Name) (grain : ℕ
           go (at_front same) = ap is_plain same
           go (after_it other p) = last (placed y (right_part a) [] (ap (λ l. is_among y (right_part a ∷ l)) (sym (own_none todo)) ∙ p))
 
-  -- after the cuts nothing is taken
+  -- nothing is held after the cuts
   cuts_leave : (todo : List Name) → map left_part over ≡ map left_part todo → Nothing (held_after_all gs 1 (in_cuts line todo (both_halves line name lefts rights)) [])
   cuts_leave [] e t i = subst (λ xs. In t (taken_by 1 xs []) → ⊥) (sym (lefts_given ∙ e)) (λ j. j) i
   cuts_leave (a ∷ todo) e t i = cut_from gs 1 a (left_part a) (right_part a) (in_cuts line todo (both_halves line name lefts rights)) [] t i
@@ -279,6 +279,6 @@ module _ (gs : List Function) (name : Name) (line : ℕ) (x : Name) (grain : ℕ
     (λ y o. nothing_taken (held_after_all gs 1 (in_cuts line over (both_halves line name lefts rights)) []) (cuts_leave over refl) y),
   )
 
-  -- the body of a loop's function
+  -- no taken name is used in the body of a loop's function
   pub loop_free : BlockFree gs 1 [] (loop_function name line x grain ints over body).body
   loop_free = ((refl, leaf_free, node_free), tt)

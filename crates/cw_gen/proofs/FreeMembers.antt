@@ -1,4 +1,4 @@
--- What is one of the taken names, and where a lowered block has it from.
+-- Elements of the list of held names, and their origin in a lowered block.
 use Rattle.std.proofs.Common.{◌≡◌, ℕ, ◌+◌, ◌<◌, List, [], ◌∷◌, ◌++◌, Bool, true, false, not, if◌then◌else◌, cond, refl, sym, ap, ◌∙◌}
 use Rattle.std.proofs.Common.{filter, ◌⊎◌, inl, inr, ⊎_elim, true≢false, arith, zero, suc, zero-lt-suc, get_or, Contains}
 use Rattle.std.specs.Prelude.{map}
@@ -14,12 +14,12 @@ use Rattle.cw_model.specs.Ownership.{Holder, SpawnIn, ReaderIn, CutOf, Taken, is
 use Rattle.cw_model.specs.Ownership.{freed, without, taken_by, own_names, where_it_goes_on, target_names, given, lent}
 use Rattle.cw_gen.proofs.Held.{held_after, held_after_all}
 
--- it is one of them
+-- the list contains this element
 abbrev pub In : (Name × Holder) → Taken → Type 0
 In t [] = ⊥
 In t (u ∷ us) = (u ≡ t) ⊎ In t us
 
--- of two lists, in one
+-- an element of a concatenation is in one of the two lists
 pub in_append : (t : Name × Holder) (a b : Taken) → In t (a ++ b) → In t a ⊎ In t b
 in_append t [] b h = inr h
 in_append t (u ∷ a) b (inl e) = inl (inl e)
@@ -29,18 +29,18 @@ in_append t (u ∷ a) b (inr h) = further (in_append t a b h)
     further (inl k) = inl (inr k)
     further (inr k) = inr k
 
--- of the first of two lists, in both
+-- an element of the first list is in the concatenation
 pub in_left : (t : Name × Holder) (a b : Taken) → In t a → In t (a ++ b)
 in_left t [] b h = absurd h
 in_left t (u ∷ a) b (inl e) = inl e
 in_left t (u ∷ a) b (inr h) = inr (in_left t a b h)
 
--- of the second
+-- an element of the second list is in the concatenation
 pub in_right : (t : Name × Holder) (a b : Taken) → In t b → In t (a ++ b)
 in_right t [] b h = h
 in_right t (u ∷ a) b h = inr (in_right t a b h)
 
--- what passes a test was there, and passes it
+-- an element of a filtered list is in the list and passes the test
 pub in_filter : (p : (Name × Holder) → Bool) (t : Name × Holder) (us : Taken) → In t (filter p us) → In t us × (p t ≡ true)
 in_filter p t [] h = absurd h
 in_filter p t (u ∷ us) h = test (in_filter p t us) (p u) refl h
@@ -50,7 +50,7 @@ in_filter p t (u ∷ us) h = test (in_filter p t us) (p u) refl h
     test more true e (inr k) = let r = more k in (inr r.0, r.1)
     test more false e k = let r = more k in (inr r.0, r.1)
 
--- what was there and passes stays
+-- an element that passes the test is in the filtered list
 pub in_kept : (p : (Name × Holder) → Bool) (t : Name × Holder) (us : Taken) → In t us → p t ≡ true → In t (filter p us)
 in_kept p t [] h g = absurd h
 in_kept p t (u ∷ us) h g = test (λ k. in_kept p t us k g) (p u) refl h
@@ -61,13 +61,13 @@ in_kept p t (u ∷ us) h g = test (λ k. in_kept p t us k g) (p u) refl h
     test more false e (inl same) = absurd (true≢false (sym g ∙ ap p (sym same) ∙ e))
     test more false e (inr k) = more k
 
--- the same, as the definitions say it
+-- `In` implies `Contains`
 pub in_contains : (t : Name × Holder) (us : Taken) → In t us → Contains us t
 in_contains t [] h = absurd h
 in_contains t (u ∷ us) (inl e) = (0, zero-lt-suc _, e)
 in_contains t (u ∷ us) (inr h) = Contains-append_right (u ∷ []) us t (in_contains t us h)
 
--- and back
+-- `Contains` implies `In`
 pub contains_in : (t : Name × Holder) (us : Taken) → Contains us t → In t us
 contains_in t [] c = absurd (omega (arith, c.1))
 contains_in t (u ∷ us) c = ⊎_elim (λ here. inl (only here.0 here.1 here.2)) (λ later. inr (contains_in t us later)) (Contains-append_cases (u ∷ []) us t c)
@@ -76,7 +76,7 @@ contains_in t (u ∷ us) c = ⊎_elim (λ here. inl (only here.0 here.1 here.2))
     only zero l e = e
     only (suc n) l e = absurd (omega arith)
 
--- a name that is held has a holder
+-- a held name has a holder
 pub held_in : (x : Name) (us : Taken) → is_held us x ≡ true → (k : Holder) × In (x, k) us
 held_in x [] h = cc
 held_in x (u ∷ us) h = test (held_in x us) (same_name x u.0) refl h
@@ -95,7 +95,7 @@ in_held t (u ∷ us) (inr h) = test (same_name t.0 u.0) (in_held t us h)
     test true e = refl
     test false e = e
 
--- a name of which nothing is among them is not held
+-- a name without a holder is not held
 pub not_held : (x : Name) (us : Taken) → ((k : Holder) → In (x, k) us → ⊥) → is_held us x ≡ false
 not_held x us h = cases (is_held us x) refl
   where
@@ -103,22 +103,22 @@ not_held x us h = cases (is_held us x) refl
     cases true e = let r = held_in x us e in absurd (h r.0 r.1)
     cases false e = refl
 
--- what does not only read
+-- the holder does not only read
 abbrev taking : (Name × Holder) → Bool
 taking t = not (is_reader t.1)
 
--- a name that is taken has a holder that does not only read it
+-- a taken name has a holder that does not only read it
 pub taken_in : (x : Name) (us : Taken) → is_taken us x ≡ true → (k : Holder) × In (x, k) us × (is_reader k ≡ false)
 taken_in x us h =
     let r = held_in x (filter taking us) h in
     let f = in_filter taking (x, r.0) us r.1 in
     (r.0, f.0, not_true (is_reader r.0) f.1)
 
--- a name with such a holder is taken
+-- a name with a holder that does not only read it is taken
 pub in_taken : (t : Name × Holder) (us : Taken) → In t us → is_reader t.1 ≡ false → is_taken us t.0 ≡ true
 in_taken t us i loud = in_held t (filter taking us) (in_kept taking t us i (ap not loud))
 
--- a name that nothing has that does not only read it is not taken
+-- a name without a holder that does not only read it is not taken
 pub not_in : (x : Name) (us : Taken) → ((k : Holder) → In (x, k) us → is_reader k ≡ false → ⊥) → is_taken us x ≡ false
 not_in x us h = cases (is_taken us x) refl
   where
@@ -126,7 +126,7 @@ not_in x us h = cases (is_taken us x) refl
     cases true e = let r = taken_in x us e in absurd (h r.0 r.1 r.2)
     cases false e = refl
 
--- names with one holder
+-- names with the same holder
 pub by_holder : (k : Holder) (xs : List Name) (t : Name × Holder) → In t (map (λ x. (x, k)) xs) → (is_among t.0 xs ≡ true) × (t.1 ≡ k)
 by_holder k [] t h = absurd h
 by_holder k (x ∷ xs) t (inl e) = (
@@ -139,7 +139,7 @@ by_holder k (x ∷ xs) t (inr h) = let r = by_holder k xs t h in (later (same_na
     later true e = refl
     later false e = e
 
--- each of the names is there
+-- each of the names is in the list
 pub holder_has : (k : Holder) (xs : List Name) (x : Name) → is_among x xs ≡ true → In (x, k) (map (λ x. (x, k)) xs)
 holder_has k [] x h = absurd cc
 holder_has k (y ∷ xs) x h = test (holder_has k xs x) (same_name x y) refl h
@@ -148,43 +148,43 @@ holder_has k (y ∷ xs) x h = test (holder_has k xs x) (same_name x y) refl h
     test more true e h' = inl (ap (λ n. (n, k)) (sym ((bytes_eq-Decides x y).0 e)))
     test more false e h' = inr (more h')
 
--- what a spawn took
+-- names that a spawn took
 pub by_spawn : (depth : ℕ) (xs : List Name) (t : Name × Holder) → In t (map (λ x. (x, SpawnIn depth)) xs) → (is_among t.0 xs ≡ true) × (t.1 ≡ SpawnIn depth)
 by_spawn depth xs t h = by_holder (SpawnIn depth) xs t h
 
--- taken outside the sync block at this depth, or by a cut
+-- the holder is a spawn outside of the sync block at this depth, or a cut
 abbrev pub Outer : ℕ → Holder → Type 0
 Outer depth (SpawnIn d) = d < depth
 Outer depth (ReaderIn d) = d < depth
 Outer depth CutOf = Unit {0}
 
--- outside a block, and outside those in it
+-- a holder outside of a block is outside of its inner blocks
 pub outer_more : (depth : ℕ) (k : Holder) → Outer depth k → Outer (depth + 1) k
 outer_more depth (SpawnIn d) h = omega (arith, h)
 outer_more depth (ReaderIn d) h = omega (arith, h)
 outer_more depth CutOf h = tt
 
--- no spawn of the block itself
+-- the holder is not a spawn of the block itself
 pub outer_not : (depth : ℕ) (k : Holder) → Outer depth k → is_spawn_in depth k ≡ false
 outer_not depth (SpawnIn d) h = less_differs d depth h
 outer_not depth (ReaderIn d) h = less_differs d depth h
 outer_not depth CutOf h = refl
 
--- it was taken before, or a spawn of the sync block at this depth has it
+-- the name was held before, or a spawn of the sync block at this depth holds it
 abbrev pub From : ℕ → Taken → (Name × Holder) → Type 0
 From depth taken t = In t taken ⊎ (is_spawn_in depth t.1 ≡ true)
 
 no_longer : (depth : ℕ) (k : Holder) → is_spawn_in depth k ≡ true → not (is_spawn_in depth k) ≡ true → true ≡ false
 no_longer depth k e h = sym h ∙ ap not e
 
--- what a spawn took, and what it only reads
+-- names that a spawn took, and names that it only reads
 by_taker : (depth : ℕ) (xs : List Name) (t : Name × Holder) → In t (map (λ x. (x, SpawnIn depth)) xs) → is_spawn_in depth t.1 ≡ true
 by_taker depth xs t h = ap (is_spawn_in depth) (by_holder (SpawnIn depth) xs t h).1 ∙ eq-eqb depth depth refl
 
 by_reader : (depth : ℕ) (xs : List Name) (t : Name × Holder) → In t (map (λ x. (x, ReaderIn depth)) xs) → is_spawn_in depth t.1 ≡ true
 by_reader depth xs t h = ap (is_spawn_in depth) (by_holder (ReaderIn depth) xs t h).1 ∙ eq-eqb depth depth refl
 
--- out of an inner sync block
+-- the end of an inner sync block
 left_inner : (depth : ℕ) (taken : Taken) (own : List Name) (after_it : Taken) (t : Name × Holder) → (In t after_it → From (depth + 1) taken t)
     → In t (freed (depth + 1) (without own after_it)) → In t taken
 left_inner depth taken own after_it t from h =
@@ -200,7 +200,7 @@ goes_on : (returns : Bool) (own : List Name) (after_it : Taken) (t : Name × Hol
 goes_on true own after_it t h = absurd h
 goes_on false own after_it t h = (in_filter (λ u. not (is_among u.0 own)) t after_it h).0
 
--- by cases
+-- a result that follows in both cases
 pub either_way : {A B C : Type 0} → A ⊎ B → (A → C) → (B → C) → C
 either_way (inl a) f g = f a
 either_way (inr b) f g = g b
@@ -210,7 +210,7 @@ cut_of a taken t e (inr k) = k
 cut_of a taken t e (inl same) = absurd (true≢false (sym e ∙ ap (λ u. not (is_cut_of a u)) (sym same) ∙ ap not ((bytes_eq-Decides a a).1 refl)))
 
 mutual
-  -- after a statement
+  -- a name held after a statement was held before it, or a spawn of the sync block holds it
   pub stmt_from : (fs : List Function) (depth : ℕ) (s : Stmt) (taken : Taken) (t : Name × Holder) → In t (held_after fs depth s taken) → From depth taken t
   stmt_from fs depth (Call Spawned site target f es) taken t h =
       either_way (in_append t (map (λ x. (x, ReaderIn depth)) (lent fs f es)) (taken_by depth (target_names target ++ given fs f es) taken) h) (λ k. inr (by_reader depth (lent fs f es) t k))
@@ -239,7 +239,7 @@ mutual
       inl (cut_of a taken t one.1 (left_inner depth inner (l ∷ r ∷ own_names b) (held_after_all fs (depth + 1) b inner) t (block_from fs (depth + 1) b inner t) one.0))
   stmt_from fs depth _ taken t h = inl h
 
-  -- after a block
+  -- a name held after a block was held before it, or a spawn of the sync block holds it
   pub block_from : (fs : List Function) (depth : ℕ) (b : Block) (taken : Taken) (t : Name × Holder) → In t (held_after_all fs depth b taken) → From depth taken t
   block_from fs depth End taken t h = inl h
   block_from fs depth (Then line s b) taken t h = then_from (block_from fs depth b (held_after fs depth s taken) t h) (stmt_from fs depth s taken t)
@@ -248,12 +248,12 @@ mutual
       then_from (inl k) more = more k
       then_from (inr e) more = inr e
 
--- what an inner sync block leaves was taken before it
+-- names held after an inner sync block were held before it
 pub scope_from : (fs : List Function) (depth : ℕ) (b : Block) (taken : Taken) (t : Name × Holder)
     → In t (freed (depth + 1) (without (own_names b) (held_after_all fs (depth + 1) b taken))) → In t taken
 scope_from fs depth b taken t h = left_inner depth taken (own_names b) (held_after_all fs (depth + 1) b taken) t (block_from fs (depth + 1) b taken t) h
 
--- what a cut leaves was taken before it
+-- names held after a cut were held before it
 pub cut_from : (fs : List Function) (depth : ℕ) (a l r : Name) (b : Block) (taken : Taken) (t : Name × Holder) →
     In t (filter (λ u. not (is_cut_of a u)) (freed (depth + 1) (without (l ∷ r ∷ own_names b) (held_after_all fs (depth + 1) b ((a, CutOf) ∷ taken))))) → In t taken
 cut_from fs depth a l r b taken t h =
@@ -261,7 +261,7 @@ cut_from fs depth a l r b taken t h =
     let one = in_filter (λ u. not (is_cut_of a u)) t (freed (depth + 1) (without (l ∷ r ∷ own_names b) (held_after_all fs (depth + 1) b inner))) h in
     cut_of a taken t one.1 (left_inner depth inner (l ∷ r ∷ own_names b) (held_after_all fs (depth + 1) b inner) t (block_from fs (depth + 1) b inner t) one.0)
 
--- what was not held before a sync block is not held after its join
+-- a name that is not held before a sync block is not held after its join
 pub free_after : (fs : List Function) (depth : ℕ) (b : Block) (taken : Taken) (x : Name) → is_held taken x ≡ false → is_held (freed depth (held_after_all fs depth b taken)) x ≡ false
 free_after fs depth b taken x free = not_held x (freed depth (held_after_all fs depth b taken)) (λ k h.
     let one = in_filter (λ u. not (is_spawn_in depth u.1)) (x, k) (held_after_all fs depth b taken) h in

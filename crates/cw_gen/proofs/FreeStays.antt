@@ -1,4 +1,4 @@
--- In a loop's body what was taken outside stays taken, and no expression reads it.
+-- In the body of a loop, names that were held outside stay held, and no expression reads them.
 use Rattle.cw_model.specs.declared.syntax.NameKind.TheVariants as name_kind
 use Rattle.std.proofs.Common.{◌≡◌, ℕ, ◌+◌, List, [], ◌∷◌, ◌++◌, Bool, true, false, refl, sym, ap, ◌∙◌, inr, subst}
 use Rattle.std.specs.Prelude.{map, not, ◌&&◌, ◌||◌, if◌then◌else◌, Some, None}
@@ -25,7 +25,7 @@ use Rattle.cw_loops.specs.lemmas.Seeing.{SameKnown, after_known}
 use Rattle.cw_gen.proofs.FreeTexts.{own_declared, read_is_in, free_each, loose_each}
 use Rattle.cw_gen.proofs.FreeMembers.{In, in_left, in_right, in_kept, in_taken, in_held, Outer, outer_more, outer_not}
 
--- it stays taken, and is not among what is read, unless its holder only reads it too
+-- the name stays held, and it is not read unless its holder only reads it
 pub record Stays (t : Name × Holder) (after : Taken) (reads : List Name) : Type 0 where
   pub stays : In t after
   pub unread : is_reader t.1 ≡ false → is_among t.0 reads ≡ false
@@ -42,17 +42,17 @@ unread_all around taken (e ∷ es) t h i loud =
     let p = and_parts (may_read around taken e) (list_all (λ e. may_read around taken e) es) h in
     none_among t.0 (read_by e) (read_by_all es) (unread_expr around taken e t p.0 i loud) (unread_all around taken es t p.1 i loud)
 
--- a name that is not known is not the owners'
+-- an unknown name is not a name of the owners
 pub unknown_out : (known : Known) (owners : List Name) (x : Name) → SameKnown known owners → Unknown known x → is_among x owners ≡ false
 unknown_out known owners x same u = same x ∙ ap (λ q. q || is_array known x) u.no_int ∙ u.no_array
 
--- owners stay owners
+-- names of the owners stay names of the owners
 pub more_owners : (s : Stmt) (owners : List Name) (x : Name) → is_among x owners ≡ true → is_among x (known_after owners s) ≡ true
 more_owners (Declare y e) owners x h = later_among x y owners h
 more_owners (DeclareArray y e) owners x h = later_among x y owners h
 more_owners _ owners x h = h
 
--- out of an inner sync block
+-- the end of an inner sync block
 leave : (depth : ℕ) (own : List Name) (after : Taken) (t : Name × Holder) → In t after → is_among t.0 own ≡ false → Outer (depth + 1) t.1 → In t (freed (depth + 1) (without own after))
 leave depth own after t h n o =
     in_kept (λ u. not (is_spawn_in (depth + 1) u.1)) t (without own after) (in_kept (λ u. not (is_among u.0 own)) t after h (ap not n)) (ap not (outer_not (depth + 1) t.1 o))
@@ -60,7 +60,7 @@ leave depth own after t h n o =
 joined : (depth : ℕ) (taken : Taken) (t : Name × Holder) → In t taken → Outer depth t.1 → In t (freed depth taken)
 joined depth taken t i o = in_kept (λ u. not (is_spawn_in depth u.1)) t taken i (ap not (outer_not depth t.1 o))
 
--- a cut of an array that nothing holds is no cut that was there
+-- a cut of an array that is not held is a new cut
 other_cut : (a : Name) (taken : Taken) (t : Name × Holder) → is_held taken a ≡ false → In t taken → is_cut_of a t ≡ false
 other_cut a taken (x, SpawnIn d) free i = refl
 other_cut a taken (x, ReaderIn d) free i = refl
@@ -68,7 +68,7 @@ other_cut a taken (x, CutOf) free i =
     refuted (same_name a x) (λ e. never (is_held taken x) (in_held (x, CutOf) taken i) (ap (is_held taken) (sym ((bytes_eq-Decides a x).0 e)) ∙ free))
 
 module _ (program : Program) where
-  -- the names that a block declares are not the owners'
+  -- the names that a block declares are not names of the owners
   pub not_own : (returns : Returns) (known : Known) (owners : List Name) → SameKnown known owners → (b : Block)
       → faults_in_block program returns known b ≡ [] → (x : Name) → is_among x owners ≡ true → is_among x (own_names b) ≡ false
   not_own returns known owners same b types x n =
@@ -83,7 +83,7 @@ module _ (program : Program) where
         (faults_in_block program Nowhere known c) (right_none (unless (is_fine known e) line) _ types)))
     stmt_goes_on known line _ types = refl
 
-    -- where no return may stand no block surely returns
+    -- if no return is allowed, no block surely returns
     goes_on : (known : Known) (b : Block) → faults_in_block program Nowhere known b ≡ [] → block_returns b ≡ false
     goes_on known End types = refl
     goes_on known (Then line s End) types = stmt_goes_on known line s (left_none _ _ types)
@@ -124,7 +124,7 @@ module _ (program : Program) where
           other known owners around same depth Leaves taken [] (right_none (faults_in_block program Nowhere known b) (faults_in_block program Nowhere known c) types')
           (right_none (owner_faults_in program.functions around owners depth Leaves taken [] b) (owner_faults_in program.functions around owners depth Leaves taken [] c) owns') t i o n
 
-  -- after a loop all that was taken outside its body
+  -- after a loop, names that were held outside of its body
   abbrev ForStays : Stmt → Type 0
   ForStays s = (known : Known) (owners : List Name) (around : Around) → SameKnown known owners → (depth line : ℕ) (taken : Taken) → faults_in program Nowhere known line s ≡ [] →
       owner_faults program.functions around owners depth taken line s ≡ [] → (t : Name × Holder) → In t taken → Outer (depth + 1) t.1
@@ -220,7 +220,7 @@ module _ (program : Program) where
       inner : Stays t after (read_in_block b)
       inner = more ((r, name_kind.Array) ∷ (l, name_kind.Array) ∷ known) (r ∷ l ∷ owners) around same' (depth + 1) Joins ((a, CutOf) ∷ taken) [] types' owns' t (inr i) (outer_more depth t.1 o) n'
 
-  -- the block of a scope
+  -- names stay held after the block of a scope
   scope_stays : (b : Block) → BlockStays b → (known : Known) (owners : List Name) (around : Around) → SameKnown known owners
       → (depth : ℕ) (taken : Taken) → faults_in_block program Nowhere known b ≡ [] →
       owner_faults_in program.functions around owners (depth + 1) Joins taken [] b ≡ [] → (t : Name × Holder) → In t taken → Outer depth t.1
@@ -234,7 +234,7 @@ module _ (program : Program) where
       }
 
   mutual
-    -- after a statement
+    -- names stay held after a statement
     pub stmt_stays : (s : Stmt) → StmtStays s
     stmt_stays (Declare x e) known owners around same depth line taken types owns t i o n = record { stays = i; unread = λ loud. unread_expr around taken e t (kept _ line owns) i loud }
     stmt_stays (DeclareArray x e) known owners around same depth line taken types owns t i o n = record { stays = i; unread = λ loud. unread_expr around taken e t (kept _ line owns) i loud }
@@ -293,7 +293,7 @@ module _ (program : Program) where
     stmt_stays (Return None) known owners around same depth line taken types owns t i o n = absurd cc
     stmt_stays (Return (Some e)) known owners around same depth line taken types owns t i o n = absurd cc
 
-    -- after a block
+    -- names stay held after a block
     pub block_stays : (b : Block) → BlockStays b
     block_stays End known owners around same depth closing taken declared types owns t i o n = record { stays = i; unread = λ loud. refl }
     block_stays (Then line s b) known owners around same depth closing taken declared types owns t i o n =
@@ -304,6 +304,6 @@ module _ (program : Program) where
         (right_none (owner_faults program.functions around owners depth taken line s) _ owns) t here.stays o (more_owners s owners t.0 n) in
         record { stays = rest.stays; unread = λ loud. none_among t.0 (read_in s) (read_in_block b) (here.unread loud) (rest.unread loud) }
 
-  -- after a loop, of all that was taken before it
+  -- after a loop, all names that were held before it
   pub for_keeps : (x y z : Name) (from to : Expr) (grain : ℕ) (over : List Name) (b : Block) → ForStays (For x y z from to grain over b)
   for_keeps x y z from to grain over b = for_stays x y z from to grain over b (block_stays b)

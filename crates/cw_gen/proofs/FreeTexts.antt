@@ -1,4 +1,5 @@
--- What lowering leaves as it is in a text: whether a block returns, the names that it declares, and the arrays given to calls.
+-- Properties of a text that lowering keeps: whether a block returns, the names that it declares, and the arrays given
+-- to calls.
 use Rattle.std.proofs.Common.{◌≡◌, ℕ, ◌+◌, Bool, true, false, List, [], ◌∷◌, ◌++◌, refl, ap, ◌∙◌}
 use Rattle.std.specs.Prelude.{◌&&◌, ◌||◌, not, if◌then◌else◌}
 use Rattle.std.specs.List.{list_any}
@@ -16,19 +17,19 @@ use Rattle.cw_loops.specs.Lowered.{low, lower_index, lower_expr, lower_exprs, lo
 use Rattle.cw_loops.specs.lemmas.Naming.{Placed, at_front, after_it, placed, Side, in_first, in_second, side, none_any, among_left, among_right}
 
 mutual
-  -- a lowered statement surely returns where its source does
+  -- a lowered statement surely returns exactly if its source does
   pub surely_same : (over : List Name) (s : Stmt) (k : ℕ) → surely_returns (lower_stmt over k s) ≡ surely_returns s
   surely_same over (IfElse e b c) k = ap (λ t. t && block_returns (lower_block over (k + loop_count_in b) c)) (returns_same over b k)
       ∙ ap (λ t. block_returns b && t) (returns_same over c (k + loop_count_in b))
   surely_same over _ k = refl
 
-  -- a lowered block surely returns where its source does
+  -- a lowered block surely returns exactly if its source does
   pub returns_same : (over : List Name) (b : Block) (k : ℕ) → block_returns (lower_block over k b) ≡ block_returns b
   returns_same over End k = refl
   returns_same over (Then line s End) k = surely_same over s k
   returns_same over (Then line s (Then line' s' b)) k = returns_same over (Then line' s' b) (k + loop_count s)
 
--- it declares the same names
+-- a lowered block declares the names that its source declares
 pub own_same : (over : List Name) (b : Block) (k : ℕ) → own_names (lower_block over k b) ≡ own_names b
 own_same over End k = refl
 own_same over (Then line s b) k = by s (own_same over b (k + loop_count s))
@@ -38,7 +39,7 @@ own_same over (Then line s b) k = by s (own_same over b (k + loop_count s))
     by (DeclareArray x e) h = ap (λ l. x ∷ l) h
     by _ h = h
 
--- the names that a block declares itself are among all that it declares
+-- the names that a block itself declares are among all names that it declares
 pub own_declared : (b : Block) (x : Name) → is_among x (own_names b) ≡ true → is_among x (declared_in_block b) ≡ true
 own_declared End x h = h
 own_declared (Then line s b) x h = by s h (own_declared b x)
@@ -53,7 +54,7 @@ own_declared (Then line s b) x h = by s h (own_declared b x)
     by (DeclareArray y e) o more = one y (placed x y (own_names b) o) more
     by s' o more = among_right x (declared_in s') (declared_in_block b) (more o)
 
--- the same arrays are given
+-- the same arrays are given away
 pub given_same : (over : List Name) (known : Known) (ps : List Param) (es : List Expr) → are_arguments known ps es ≡ true → arrays_given ps (lower_exprs over es) ≡ arrays_given ps es
 given_same over known [] es h = refl
 given_same over known (p ∷ ps) [] h = refl
@@ -67,7 +68,7 @@ given_same over known (p ∷ ps) (e ∷ es) h =
     one Array (Variable x) g = refl
     one Array _ g = absurd cc
 
--- the same are only read
+-- the same arrays are only read
 pub lent_same : (over : List Name) (known : Known) (ps : List Param) (es : List Expr) → are_arguments known ps es ≡ true → arrays_lent ps (lower_exprs over es) ≡ arrays_lent ps es
 lent_same over known [] es h = refl
 lent_same over known (p ∷ ps) [] h = refl
@@ -81,7 +82,7 @@ lent_same over known (p ∷ ps) (e ∷ es) h =
     one Const (Variable x) g = refl
     one Const _ g = absurd cc
 
--- a name that stands alone in an expression is in it
+-- a variable of an expression is a name of the expression
 pub read_is_in : (e : Expr) (x : Name) → is_among x (read_by e) ≡ true → is_among x (names_in e) ≡ true
 read_is_in (Number n) x h = h
 read_is_in (Variable y) x h = h
@@ -96,31 +97,31 @@ read_is_in (Binary operator d e) x h = go (side x (read_by d) (read_by e) h) (re
     go (in_first o) one other = among_left x (names_in d) (names_in e) (one o)
     go (in_second o) one other = among_right x (names_in d) (names_in e) (other o)
 
--- none of several names is taken, one by one
+-- tests of several names, name by name
 
--- each of free names
+-- each of the free names is free
 pub free_each : (taken : Taken) (xs : List Name) → are_free taken xs ≡ true → (x : Name) → is_among x xs ≡ true → is_taken taken x ≡ false
 free_each taken xs h = none_any (λ x. is_taken taken x) xs (not_true _ h)
 
--- each of names that nothing holds
+-- each of the names that are not held is not held
 pub loose_each : (taken : Taken) (xs : List Name) → are_loose taken xs ≡ true → (x : Name) → is_among x xs ≡ true → is_held taken x ≡ false
 loose_each taken xs h = none_any (λ x. is_held taken x) xs (not_true _ h)
 
--- names that nothing holds, one by one
+-- if each name is not held, none of the names is held
 pub loose_all : (taken : Taken) (xs : List Name) → ((x : Name) → is_among x xs ≡ true → is_held taken x ≡ false) → are_loose taken xs ≡ true
 loose_all taken [] h = refl
 loose_all taken (x ∷ xs) h = ap (λ b. not (b || list_any (λ z. is_held taken z) xs)) (h x (front_among x xs)) ∙ loose_all taken xs (λ y o. h y (later_among y x xs o))
 
--- names that are free one by one
+-- if each name is free, all names are free
 pub free_all : (taken : Taken) (xs : List Name) → ((x : Name) → is_among x xs ≡ true → is_taken taken x ≡ false) → are_free taken xs ≡ true
 free_all taken [] h = refl
 free_all taken (x ∷ xs) h = ap (λ b. not (b || list_any (λ z. is_taken taken z) xs)) (h x (front_among x xs)) ∙ free_all taken xs (λ y o. h y (later_among y x xs o))
 
--- one name
+-- a list of one free name is free
 pub free_one : (taken : Taken) (x : Name) → is_taken taken x ≡ false → are_free taken (x ∷ []) ≡ true
 free_one taken x h = ap (λ b. not (b || false)) h
 
--- the names of a lowered index are those of the source's, and the lower end of the range
+-- the names of a lowered index are the names of its source, and the lower end of the range
 pub index_free : (taken : Taken) (b : Bool) (e : Expr) → is_taken taken low ≡ false → are_free taken (names_in e) ≡ true → are_free taken (names_in (lower_index b e)) ≡ true
 index_free taken true e l h = free_all taken (names_in e ++ low ∷ []) (λ x o. go x (side x (names_in e) (low ∷ []) o))
   where
@@ -140,15 +141,15 @@ free_both taken xs ys h g = free_all taken (xs ++ ys) (λ x o. go x (side x xs y
     go x (in_first o) = free_each taken xs h x o
     go x (in_second o) = free_each taken ys g x o
 
--- the first of two lists of free names
+-- the first of two lists is free if their concatenation is
 pub free_first : (taken : Taken) (xs ys : List Name) → are_free taken (xs ++ ys) ≡ true → are_free taken xs ≡ true
 free_first taken xs ys h = free_all taken xs (λ x o. free_each taken (xs ++ ys) h x (among_left x xs ys o))
 
--- the second
+-- the second of two lists is free if their concatenation is
 pub free_second : (taken : Taken) (xs ys : List Name) → are_free taken (xs ++ ys) ≡ true → are_free taken ys ≡ true
 free_second taken xs ys h = free_all taken ys (λ x o. free_each taken (xs ++ ys) h x (among_right x xs ys o))
 
--- so are those of a lowered expression
+-- the names of a lowered expression are free
 pub expr_free : (taken : Taken) (over : List Name) (e : Expr) → is_taken taken low ≡ false → are_free taken (names_in e) ≡ true → are_free taken (names_in (lower_expr over e)) ≡ true
 expr_free taken over (Number n) l h = refl
 expr_free taken over (Variable x) l h = h

@@ -1,4 +1,4 @@
--- Where no call on a half stands, a lowered statement holds what is taken after it in a source; so turns close.
+-- In a lowered statement without a call on a half, the same names are held as in a source; so the iterations close.
 use Rattle.std.proofs.Common.{◌≡◌, ℕ, ◌+◌, true, List, ◌∷◌, ◌++◌, refl, sym, ap, ◌∙◌, subst, Contains}
 use Rattle.std.proofs.lemmas.Bool.{and_parts}
 use Rattle.cw_model.specs.declared.syntax.CallKind.TheVariants.{Plain, Spawned}
@@ -11,7 +11,7 @@ use Rattle.cw_gen.proofs.Held.{held_after, held_after_all, held_turn, has_no_hal
 use Rattle.cw_gen.proofs.Texts.{TurnsClose}
 
 mutual
-  -- after a statement
+  -- the names held after a statement are the names taken after it in a source
   pub held_same : (fs : List Function) (s : Stmt) (depth : ℕ) (taken : Taken) → has_no_half s ≡ true → held_after fs depth s taken ≡ taken_after fs depth s taken
   held_same fs (Call Plain site target f es) depth taken h = refl
   held_same fs (Call Spawned site target f es) depth taken h = refl
@@ -30,14 +30,14 @@ mutual
   held_same fs (Cut a e l r b) depth taken h = ap (λ t. cut_ended a (freed (depth + 1) (without (l ∷ r ∷ own_names b) t))) (all_same fs b (depth + 1) ((a, CutOf) ∷ taken) h)
   held_same fs _ depth taken h = refl
 
-  -- after a block
+  -- the names held after a block are the names taken after it in a source
   pub all_same : (fs : List Function) (b : Block) (depth : ℕ) (taken : Taken) → has_no_half_in b ≡ true → held_after_all fs depth b taken ≡ taken_after_all fs depth b taken
   all_same fs End depth taken h = refl
   all_same fs (Then line s b) depth taken h =
       let p = and_parts (has_no_half s) (has_no_half_in b) h in
       all_same fs b depth (held_after fs depth s taken) p.1 ∙ ap (taken_after_all fs depth b) (held_same fs s depth taken p.0)
 
--- the least set of a turn is that of a turn that does the same
+-- the least set of an iteration is the least set of an equal function
 least_moved : (turn other : Taken → Taken) (before after after' : Taken) → ((set : Taken) → other set ≡ turn set) → after' ≡ after → IsLeastClosed turn before after → IsLeastClosed other before after'
 least_moved turn other before after after' same e l = record {
   holds_before = λ t c. subst (λ s. Contains s t) (sym e) (l.holds_before t c);
@@ -45,7 +45,7 @@ least_moved turn other before after after' same e l = record {
   least = λ set h g t c. l.least set h (λ t' c'. g t' (subst (λ s. Contains s t') (sym (same set)) c')) t (subst (λ s. Contains s t) e c);
 }
 
--- the turns of a lowered program close
+-- the iterations of a lowered program close
 pub turns_close : (program : Program) → WhilesAreLeast → TurnsClose (lowered program).functions
 turns_close program least level e b before h =
     let fs : List Function = (lowered program).functions in

@@ -42,7 +42,7 @@ use Rattle.cw_gen.proofs.FreeCarried.{deeper, AllCarried, deeper_all, inside_mor
 use Rattle.cw_gen.proofs.FreeAfter.{call_same, lent_call_same, stmt_carries, block_carries}
 use Rattle.cw_gen.proofs.FreeLoops.{Nothing, loop_free}
 
--- how much less deep the body of a loop lies in its function
+-- the difference between the depth of a loop's body in the source and in its function
 record Shift (source : ℕ) : Type 0 where
   shift : ℕ
   is : source + 1 ≡ 2 + shift
@@ -55,7 +55,7 @@ both_free : (gs xs ys : List Function) → AllFree gs xs → AllFree gs ys → A
 both_free gs [] ys h g = g
 both_free gs (x ∷ xs) ys h g = (h.0, both_free gs xs ys h.1 g)
 
--- what is free in the source is free in the lowered text
+-- names that are free in the source are free in the lowered text
 module _ (shift depth : ℕ) (owners : List Name) (held taken : Taken) (all : AllCarried shift depth owners held taken) where
   names_free : (xs : List Name) → are_free taken xs ≡ true → are_free held xs ≡ true
   names_free xs h = free_all held xs (λ x o. free_carried shift depth owners held taken all x (free_each taken xs h x o))
@@ -63,7 +63,7 @@ module _ (shift depth : ℕ) (owners : List Name) (held taken : Taken) (all : Al
   low_free : is_taken held low ≡ false
   low_free = loose_free low held (plain_carried shift depth owners held taken all low refl)
 
-  -- and what nothing holds there nothing holds in it
+  -- names that are not held in the source are not held in the lowered text
   names_loose : (xs : List Name) → are_loose taken xs ≡ true → are_loose held xs ≡ true
   names_loose xs h = loose_all held xs (λ x o. loose_carried shift depth owners held taken all x (loose_each taken xs h x o))
 
@@ -113,7 +113,7 @@ module _ (program : Program) (least : WhilesAreLeast) (gs : List Function) (same
       (block_carries program least gs same_params b over k known owners around same returns depth source shift e closing held taken [] src types owns all))
       x (ends_free program.functions around owners source closing taken [] b owns x (inr (ap (is_among x) (sym (own_same over b k)) ∙ o)))
 
-  -- the block of a branch
+  -- no taken name is used in the block of a branch
   branch_frees : (b : Block) → BlockFrees b → (over : List Name) (k : ℕ) (known : Known) (owners : List Name) (around : Around)
       → SameKnown known owners → (returns : Returns) (depth source shift : ℕ) → 1 ≤ source → source ≡ depth + shift → (closing : Closing) (held taken : Taken) →
       is_source_block b ≡ true → faults_in_block program returns known b ≡ []
@@ -348,7 +348,7 @@ module _ (program : Program) (least : WhilesAreLeast) (gs : List Function) (same
       (omega (arith, e)) Joins held taken src types owns (deeper_all shift depth owners held taken all) found
 
   mutual
-    -- a statement, and the functions of its loops
+    -- no taken name is used in a statement and in the functions of its loops
     pub stmt_frees : (s : Stmt) → StmtFrees s
     stmt_frees (Declare x e') over k known owners around same returns line depth source shift some e held taken src types owns all found =
         (read_free shift depth owners held taken all around over e' (kept (may_read around taken e') line owns), tt)
@@ -389,7 +389,7 @@ module _ (program : Program) (least : WhilesAreLeast) (gs : List Function) (same
     stmt_frees (Return (Some e')) over k known owners around same returns line depth source shift some e held taken src types owns all found =
         (read_free shift depth owners held taken all around over e' (kept (may_read around taken e') line owns), tt)
 
-    -- a block, and the functions of its loops
+    -- no taken name is used in a block and in the functions of its loops
     pub block_frees : (b : Block) → BlockFrees b
     block_frees End over k known owners around same returns depth source shift some e closing held taken declared src types owns all found = (tt, tt)
     block_frees (Then line s b) over k known owners around same returns depth source shift some e closing held taken declared src types owns all found =
@@ -407,7 +407,7 @@ module _ (program : Program) (least : WhilesAreLeast) (gs : List Function) (same
         (found_right gs (made_by line k s) (made_in (k + loop_count s) b) found) in
         ((here.0, rest.0), both_free gs (made_by line k s) (made_in (k + loop_count s) b) here.1 rest.1)
 
-  -- a function of the source, and those of its loops
+  -- no taken name is used in a function of the source and in the functions of its loops
   function_frees : (f : Function) (k : ℕ) → faults_of program f ≡ [] → owner_faults_of program.functions f ≡ [] → is_source_function f ≡ true
       → Found gs (made_in k f.body) → BlockFree gs 1 [] (lower_block [] k f.body) × AllFree gs (made_in k f.body)
   function_frees f k types owns src found =
@@ -425,7 +425,7 @@ module _ (program : Program) (least : WhilesAreLeast) (gs : List Function) (same
       (right_none (owner_faults_of program.functions f) _ owns) q.1 (found_right gs (made_in k f.body) (made_of (k + loop_count_in f.body) fs) found) in
       ((here.0, rest.0), both_free gs (made_in k f.body) (made_of (k + loop_count_in f.body) fs) here.1 rest.1)
 
--- all functions of a lowered program
+-- no taken name is used in the functions of a lowered program
 pub functions_free : (program : Program) → WhilesAreLeast → IsOwnedSource program → is_lowerable program ≡ true → AllFree (lowered program).functions (lowered program).functions
 functions_free program least source can =
     let gs : List Function = (lowered program).functions in

@@ -1,4 +1,5 @@
--- What spawns only read, as if they had taken it: the rows of frozen arrays are made of it as those of arrays that are gone.
+-- The arrays that spawns only read, as if the spawns had taken them: the rows of frozen arrays are built like the rows
+-- of arrays that are gone.
 use Rattle.std.proofs.Common.{◌≡◌, ℕ, ◌==◌, List, [], ◌∷◌, ◌++◌, Bool, true, false, not, ◌&&◌, if◌then◌else◌, cond, refl, sym, ap, ◌∙◌, inl, inr}
 use Rattle.std.proofs.lemmas.Bool.{eqb-true, eq-eqb}
 use Rattle.std.proofs.lemmas.Slice.Eq.{bytes_eq-Decides}
@@ -57,7 +58,7 @@ frozen_freed depth ((x, ReaderIn d) ∷ taken) = test (d == depth) (frozen_freed
     test true more = more
     test false more = ap (λ l. (x, SpawnIn d) ∷ l) more
 
--- the end of a cut leaves what is only read
+-- the end of a cut keeps the arrays that are only read
 pub frozen_past_cut : (a : Name) (taken : Taken) → frozen_of (cut_ended a taken) ≡ frozen_of taken
 frozen_past_cut a [] = refl
 frozen_past_cut a ((x, SpawnIn d) ∷ taken) = frozen_past_cut a taken
@@ -68,7 +69,7 @@ frozen_past_cut a ((x, CutOf) ∷ taken) = test (same_name a x) (frozen_past_cut
     test true more = more
     test false more = more
 
--- a spawn
+-- a spawn keeps the arrays that are only read
 pub frozen_taken : (depth : ℕ) (xs : List Name) (taken : Taken) → frozen_of (taken_by depth xs taken) ≡ frozen_of taken
 frozen_taken depth [] taken = refl
 frozen_taken depth (x ∷ xs) taken = frozen_taken depth xs taken
@@ -77,12 +78,12 @@ pub frozen_read : (depth : ℕ) (xs : List Name) (taken : Taken) → frozen_of (
 frozen_read depth [] taken = refl
 frozen_read depth (x ∷ xs) taken = ap (λ l. (x, SpawnIn depth) ∷ l) (frozen_read depth xs taken)
 
--- past the entry of another name
+-- skips the entry of another name
 past : {P : Type 0} {held : Bool} → (held ≡ false → P) → (b : Bool) → (if b then true else held) ≡ false → P
 past more true h = absurd cc
 past more false h = more h
 
--- what nothing holds is not frozen
+-- a name that is not held is not frozen
 pub loose_thawed : (x : Name) (taken : Taken) → is_held taken x ≡ false → is_taken (frozen_of taken) x ≡ false
 loose_thawed x [] h = refl
 loose_thawed x ((y, SpawnIn d) ∷ taken) h = past (loose_thawed x taken) (same_name x y) h
@@ -93,7 +94,7 @@ loose_thawed x ((y, ReaderIn d) ∷ taken) h = test (loose_thawed x taken) (same
     test more true h' = cc
     test more false h' = more h'
 
--- it is frozen where a spawn of that block reads it
+-- a frozen name has a spawn of this block that only reads it
 pub frozen_in : (d : ℕ) (x : Name) (us : Taken) → holds false d x (frozen_of us) ≡ true → In (x, ReaderIn d) us
 frozen_in d x [] h = absurd cc
 frozen_in d x ((y, SpawnIn e) ∷ us) h = inr (frozen_in d x us h)
@@ -125,7 +126,7 @@ in_frozen d x (u ∷ us) (inl e) =
     ∙ ap (λ b. if b then true else holds false d x (frozen_of us)) (eq-eqb d d refl)
 in_frozen d x (u ∷ us) (inr h) = further d x u us (in_frozen d x us h)
 
--- what a turn leaves frozen was so before it
+-- arrays that an iteration leaves frozen were frozen before it
 pub frozen_by_turns : (turn : Taken → Taken) (before after : Taken) → IsLeastClosed turn before after → (d : ℕ) (x : Name)
     → holds false d x (frozen_of (turn after)) ≡ true → holds false d x (frozen_of after) ≡ true
 frozen_by_turns turn before after least d x h =

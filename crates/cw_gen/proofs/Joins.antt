@@ -1,4 +1,5 @@
--- What is made of functions one after another: of those of the source with their bodies, and of those of loops.
+-- The results of generating functions in sequence: the functions of the source with their bodies, and the functions of
+-- loops.
 use Rattle.std.proofs.Common.{◌≡◌, ◌⊎◌, inl, inr, Vec, Global, ℕ, suc, ◌+◌, ◌*◌, List, [], ◌∷◌, ◌++◌, length, map, refl, sym, ap, ◌∙◌, arith, append_assoc, length-append}
 use Rattle.std.specs.Prelude.{replicate}
 use Rattle.cw_tree.specs.declared.resolved.Function as code
@@ -38,7 +39,7 @@ pub loans_joined : (fs gs : List Function) (lists : List (List Loan)) → put_lo
 loans_joined [] gs lists = refl
 loans_joined (f ∷ fs) gs lists = loans_joined fs gs (put_loans_in (marks_of f.params) f.body lists)
 
--- how many functions there are
+-- if each function has a body, the number of functions does not change
 pub length_with_bodies : (fs : List source.Function) (bodies : List Block) → length bodies ≡ length fs → length (with_bodies fs bodies) ≡ length fs
 length_with_bodies [] bodies same = refl
 length_with_bodies (f ∷ fs) (b ∷ bodies) same = ap suc (length_with_bodies fs bodies (omega (arith, same)))
@@ -48,7 +49,7 @@ pub length_loop_texts : (index : ℕ) (loops : List Loop) → length (loop_texts
 length_loop_texts index [] = refl
 length_loop_texts index (l ∷ loops) = ap suc (length_loop_texts (suc index) loops)
 
--- the code of both, from what each step of the emission leaves
+-- the code of both groups, from the effect of each step of the generator
 pub instrs_of_both : (first index : ℕ) (fs : List source.Function) (bodies : List Block) (loops : List Loop) (old mid new : List Instr) → old ≡ [] → index ≡ length fs →
     mid ≡ old ++ emitted_instrs first (with_bodies fs bodies) → new ≡ mid ++ emitted_instrs first (loop_texts index loops) →
     new ≡ emitted_instrs first (with_bodies fs bodies ++ loop_texts (length fs) loops)
@@ -101,7 +102,7 @@ loans_of_both first index fs bodies loops none mid new is_index is_none is_mid i
     ∙ ap (put_loans_of back) (is_mid ∙ ap (put_loans_of front) is_none)
     ∙ sym (loans_joined front back (replicate first []))
 
--- the lists of the functions of loops, one by one
+-- the lists of the functions of loops, in sequence
 pub lists_next : (first at next : ℕ) (l : Loop) (rest left : List Loop) (now new whole : List (List ℕ)) → next ≡ at + 1 → left ≡ l ∷ rest → new ≡ put_lists_in first [] (loop_text at l).body now →
     put_lists_of first (loop_texts at left) now ≡ whole → put_lists_of first (loop_texts next rest) new ≡ whole
 lists_next first at next l rest left now new whole is_next is_left is_new before =
@@ -111,7 +112,7 @@ lists_next first at next l rest left now new whole is_next is_left is_new before
     ∙ sym (ap (λ ls. put_lists_of first (loop_texts at ls) now) is_left)
     ∙ before
 
--- the loans of the functions of loops are the same whatever index the first of them has
+-- the loans of the functions of loops do not depend on the index of the first function
 pub loans_any : (i j : ℕ) (loops : List Loop) (lists : List (List Loan)) → put_loans_of (loop_texts i loops) lists ≡ put_loans_of (loop_texts j loops) lists
 loans_any i j [] lists = refl
 loans_any i j (l ∷ loops) lists =
@@ -126,7 +127,7 @@ loans_next l rest left now new whole is_left is_new before =
     ∙ sym (ap (λ ls. put_loans_of (loop_texts 0 ls) now) is_left)
     ∙ before
 
--- the functions of loops, one by one
+-- the functions of loops, in sequence
 pub instrs_next : (first at next : ℕ) (l : Loop) (rest left : List Loop) (now new whole : List Instr) → next ≡ at + 1 → left ≡ l ∷ rest → new ≡ now ++ emitted_function first (loop_text at l) →
     now ++ emitted_instrs first (loop_texts at left) ≡ whole → new ++ emitted_instrs first (loop_texts next rest) ≡ whole
 instrs_next first at next l rest left now new whole is_next is_left is_new before =
@@ -156,7 +157,7 @@ funcs_next first at next start end l rest left now new f funcs made whole is_nex
     ∙ sym (ap (λ ls. funcs ++ emitted_funcs first (length now) (loop_texts at ls)) is_left)
     ∙ before
 
--- where either list is at its end no function is left
+-- if one of the two lists is at its end, no function is left
 pub no_more : (fs : List code.Function) (bodies : List (Vec Line Global)) → (length fs ≡ 0) ⊎ (length bodies ≡ 0) → with_bodies (map function_of fs) (map (λ b. block_of b.items) bodies) ≡ []
 no_more [] bodies h = refl
 no_more (f ∷ fs) [] h = refl

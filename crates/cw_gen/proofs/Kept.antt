@@ -1,4 +1,4 @@
--- The rules that a lowered program keeps, in two parts: that names are known, and that none that is used is taken.
+-- The rules that a lowered program keeps, in two parts: names are known, and no name that is used is taken.
 use Rattle.std.specs.Prelude.{◌≡◌, map, ℕ, ◌+◌, if◌then◌else◌, Bool, true, false, ◌++◌, List, [], ◌∷◌, Option, Some, None}
 use Rattle.cw_model.specs.Syntax.{wants_array, Name, Expr, Number, Variable, Element, Length, Negative, Not, Binary, Stmt, Declare, DeclareArray, Assign, AssignElement}
 use Rattle.cw_model.specs.Syntax.{Reduce, Call, Start, Begin, Sync, If, IfElse, While, Scope, Cut, Region, Print, Return, Block, End, Then, Param, Function}
@@ -10,7 +10,7 @@ use Rattle.cw_tree.specs.Resolved.{Locals, with_array, locals_after, locals_of}
 use Rattle.cw_gen.proofs.Held.{held_after, has_no_half_in}
 use Rattle.cw_gen.proofs.Fine.{marks_for, NotBoth, NoArray, Begins, FreeAtEnd, EndsFree, is_function, TakesRange}
 
--- an expression names integers and arrays that are known
+-- an expression uses known integers and arrays
 abbrev pub ExprKnown : Locals → Expr → Type 0
 ExprKnown locals (Number n) = Unit {0}
 ExprKnown locals (Variable x) = is_among x locals.ints ≡ true
@@ -20,7 +20,7 @@ ExprKnown locals (Negative e) = ExprKnown locals e
 ExprKnown locals (Not e) = ExprKnown locals e
 ExprKnown locals (Binary operator d e) = ExprKnown locals d × ExprKnown locals e
 
--- an integer, or an array alone
+-- an argument is an integer or an array
 abbrev pub ArgKnown : Bool → Locals → Expr → Type 0
 ArgKnown false locals e = ExprKnown locals e × NoArray locals e
 ArgKnown true locals (Variable a) = is_among a locals.arrays ≡ true
@@ -32,12 +32,12 @@ ArgsKnown locals [] [] = Unit {0}
 ArgsKnown locals (p ∷ ps) (e ∷ es) = ArgKnown (wants_array p) locals e × ArgsKnown locals ps es
 ArgsKnown locals _ _ = ⊥
 
--- what takes the result of a function that gives one
+-- the target of a result fits a function that returns one
 abbrev pub TargetKnown : Locals → Function → Option Name → Type 0
 TargetKnown locals f None = Unit {0}
 TargetKnown locals f (Some x) = (is_among x locals.ints ≡ true) × (f.gives_int ≡ true)
 
--- what may be returned
+-- the expression of a return uses known names
 abbrev pub ReturnKnown : Returns → Locals → Option Expr → Type 0
 ReturnKnown WithInt locals (Some e) = ExprKnown locals e
 ReturnKnown Alone locals None = Unit {0}
@@ -49,7 +49,7 @@ AllKnown names [] = Unit {0}
 AllKnown names (x ∷ xs) = (is_among x names ≡ true) × AllKnown names xs
 
 abbrev mutual
-  -- the names that a statement uses are known, where the arrays `given` are those of the function's parameters
+  -- the names that a statement uses are known; `given_arrays` are the arrays of the function's parameters
   pub StmtKnown : List Function → (given_arrays : List Name) → Returns → Locals → Stmt → Type 0
   StmtKnown fs given_arrays returns locals (Declare x e) = ExprKnown locals e
   StmtKnown fs given_arrays returns locals (DeclareArray a e) = ExprKnown locals e × Begins given_arrays locals.arrays
@@ -80,13 +80,13 @@ abbrev mutual
   StmtKnown fs given_arrays returns locals (Return e) = ReturnKnown returns locals e × Begins given_arrays locals.arrays
   StmtKnown fs given_arrays returns locals _ = ⊥
 
-  -- the names that a block uses
+  -- the names that a block uses are known
   pub BlockKnown : List Function → (given_arrays : List Name) → Returns → Locals → Block → Type 0
   BlockKnown fs given_arrays returns locals End = Unit {0}
   BlockKnown fs given_arrays returns locals (Then line s b) =
       StmtKnown fs given_arrays returns locals s × BlockKnown fs given_arrays returns (locals_after locals s) b
 
--- a function: its parameters differ, the names that it uses are known, and it returns where it gives an integer
+-- a function: its parameters are distinct, the names that it uses are known, and it returns if it returns an integer
 pub record FunctionKnown (fs : List Function) (f : Function) : Type 0 where
   pub apart : differ (map (λ p. p.name) f.params) ≡ true
   pub body : BlockKnown fs (locals_of f.params).arrays (if f.gives_int then WithInt else Alone) (locals_of f.params) f.body
@@ -101,13 +101,13 @@ abbrev pub ExprsFree : Taken → List Expr → Type 0
 ExprsFree taken [] = Unit {0}
 ExprsFree taken (e ∷ es) = (are_free taken (names_in e) ≡ true) × ExprsFree taken es
 
--- no name of what is returned
+-- no name of the expression of a return is taken
 abbrev pub ReturnFree : Taken → Option Expr → Type 0
 ReturnFree taken None = Unit {0}
 ReturnFree taken (Some e) = are_free taken (names_in e) ≡ true
 
 abbrev mutual
-  -- no name that a statement uses is taken, in so many sync blocks, and none of its own as a block ends
+  -- no name that a statement uses is taken, at this depth of sync blocks, and no name of a block is held at its end
   pub StmtFree : List Function → (depth : ℕ) → Taken → Stmt → Type 0
   StmtFree fs depth taken (Declare x e) = are_free taken (names_in e) ≡ true
   StmtFree fs depth taken (DeclareArray a e) = are_free taken (names_in e) ≡ true
@@ -140,12 +140,12 @@ abbrev mutual
   StmtFree fs depth taken (Return e) = ReturnFree taken e
   StmtFree fs depth taken _ = ⊥
 
-  -- no name that a block uses
+  -- no name that a block uses is taken
   pub BlockFree : List Function → (depth : ℕ) → Taken → Block → Type 0
   BlockFree fs depth taken End = Unit {0}
   BlockFree fs depth taken (Then line s b) = StmtFree fs depth taken s × BlockFree fs depth (held_after fs depth s taken) b
 
--- no name that functions use
+-- no name that functions use is taken
 abbrev pub AllFree : List Function → List Function → Type 0
 AllFree all [] = Unit {0}
 AllFree all (f ∷ fs) = BlockFree all 1 [] f.body × AllFree all fs

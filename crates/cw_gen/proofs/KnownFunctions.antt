@@ -1,4 +1,5 @@
--- The functions of a lowered program are found by their names: those of the source as before, and those of its loops by number.
+-- The functions of a lowered program are found by their names: the functions of the source as before, and the functions
+-- of its loops by number.
 use Rattle.std.proofs.Common.{◌≡◌, ℕ, suc, ◌+◌, ◌≤◌, Bool, true, false, List, [], ◌∷◌, ◌++◌, Some, arith, refl, sym, ◌∙◌, ap, subst, append_assoc}
 use Rattle.std.specs.Prelude.{if◌then◌else◌}
 use Rattle.std.specs.List.{list_all}
@@ -14,17 +15,17 @@ use Rattle.cw_loops.specs.Lowerable.{can_lower_function}
 use Rattle.cw_loops.specs.lemmas.Apart.{apart, apart_plain}
 use Rattle.cw_gen.proofs.Fine.{is_function}
 
--- a function is the one of its name
+-- the lookup of a function's name finds the function
 pub record Found (fs : List Function) (g : Function) : Type 0 where
   pub there : is_function g.name fs ≡ true
   pub is : function_named g.name fs ≡ g
 
--- each of these functions is
+-- the lookup of each function's name finds the function
 abbrev pub AllFound : List Function → List Function → Type 0
 AllFound fs [] = Unit {0}
 AllFound fs (g ∷ gs) = Found fs g × AllFound fs gs
 
--- those of the first list, and of the second
+-- the functions of the first list, and of the second
 pub found_first : (fs xs ys : List Function) → AllFound fs (xs ++ ys) → AllFound fs xs
 found_first fs [] ys h = tt
 found_first fs (x ∷ xs) ys h = (h.0, found_first fs xs ys h.1)
@@ -33,7 +34,7 @@ pub found_second : (fs xs ys : List Function) → AllFound fs (xs ++ ys) → All
 found_second fs [] ys h = h
 found_second fs (x ∷ xs) ys h = found_second fs xs ys h.1
 
--- behind functions of other names
+-- the lookup skips functions with other names
 
 past_function : (name : Name) (before behind : List Function) → is_function name before ≡ false → function_named name (before ++ behind) ≡ function_named name behind
 past_function name [] behind h = refl
@@ -53,7 +54,7 @@ past_is_function name (f ∷ before) behind h = go (same_name name f.name) h (pa
     go true g more = absurd cc
     go false g more = more g
 
--- the functions of loops, numbered from one number up to another
+-- the functions of loops with the numbers from `k` to `j`
 abbrev pub Numbered : ℕ → ℕ → List Function → Type 0
 Numbered k j [] = k ≡ j
 Numbered k j (g ∷ gs) = (g.name ≡ loop_name k) × Numbered (suc k) j gs
@@ -62,7 +63,7 @@ numbered_on : (k j m : ℕ) (xs ys : List Function) → Numbered k j xs → Numb
 numbered_on k j m [] ys h g = subst (λ n. Numbered n m ys) (sym h) g
 numbered_on k j m (x ∷ xs) ys h g = (h.0, numbered_on (suc k) j m xs ys h.1 g)
 
--- up to the same number, told otherwise
+-- the upper end of the numbers, rewritten
 up_to : (k n m : ℕ) (xs : List Function) → n ≡ m → Numbered k n xs → Numbered k m xs
 up_to k n m xs e h = subst (λ i. Numbered k i xs) e h
 
@@ -88,7 +89,7 @@ mutual
       numbered_on k (k + loop_count s) (k + (loop_count s + loop_count_in b)) (made_by line k s) (made_in (k + loop_count s) b) (numbered_by line k s)
       (up_to (k + loop_count s) ((k + loop_count s) + loop_count_in b) (k + (loop_count s + loop_count_in b)) (made_in (k + loop_count s) b) (omega arith) (numbered_in (k + loop_count s) b))
 
--- the loops of functions
+-- the number of loops of functions
 abbrev loops_of : List Function → ℕ
 loops_of [] = 0
 loops_of (f ∷ fs) = loop_count_in f.body + loops_of fs
@@ -100,11 +101,11 @@ numbered_of k (f ∷ fs) =
     (up_to (k + loop_count_in f.body) ((k + loop_count_in f.body) + loops_of fs) (k + (loop_count_in f.body + loops_of fs))
     (made_of (k + loop_count_in f.body) fs) (omega arith) (numbered_of (k + loop_count_in f.body) fs))
 
--- no loop from this number on has its function here
+-- no loop from this number on has its function in the list
 abbrev Below : ℕ → List Function → Type 0
 Below k fs = (n : ℕ) → k ≤ n → is_function (loop_name n) fs ≡ false
 
--- one function more
+-- appending the function of loop `k` keeps `Below` for the next number
 below_next : (k : ℕ) (fs : List Function) (g : Function) → g.name ≡ loop_name k → Below k fs → Below (suc k) (fs ++ g ∷ [])
 below_next k fs g named below n more =
     past_is_function (loop_name n) fs (g ∷ []) (below n (omega (arith, more)))
@@ -142,17 +143,17 @@ source_below all k (f ∷ fs) h n more =
     ap (λ b. if b then true else is_function (loop_name n) (lower_functions (k + loop_count_in f.body) fs)) (apart_plain f.name (n ∷ []) plain)
     ∙ source_below all (k + loop_count_in f.body) fs two.1 n more
 
--- each function of a loop is found
+-- the lookup of each loop's function finds it
 pub loops_found : (all fs : List Function) → list_all (can_lower_function all) fs ≡ true → AllFound (lower_functions 0 fs ++ made_of 0 fs) (made_of 0 fs)
 loops_found all fs h = found_behind (lower_functions 0 fs) (made_of 0 fs) 0 (0 + loops_of fs) (source_below all 0 fs h) (numbered_of 0 fs)
 
--- a function of the source, as it is found where loops are lowered
+-- a function of the source, as the lookup finds it in the lowered program
 pub record CallFound (all : List Function) (f : Name) (g : Function) : Type 0 where
   pub there : is_function f all ≡ true
   pub params : (function_named f all).params ≡ g.params
   pub gives : (function_named f all).gives_int ≡ g.gives_int
 
--- each function that types find is found
+-- each function that the types find is found
 pub call_found : (k : ℕ) (fs ms : List Function) (f : Name) (g : Function) → called f fs ≡ Some g → CallFound (lower_functions k fs ++ ms) f g
 call_found k [] ms f g h = absurd cc
 call_found k (p ∷ fs) ms f g h = go (same_name f p.name) refl h (call_found (k + loop_count_in p.body) fs ms f g)

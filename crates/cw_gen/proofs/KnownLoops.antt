@@ -1,4 +1,4 @@
--- The names that the function of a loop uses are known there.
+-- The names that the function of a loop uses are known in it.
 use Rattle.cw_facts.specs.Tests.{not_true, never, refuted}
 use Rattle.cw_model.specs.declared.syntax.NameKind.TheVariants as name_kind
 use Rattle.std.proofs.Common.{◌≡◌, ℕ, ◌+◌, true, false, List, [], ◌∷◌, ◌++◌, Some, refl, sym, ◌∙◌, ap, subst, append-nil}
@@ -40,7 +40,7 @@ cut_ints : (rest : List Name) (locals : Locals) → (cut_locals rest locals).int
 cut_ints [] locals = refl
 cut_ints (a ∷ rest) locals = cut_ints rest (with_array (right_part a) (with_array (left_part a) locals))
 
--- an array stays beside two more
+-- an array stays known if two more are added
 beside : (x l r : Name) (arrays : List Name) → is_among x arrays ≡ true → is_among x ((arrays ++ l ∷ []) ++ r ∷ []) ≡ true
 beside x l r arrays h = among_left x (arrays ++ l ∷ []) (r ∷ []) (among_left x arrays (l ∷ []) h)
 
@@ -48,7 +48,7 @@ stays : (x : Name) (rest : List Name) (locals : Locals) → is_among x locals.ar
 stays x [] locals h = h
 stays x (a ∷ rest) locals h = stays x rest (with_array (right_part a) (with_array (left_part a) locals)) (beside x (left_part a) (right_part a) locals.arrays h)
 
--- each part is there
+-- each part is known
 left_there : (a : Name) (rest : List Name) (locals : Locals) → is_among a rest ≡ true → is_among (left_part a) (cut_locals rest locals).arrays ≡ true
 left_there a [] locals h = absurd cc
 left_there a (b ∷ rest) locals h = go (placed a b rest h) (left_there a rest (with_array (right_part b) (with_array (left_part b) locals)))
@@ -75,7 +75,7 @@ right_there a (b ∷ rest) locals h = go (placed a b rest h) (right_there a rest
         (ap (λ z. is_among (right_part z) (right_part b ∷ [])) same ∙ front_among (right_part b) []))
     go (after_it other o) further = further o
 
--- a name of another form is no part
+-- a name of another form is not a part
 no_part : (z : Name) (rest : List Name) (locals : Locals) → ((b : Name) → same_name z (left_part b) ≡ false) → ((b : Name) → same_name z (right_part b) ≡ false) → is_among z locals.arrays ≡ false →
     is_among z (cut_locals rest locals).arrays ≡ false
 no_part z [] locals left right h = h
@@ -84,11 +84,11 @@ no_part z (a ∷ rest) locals left right h =
     (none_among z (locals.arrays ++ left_part a ∷ []) (right_part a ∷ [])
     (none_among z locals.arrays (left_part a ∷ []) h (past z (left_part a) [] (left a) refl)) (past z (right_part a) [] (right a) refl))
 
--- a generated name is none of a source
+-- a generated name is not a name of a source
 pub generated_free : (z : Name) (xs : List Name) → is_plain z ≡ false → ((v : Name) → is_among v xs ≡ true → is_plain v ≡ true) → is_among z xs ≡ false
 generated_free z xs e plain = refuted (is_among z xs) (λ o. never (is_plain z) (plain z o) e)
 
--- integers and arrays as arguments
+-- known integers and arrays are known arguments
 int_args : (locals : Locals) (xs : List Name) (ps : List Param) (es : List Expr)
     → ((x : Name) → is_among x xs ≡ true → (is_among x locals.ints ≡ true) × (is_among x locals.arrays ≡ false)) → ArgsKnown locals ps es →
     ArgsKnown locals (int_params xs ++ ps) (variables xs ++ es)
@@ -101,7 +101,7 @@ array_args locals part [] h = tt
 array_args locals part (a ∷ over) h = (h a (front_among a over), array_args locals part over (λ b o. h b (later_among b a over o)))
 
 module _ (all : List Function) (given : List Name) where
-  -- the statements inside the cuts of arrays
+  -- the statements inside the cuts of arrays use known names
   cuts_known : (returns : Returns) (line : ℕ) (rest : List Name) (locals : Locals) (text : Block) → is_among low locals.ints ≡ true → is_among middle locals.ints ≡ true →
       ((a : Name) → is_among a rest ≡ true → is_among a locals.arrays ≡ true)
       → ((a : Name) → is_among a rest ≡ true → is_among (left_part a) locals.arrays ≡ false)
@@ -134,7 +134,7 @@ module _ (all : List Function) (given : List Name) where
       other : (b : Name) → is_among b rest ≡ true → is_among a rest ≡ false → same_name b a ≡ false
       other b o none = refuted (same_name b a) (λ e. never (is_among a rest) (ap (λ z. is_among z rest) (sym (same_are b a e)) ∙ o) none)
 
--- the locals of these names
+-- the locals with these names
 abbrev with_names : List Name → List Name → Locals
 with_names ints arrays = record { ints = ints; arrays = arrays }
 
@@ -146,7 +146,7 @@ module _ (all : List Function) (name : Name) (line : ℕ) (x : Name) (grain : �
     (taken_plain : (v : Name) → is_among v taken ≡ true → is_plain v ≡ true) (over_plain : (a : Name) → is_among a over ≡ true → is_plain a ≡ true)
     (kept_apart : (v : Name) → is_among v taken ≡ true → is_among v over ≡ false) (taken_differ : differ taken ≡ true) (over_differ : differ over ≡ true)
     (inner : BlockKnown all over Nowhere (record { ints = (low ∷ high ∷ taken) ++ x ∷ []; arrays = over }) body) (whole : has_no_half_in body ≡ true) where
-  -- at the head of the function, in a leaf, in a node, and in the cuts of a node
+  -- the locals at the head of the function, in a leaf, in a node, and in the cuts of a node
   abbrev start : Locals
   start = record { ints = low ∷ high ∷ taken; arrays = over }
 
@@ -174,7 +174,7 @@ module _ (all : List Function) (name : Name) (line : ℕ) (x : Name) (grain : �
     ),
   )
 
-  -- an integer of the node as an argument, in the cuts
+  -- an integer of the node is known inside the cuts and is not an array
   in_cut : (v : Name) → is_among v node.ints ≡ true → ((b : Name) → same_name v (left_part b) ≡ false) → ((b : Name) → same_name v (right_part b) ≡ false) → is_among v over ≡ false →
       (is_among v cut.ints ≡ true) × (is_among v cut.arrays ≡ false)
   in_cut v there left right none = (ap (is_among v) (cut_ints over node) ∙ there, no_part v over node left right none)
@@ -197,7 +197,7 @@ module _ (all : List Function) (name : Name) (line : ℕ) (x : Name) (grain : �
       in_cut v (later_among v low (high ∷ taken ++ middle ∷ []) (later_among v high (taken ++ middle ∷ []) (among_left v taken (middle ∷ []) o)))
       (λ b. plain_apart v (60 ∷ b) plain) (λ b. plain_apart v (62 ∷ b) plain) (kept_apart v o)
 
-  -- a call on one half
+  -- a call on one half uses known names
   half_known : (kind : CallKind) (returns : Returns) (es : List Expr) → ArgsKnown cut (loop_function name line x grain taken over body).params es → StmtKnown all over returns cut (Start kind name es)
   half_known kind returns es args = (
     here.there,
@@ -246,7 +246,7 @@ module _ (all : List Function) (name : Name) (line : ℕ) (x : Name) (grain : �
       generated : (z : Name) → is_plain z ≡ false → is_among z (taken ++ over) ≡ false
       generated z e = none_among z taken over (generated_free z taken e taken_plain) (generated_free z over e over_plain)
 
-  -- the function of a loop
+  -- the function of a loop uses known names
   pub loop_known : FunctionKnown all (loop_function name line x grain taken over body)
   loop_known = record {
     apart = params_apart;
@@ -258,14 +258,14 @@ module _ (all : List Function) (name : Name) (line : ℕ) (x : Name) (grain : �
     returns = λ e. absurd cc;
   }
 
--- functions of two lists
+-- the functions of a concatenation use known names if the functions of both lists do
 pub both_known : (all xs ys : List Function) → AllFunctionsKnown all xs → AllFunctionsKnown all ys → AllFunctionsKnown all (xs ++ ys)
 both_known all [] ys h g = g
 both_known all (x ∷ xs) ys h g = (h.0, both_known all xs ys h.1 g)
 
 module _ (program : Program) (all : List Function) (calls : (f : Name) (g : Function) → called f program.functions ≡ Some g → CallFound all f g) where
   mutual
-    -- the functions of the loops of a statement
+    -- the functions of the loops of a statement use known names
     pub made_by_known : (returns : Returns) (c : Surroundings) (ints arrays : List Name) (known : Known) (locals : Locals) → Agree c ints arrays known locals → (line k : ℕ) (s : Stmt) →
         faults_in program returns known line s ≡ [] → can_lower c ints arrays s ≡ true → AllFound all (made_by line k s) → AllFunctionsKnown all (made_by line k s)
     made_by_known returns c ints arrays known locals agree line k (If e b) typed can found =
@@ -329,7 +329,7 @@ module _ (program : Program) (all : List Function) (calls : (f : Name) (g : Func
     made_by_known returns c ints arrays known locals agree line k (Region tag b) typed can found = made_in_known Nowhere c ints arrays known locals agree k b typed can found
     made_by_known returns c ints arrays known locals agree line k _ typed can found = tt
 
-    -- the functions of the loops of a block
+    -- the functions of the loops of a block use known names
     pub made_in_known : (returns : Returns) (c : Surroundings) (ints arrays : List Name) (known : Known) (locals : Locals) → Agree c ints arrays known locals → (k : ℕ) (b : Block) →
         faults_in_block program returns known b ≡ [] → can_lower_all c ints arrays b ≡ true → AllFound all (made_in k b) → AllFunctionsKnown all (made_in k b)
     made_in_known returns c ints arrays known locals agree k End typed can found = tt

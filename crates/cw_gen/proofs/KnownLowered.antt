@@ -26,7 +26,7 @@ use Rattle.cw_gen.proofs.KnownPlaces.{agree_head}
 use Rattle.cw_gen.proofs.KnownStatements.{returns_same, block_known}
 use Rattle.cw_gen.proofs.KnownLoops.{both_known, made_in_known}
 
--- what types keep at the head of a function
+-- the facts that the types guarantee for the head of a function
 record HeadOf (f : Function) : Type 0 where
   apart : differ (names_of f.params) ≡ true
   returns : (not f.gives_int || block_returns f.body) ≡ true
@@ -38,7 +38,7 @@ head_of program f h =
     record { apart = (and_parts (differ (names_of f.params)) (not (list_any (λ p. is_among p.name (globals program)) f.params)) two.0).0; returns = two.1 }
 
 module _ (program : Program) (all : List Function) (calls : (f : Name) (g : Function) → called f program.functions ≡ Some g → CallFound all f g) where
-  -- a function of the source, and those of its loops
+  -- a function of the source and the functions of its loops use known names
   source_known : (k : ℕ) (f : Function) → faults_of program f ≡ [] → can_lower_function program.functions f ≡ true → AllFound all (made_in k f.body)
       → FunctionKnown all (lower_function k f) × AllFunctionsKnown all (made_in k f.body)
   source_known k f typed can found =
@@ -60,7 +60,7 @@ module _ (program : Program) (all : List Function) (calls : (f : Name) (g : Func
         made_in_known program all calls returns around (integers_of f.params) (arrays_of f.params) (known_of f.params) locals agree k f.body typed_body can_body found,
       )
 
-  -- the functions of a source, and those of their loops
+  -- the functions of a source and the functions of their loops use known names
   sources_known : (k : ℕ) (fs : List Function) → flat_map (faults_of program) fs ≡ [] → list_all (can_lower_function program.functions) fs ≡ true → AllFound all (made_of k fs) →
       AllFunctionsKnown all (lower_functions k fs) × AllFunctionsKnown all (made_of k fs)
   sources_known k [] typed can found = (tt, tt)
@@ -72,7 +72,7 @@ module _ (program : Program) (all : List Function) (calls : (f : Name) (g : Func
       let there = sources_known (k + loop_count_in f.body) fs (right_none (faults_of program f) (flat_map (faults_of program) fs) typed) two.1 (found_second all made made' found) in
       ((here.0, there.0), both_known all made made' here.1 there.1)
 
--- in a well typed program that can be lowered
+-- the functions of a well-typed program that can be lowered use known names
 pub lowerable_known : (program : Program) → IsWellTyped program → is_lowerable program ≡ true → AllFunctionsKnown (lowered program).functions (lowered program).functions
 lowerable_known program typed can =
     let fs = program.functions in
@@ -81,7 +81,8 @@ lowerable_known program typed can =
     let two = sources_known program (lowered program).functions (call_found 0 fs (made_of 0 fs)) 0 fs typed' can (loops_found fs fs can) in
     both_known (lowered program).functions (lower_functions 0 fs) (made_of 0 fs) two.0 two.1
 
--- in a program that types and ownership accept, which can be lowered, as the law `owned_is_lowerable` tells
+-- the functions of a program that types and ownership accept use known names; by the law `owned_is_lowerable` it can be
+-- lowered
 pub functions_known : (program : Program) → IsOwnedSource program → is_lowerable program ≡ true → AllFunctionsKnown (lowered program).functions (lowered program).functions
 functions_known program owned can = lowerable_known program owned.typed can
 
@@ -89,7 +90,7 @@ both_own : (all xs ys : List Function) → AllOwnNames all xs → AllOwnNames al
 both_own all [] ys h g = g
 both_own all (x ∷ xs) ys h g = (h.0, both_own all xs ys h.1 g)
 
--- the functions of loops read no array alone
+-- the functions of loops have no read-only parameter
 mutual
   loops_own : (all : List Function) (line k : ℕ) (s : Stmt) → AllOwnNames all (made_by line k s)
   loops_own all line k (If e b) = loops_own_in all k b
@@ -132,7 +133,7 @@ module _ (program : Program) (all : List Function) (calls : (f : Name) (g : Func
       (right_none test inner typed_here) in
       ((here, more.0), both_own all (made_in k f.body) (made_of (k + loop_count_in f.body) fs) (loops_own_in all k f.body) more.1)
 
--- in a program that types accept, which can be lowered
+-- in the functions of a well-typed program, written arrays are not read-only parameters
 pub functions_own : (program : Program) → IsWellTyped program → AllOwnNames (lowered program).functions (lowered program).functions
 functions_own program typed =
     let fs = program.functions in

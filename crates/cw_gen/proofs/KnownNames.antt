@@ -1,4 +1,4 @@
--- Names among others, as what is known of lowered programs tells them.
+-- Names among others, in the form that the facts on lowered programs need.
 use Rattle.std.proofs.Common.{◌≡◌, true, false, List, [], ◌∷◌, ◌++◌, sym, ◌∙◌, ap}
 use Rattle.std.specs.Prelude.{if◌then◌else◌, not, ◌&&◌, ◌||◌}
 use Rattle.std.proofs.lemmas.Bool.{and_parts}
@@ -8,15 +8,15 @@ use Rattle.cw_model.specs.Names.{same_name, is_among, differ}
 use Rattle.cw_tree.specs.lemmas.Names.{among_append, front_among, later_among}
 use Rattle.cw_loops.specs.lemmas.Naming.{none_among}
 
--- a name that is not the first
+-- a name that differs from the first name
 pub past : (x y : Name) (xs : List Name) → same_name x y ≡ false → is_among x xs ≡ false → is_among x (y ∷ xs) ≡ false
 past x y xs e h = ap (λ b. if b then true else is_among x xs) e ∙ h
 
--- where it is not among the first, it is among the second
+-- a name of a concatenation that is not in the first list is in the second
 pub in_second : (x : Name) (xs ys : List Name) → is_among x (xs ++ ys) ≡ true → is_among x xs ≡ false → is_among x ys ≡ true
 in_second x xs ys h n = sym (ap (λ b. b || is_among x ys) n) ∙ sym (among_append x xs ys) ∙ h
 
--- names of two lists with none in common differ
+-- the concatenation of two disjoint lists of distinct names has distinct names
 pub differ_join : (xs ys : List Name) → differ xs ≡ true → differ ys ≡ true → ((x : Name) → is_among x xs ≡ true → is_among x ys ≡ false) → differ (xs ++ ys) ≡ true
 differ_join [] ys h g apart' = g
 differ_join (x ∷ xs) ys h g apart' =

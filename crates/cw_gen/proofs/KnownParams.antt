@@ -1,4 +1,4 @@
--- The parameters of a function, as types know them and as locals.
+-- The parameters of a function, as the types know them and as locals.
 use Rattle.std.proofs.Common.{◌≡◌, Bool, true, false, List, [], ◌∷◌, ◌++◌, cond, refl, ap}
 use Rattle.std.specs.Prelude.{◌==◌, if◌then◌else◌, not, map, filter}
 use Rattle.cw_gen.specs.Marks.{readers_in, marks_in, marks_of}
@@ -8,7 +8,7 @@ use Rattle.cw_tree.specs.Resolved.{locals_of}
 use Rattle.cw_loops.specs.Lowered.{int_params, array_params}
 use Rattle.cw_loops.specs.Lowerable.{integers_of, arrays_of}
 
--- the locals of parameters are these
+-- the parameters as locals
 pub local_ints : (ps : List Param) → (locals_of ps).ints ≡ integers_of ps
 local_ints [] = refl
 local_ints (p ∷ ps) = go (wants_array p) (local_ints ps)
@@ -42,7 +42,7 @@ all_arrays : (over : List Name) → (locals_of (array_params over)).arrays ≡ o
 all_arrays [] = refl
 all_arrays (a ∷ over) = ap (λ r. a ∷ r) (all_arrays over)
 
--- its integers are these, and its arrays those
+-- the integers and the arrays of the function of a loop
 pub loop_ints : (ints over : List Name) → (locals_of (int_params ints ++ array_params over)).ints ≡ ints
 loop_ints [] over = no_ints over
 loop_ints (x ∷ ints) over = ap (λ r. x ∷ r) (loop_ints ints over)
@@ -51,7 +51,7 @@ pub loop_arrays : (ints over : List Name) → (locals_of (int_params ints ++ arr
 loop_arrays [] over = all_arrays over
 loop_arrays (x ∷ ints) over = loop_arrays ints over
 
--- none of its arrays is only read
+-- the function of a loop has no read-only array
 none_read : (ints over : List Name) → readers_in (marks_in (map (λ (p : Param). p.kind) (int_params ints ++ array_params over))) ≡ 0
 none_read [] [] = refl
 none_read [] (a ∷ over) = none_read [] over

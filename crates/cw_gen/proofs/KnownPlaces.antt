@@ -1,4 +1,4 @@
--- Where a statement of a source stands, what types and the test of lowering know of names there, and what its lowered text knows.
+-- The names at a statement of a source, as the types, the test of lowerable programs, and the lowered text know them.
 use Rattle.cw_facts.specs.Tests.{not_true}
 use Rattle.cw_model.specs.declared.syntax.NameKind.TheVariants as name_kind
 use Rattle.std.proofs.Common.{◌≡◌, ℕ, Bool, true, false, List, [], ◌∷◌, ◌++◌, refl, sym, ◌∙◌, ap, subst, append_assoc, append-nil}
@@ -22,7 +22,7 @@ use Rattle.cw_gen.proofs.Kept.{ExprKnown, ArgKnown, ArgsKnown, TargetKnown, Retu
 use Rattle.cw_gen.proofs.KnownNames.{in_second}
 use Rattle.cw_gen.proofs.KnownParams.{local_ints, local_arrays}
 
--- all three agree: types, the test of what can be lowered, and the locals of the lowered function
+-- all three agree: the types, the test of lowerable programs, and the locals of the lowered function
 pub record Agree (c : Surroundings) (ints arrays : List Name) (known : Known) (locals : Locals) : Type 0 where
   pub ints_are : locals.ints ≡ c.given ++ ints
   pub arrays_are : locals.arrays ≡ c.over ++ arrays
@@ -32,7 +32,7 @@ pub record Agree (c : Surroundings) (ints arrays : List Name) (known : Known) (l
   pub low_given : (a : Name) → is_among a c.over ≡ true → is_among low c.given ≡ true
   pub variable_given : (a : Name) → is_among a c.over ≡ true → is_among c.variable c.given ≡ true
 
--- a new name is neither
+-- a new name is neither an integer nor an array
 pub new_name : (program : Program) (known : Known) (x : Name) → is_new program known x ≡ true → (is_int known x ≡ false) × (is_array known x ≡ false)
 new_name program known x h = (not_there (λ kind. not (is_array_kind kind)) known x unknown, not_there is_array_kind known x unknown)
   where
@@ -44,13 +44,13 @@ new_name program known x h = (not_there (λ kind. not (is_array_kind kind)) know
     unknown = test (is_among x (map (λ k. k.0) known)) h
 
 module _ {c : Surroundings} {ints arrays : List Name} {known : Known} {locals : Locals} (agree : Agree c ints arrays known locals) where
-  -- an integer that may be written is of the turn itself
+  -- an integer that may be written belongs to the iteration itself
   pub write_there : (x : Name) → is_int known x ≡ true → can_write c x ≡ true → is_among x locals.ints ≡ true
   write_there x h w =
       let two = and_parts (not (is_among x c.outer)) (not (is_among x c.given)) w in
       ap (is_among x) agree.ints_are ∙ among_right x c.given ints (in_second x c.outer ints (sym (agree.known_ints x) ∙ h) (not_true (is_among x c.outer) two.0))
 
-  -- an integer that may be read is there
+  -- an integer that may be read is known
   pub int_there : (x : Name) → is_int known x ≡ true → can_read c x ≡ true → is_among x locals.ints ≡ true
   int_there x h r = go (is_among x c.shared) refl r
     where
@@ -67,23 +67,23 @@ module _ {c : Surroundings} {ints arrays : List Name} {known : Known} {locals : 
   own_there : (a : Name) → is_among a arrays ≡ true → is_among a locals.arrays ≡ true
   own_there a h = ap (is_among a) agree.arrays_are ∙ among_right a c.over arrays h
 
-  -- an array of the turn itself
+  -- an array of the iteration itself is known
   pub local_there : (a : Name) → is_array known a ≡ true → is_local c a ≡ true → is_among a locals.arrays ≡ true
   local_there a h l =
       own_there a (in_second a c.arrays arrays (sym (agree.known_arrays a) ∙ h) (not_true (is_among a c.arrays) (and_parts (not (is_among a c.arrays)) _ l).0))
 
-  -- a name that is none of the turn's arrays, and may be named alone
+  -- a name that is not an array of the iteration, and that may be used as an argument, is not an array
   pub not_there_alone : (a : Name) → is_among a arrays ≡ false → is_local c a ≡ true → is_among a locals.arrays ≡ false
   not_there_alone a h l =
       let two = and_parts (not (is_among a c.arrays)) (not (is_among a c.over) && not (is_among a c.sliced)) l in
       let over = not_true (is_among a c.over) (and_parts (not (is_among a c.over)) (not (is_among a c.sliced)) two.1).0 in
       ap (is_among a) agree.arrays_are ∙ none_among a c.over arrays over h
 
-  -- an integer is no array
+  -- an integer is not an array
   pub no_array : (x : Name) → is_int known x ≡ true → is_local c x ≡ true → is_among x locals.arrays ≡ false
   no_array x h l = not_there_alone x (neither_among x c.arrays arrays (sym (agree.known_arrays x) ∙ not_both known x h)).1 l
 
-  -- the variable of the loop around
+  -- the variable of the enclosing loop is known
   variable_known : (a : Name) → is_among a c.over ≡ true → (i : Expr) → is_variable c i ≡ true → ExprKnown locals (lower_expr c.over i)
   variable_known a o (Variable y) h = given_there y (ap (λ z. is_among z c.given) (same_are y c.variable h) ∙ agree.variable_given a o)
   variable_known a o (Number n) h = absurd cc
@@ -93,7 +93,7 @@ module _ {c : Surroundings} {ints arrays : List Name} {known : Known} {locals : 
   variable_known a o (Not e) h = absurd cc
   variable_known a o (Binary operator d e) h = absurd cc
 
-  -- an element of an array
+  -- an element of an array uses known names
   pub spot_known : (a : Name) (i : Expr) → is_array known a ≡ true → (if is_among a c.over then is_variable c i else (is_local c a && can_evaluate c i)) ≡ true →
       (can_evaluate c i ≡ true → ExprKnown locals (lower_expr c.over i)) → (is_among a locals.arrays ≡ true) × ExprKnown locals (lower_index (is_among a c.over) (lower_expr c.over i))
   spot_known a i array can more = go (is_among a c.over) refl can
@@ -103,7 +103,7 @@ module _ {c : Surroundings} {ints arrays : List Name} {known : Known} {locals : 
       go true o h = (over_there a o, (variable_known a o i h, given_there low (agree.low_given a o)))
       go false o h = let two = and_parts (is_local c a) (can_evaluate c i) h in (local_there a array two.0, more two.1)
 
-  -- an expression, and what is passed
+  -- a lowered expression and a lowered argument use known names
   pub expr_known : (e : Expr) → is_fine known e ≡ true → can_evaluate c e ≡ true → ExprKnown locals (lower_expr c.over e)
   expr_known (Number n) fine can = tt
   expr_known (Variable x) fine can = int_there x fine can
@@ -143,12 +143,12 @@ module _ {c : Surroundings} {ints arrays : List Name} {known : Known} {locals : 
       let g = and_parts (can_pass c e) (can_pass_all c es) can in
       (arg_known (wants_array p) e f.0 g.0, args_known ps es f.1 g.1)
 
-  -- what takes a result
+  -- the target of a result is known
   pub target_known : (f : Function) (target : Option Name) → is_target known f target ≡ true → can_target c target ≡ true → TargetKnown locals f target
   target_known f None fine can = tt
   target_known f (Some x) fine can = let two = and_parts (is_int known x) f.gives_int fine in (write_there x two.0 can, two.1)
 
-  -- what is returned
+  -- the lowered expression of a return uses known names
   pub return_known : (returns : Returns) (e : Option Expr) → may_return returns known e ≡ true → ((d : Expr) → e ≡ Some d → can_evaluate c d ≡ true)
       → ReturnKnown returns locals (lower_option c.over e)
   return_known Nowhere None fine can = absurd cc
@@ -158,7 +158,7 @@ module _ {c : Surroundings} {ints arrays : List Name} {known : Known} {locals : 
   return_known Alone None fine can = tt
   return_known Alone (Some e) fine can = absurd cc
 
-  -- what a loop takes along
+  -- the captured integers of a loop are known
   pub captured_known : (xs : List Name) → can_capture c ints xs ≡ true → AllKnown locals.ints xs
   captured_known [] can = tt
   captured_known (x ∷ xs) can =
@@ -175,7 +175,7 @@ module _ {c : Surroundings} {ints arrays : List Name} {known : Known} {locals : 
       let three = and_parts (is_among a arrays) (can_slice c arrays xs) two.1 in
       (own_there a three.0, sliced_known xs three.1)
 
-  -- one name more
+  -- all three agree after one more declaration
 
   pub agree_int : (y : Name) → is_array known y ≡ false → Agree c (ints ++ y ∷ []) arrays ((y, name_kind.Integer) ∷ known) (with_int y locals)
   agree_int y fresh = record {
@@ -199,7 +199,7 @@ module _ {c : Surroundings} {ints arrays : List Name} {known : Known} {locals : 
     variable_given = agree.variable_given;
   }
 
-  -- nothing more
+  -- all three agree if nothing is declared
   agree_none : Agree c (ints ++ []) (arrays ++ []) known locals
   agree_none = record {
     ints_are = agree.ints_are ∙ ap (λ l. c.given ++ l) (sym (append-nil ints));
@@ -217,7 +217,7 @@ module _ {c : Surroundings} {ints arrays : List Name} {known : Known} {locals : 
   only_arrays : Agree c (ints ++ []) arrays known locals
   only_arrays = subst (λ l. Agree c (ints ++ []) l known locals) (append-nil arrays) agree_none
 
-  -- in the turn of a loop: the function's own frame
+  -- all three agree in the body of a loop, in the frame of its function
   pub agree_inside : (x : Name) (taken over : List Name) → is_array known x ≡ false →
       Agree (inside c ints arrays x taken over) [] [] ((x, name_kind.Integer) ∷ known) (record { ints = (low ∷ high ∷ taken) ++ x ∷ []; arrays = over })
   agree_inside x taken over fresh = record {
@@ -230,7 +230,7 @@ module _ {c : Surroundings} {ints arrays : List Name} {known : Known} {locals : 
     variable_given = λ a o. among_right x (low ∷ high ∷ taken) (x ∷ []) (front_among x []);
   }
 
--- at the head of a function
+-- all three agree at the head of a function
 pub agree_head : (fs : List Function) (ps : List Param) → differ (names_of ps) ≡ true → Agree (nothing_around fs) (integers_of ps) (arrays_of ps) (known_of ps) (locals_of ps)
 agree_head fs ps h = record {
   ints_are = local_ints ps;
@@ -242,7 +242,7 @@ agree_head fs ps h = record {
   variable_given = λ a o. absurd cc;
 }
 
--- behind a statement
+-- all three agree after a statement
 pub agree_after : (program : Program) (returns : Returns) (line : ℕ) (c : Surroundings) (ints arrays : List Name) (known : Known) (locals : Locals)
     (s : Stmt) → faults_in program returns known line s ≡ [] → Agree c ints arrays known locals →
     Agree c (ints ++ new_integers s) (arrays ++ new_arrays s) (declares s known) (locals_after locals s)

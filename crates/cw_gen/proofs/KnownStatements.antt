@@ -1,4 +1,4 @@
--- The names that a lowered statement uses are known where it stands.
+-- The names that a lowered statement uses are known at the statement.
 use Rattle.cw_facts.specs.Tests.{not_true}
 use Rattle.cw_model.specs.declared.syntax.NameKind.TheVariants as name_kind
 use Rattle.std.proofs.Common.{◌≡◌, ℕ, suc, ◌+◌, ◌==◌, Bool, true, false, List, [], ◌∷◌, ◌++◌, length, Option, Some, None, refl, sym, ◌∙◌, ap, subst, append_assoc}
@@ -34,7 +34,7 @@ use Rattle.cw_gen.proofs.KnownPlaces.{Agree, new_name, write_there, spot_known, 
 use Rattle.cw_gen.proofs.KnownPlaces.{captured_known, sliced_known, local_there, not_there_alone, agree_array, agree_after}
 
 mutual
-  -- a source calls no half
+  -- a source contains no call on a half
   pub no_half : (c : Surroundings) (ints arrays over : List Name) (k : ℕ) (s : Stmt) → can_lower c ints arrays s ≡ true → has_no_half (lower_stmt over k s) ≡ true
   no_half c ints arrays over k (Declare x e) can = refl
   no_half c ints arrays over k (DeclareArray a e) can = refl
@@ -73,7 +73,7 @@ mutual
       ∙ no_half_in c (ints ++ new_integers s) (arrays ++ new_arrays s) over (k + loop_count s) b two.1
 
 mutual
-  -- what surely returns does so lowered
+  -- a statement that surely returns does so after lowering
   surely_same : (over : List Name) (k : ℕ) (s : Stmt) → surely_returns (lower_stmt over k s) ≡ surely_returns s
   surely_same over k (IfElse e b c) = ap (λ q. q && block_returns (lower_block over (k + loop_count_in b) c)) (returns_same over k b)
       ∙ ap (λ q. block_returns b && q) (returns_same over (k + loop_count_in b) c)
@@ -100,16 +100,16 @@ mutual
   returns_same over k (Then line s End) = surely_same over k s
   returns_same over k (Then line s (Then m t b)) = returns_same over (k + loop_count s) (Then m t b)
 
--- the arrays of the parameters stay the first
+-- the arrays of the parameters stay the first arrays
 pub begins_next : (given : List Name) (locals : Locals) (s : Stmt) → Begins given locals.arrays → Begins given (locals_after locals s).arrays
 begins_next given locals (DeclareArray x e) b = record { more = b.more ++ x ∷ []; is = ap (λ l. l ++ x ∷ []) b.is ∙ append_assoc given b.more (x ∷ []) }
 begins_next given locals _ b = b
 
--- one array more
+-- the arrays of the parameters stay the first arrays after a declaration of an array
 pub begins_array : (given : List Name) (locals : Locals) (x : Name) → Begins given locals.arrays → Begins given (with_array x locals).arrays
 begins_array given locals x b = record { more = b.more ++ x ∷ []; is = ap (λ l. l ++ x ∷ []) b.is ∙ append_assoc given b.more (x ∷ []) }
 
--- what types keep at the head of a loop
+-- the facts that the types guarantee for the head of a loop
 pub record HeadKept (known : Known) (x : Name) (from to : Expr) : Type 0 where
   pub no_array : is_array known x ≡ false
   pub no_int : is_int known x ≡ false
@@ -129,7 +129,7 @@ head_kept program known x y z from to grain over h =
     let new = new_name program known x one in
     record { no_array = new.1; no_int = new.0; from_fine = three.1; to_fine = four.1 }
 
--- what types keep at a cut
+-- the facts that the types guarantee for a cut
 pub record CutKept (known : Known) (a : Name) (e : Expr) (l r : Name) : Type 0 where
   pub array : is_array known a ≡ true
   pub at_fine : is_fine known e ≡ true
@@ -144,7 +144,7 @@ cut_kept program known a e l r h =
     let one = and_parts (is_writable known a) (is_fine known e) two.0 in
     record { array = writable_array known a one.0; at_fine = one.1; left = (new_name program known l two.1).0; right = (new_name program known r three.1).0 }
 
--- in a cut, beside its two parts
+-- all three agree in a cut, including its two parts
 pub cut_agrees : {c : Surroundings} {ints arrays : List Name} {known : Known} {locals : Locals} → Agree c ints arrays known locals → (a : Name) (e : Expr) (l r : Name) → CutKept known a e l r →
     Agree c ints ((arrays ++ l ∷ []) ++ r ∷ []) ((r, name_kind.Array) ∷ (l, name_kind.Array) ∷ known) (with_array r (with_array l locals))
 cut_agrees {known = known} agree a e l r cut = agree_array (agree_array agree l cut.left) r (still (same_name r l) cut.right)
@@ -153,7 +153,7 @@ cut_agrees {known = known} agree a e l r cut = agree_array (agree_array agree l 
     still true h = refl
     still false h = h
 
--- what the test of lowering keeps at a loop
+-- the facts that the test of lowerable programs guarantees for a loop
 pub record LoopKept (c : Surroundings) (ints arrays : List Name) (x : Name) (from to : Expr) (taken over : List Name) (b : Block) : Type 0 where
   pub from_can : can_evaluate c from ≡ true
   pub to_can : can_evaluate c to ≡ true

@@ -1,4 +1,4 @@
--- The code of each function of a lowered program does what the function does.
+-- The code of each function of a lowered program executes the function.
 use Rattle.std.proofs.Common.{◌≡◌, ℕ, zero, suc, ◌+◌, ◌-◌, ◌≤◌, List, [], ◌++◌, length, Bool, true, false, if◌then◌else◌, nat_lt}
 use Rattle.std.proofs.Common.{Option, Some, None, refl, sym, ap, ◌∙◌, subst, arith, length-append, ℤ, pos, true≢false}
 use Rattle.std.specs.Prelude.{replicate}
@@ -45,7 +45,7 @@ module _ (code : Code) (fs : List Function) (lists : Lists) (small : length code
     whole = b.whole;
   }
 
-  -- a call that begins has all its slots
+  -- the slots of a call are complete at its begin
   first_fills : (f : Function) (fn : Func) → Compiled code fs lists f fn → (vs : List ℤ) (xss : List (List ℤ)) → length vs ≡ fn.params
       → length xss ≡ fn.array_params + fn.readers → Fills (marks_for f.params) (first_store fn vs xss) (room_of_func f fn)
   first_fills f fn compiled vs xss n m =
@@ -64,7 +64,7 @@ module _ (code : Code) (fs : List Function) (lists : Lists) (small : length code
         own = tt;
       }
 
-  -- a function gives what its returns may
+  -- the result of a function is one that its returns allow
   given_by : (f : Function) (v : Option ℤ) (b : Bool) → f.gives_int ≡ b → MayGive (returns_of f) v → GivenBy f v
   given_by f (Some v) b e may = tt
   given_by f None true e may =
@@ -72,12 +72,12 @@ module _ (code : Code) (fs : List Function) (lists : Lists) (small : length code
       absurd (true≢false may')
   given_by f None false e may = e
 
-  -- a call begins in no block
+  -- a call begins outside of all blocks
   outside_of : (b : Bool) → Outermost (if b then WithInt else Alone) []
   outside_of true = refl
   outside_of false = refl
 
-  -- a function that goes on at its end gives nothing
+  -- a function whose body ends without a return has no result
   goes_without : (f : Function) (fn : Func) → Compiled code fs lists f fn → block_returns f.body ≡ false → f.gives_int ≡ false
   goes_without f fn compiled goes = cases f.gives_int refl
     where
@@ -85,7 +85,7 @@ module _ (code : Code) (fs : List Function) (lists : Lists) (small : length code
       cases true e = absurd (true≢false (sym (compiled.returns e) ∙ goes))
       cases false e = refl
 
-  -- calls run, from any depth
+  -- calls execute their functions, from any depth
   pub calls_run : (table : Table code fs lists) (reducers_are : reducer_names code.reducers ≡ lists.reducers) (tags_are : code.tags ≡ lists.tags)
       → (bound depth : ℕ) → CallsRun code fs lists bound depth (λ e g given line left. call bound depth fs e g given line left)
   unfolding call

@@ -1,4 +1,4 @@
--- Lists that are put at numbers: each is found there where no number is used twice.
+-- Lists that are stored at numbers: each is found at its number if no number is used twice.
 use Rattle.std.proofs.Common.{◌≡◌, ℕ, zero, suc, ◌+◌, ◌≤◌, ◌<◌, Bool, true, false, List, [], ◌∷◌, ◌++◌, length, Some, refl, sym, ◌∙◌, ap, arith}
 use Rattle.std.specs.Prelude.{if◌then◌else◌, map, nat_eq, slice_get, slice_set}
 use Rattle.std.proofs.lemmas.Bool.Decides.{nat_tests}
@@ -10,13 +10,13 @@ use Rattle.cw_code.specs.declared.code.Loan.{Loan}
 use Rattle.cw_gen.specs.Marks.{Marks, marks_of, array_at}
 use Rattle.cw_gen.specs.Emit.{whole_list, half_list, passed_in, lent_in, put_lists, put_lists_in, put_lists_of, put_loans, put_loans_in, put_loans_of}
 
--- a list, and the number at which it is put
+-- a list with the number at which it is stored
 pub record Entry (X : Type 0) : Type 0 where
   pub key : ℕ
   pub items : List X
 
 abbrev mutual
-  -- what a statement puts
+  -- the lists that a statement stores
   pub entries : (first : ℕ) → Marks → Stmt → List (Entry ℕ)
   entries first marks (Call kind site target f es) = record { key = site; items = passed_in marks es } ∷ []
   entries first marks (Start kind f es) = record { key = half_list first kind f; items = passed_in marks es } ∷ []
@@ -29,18 +29,18 @@ abbrev mutual
   entries first marks (Region tag b) = entries_in first marks b
   entries first marks _ = []
 
-  -- what a block puts
+  -- the lists that a block stores
   pub entries_in : (first : ℕ) → Marks → Block → List (Entry ℕ)
   entries_in first marks End = []
   entries_in first marks (Then line s b) = entries first marks s ++ entries_in first marks b
 
--- what functions put
+-- the lists that functions store
 abbrev pub entries_of : (first : ℕ) → List Function → List (Entry ℕ)
 entries_of first [] = []
 entries_of first (f ∷ fs) = entries_in first (marks_of f.params) f.body ++ entries_of first fs
 
 abbrev mutual
-  -- the loans that a statement puts
+  -- the loans that a statement stores
   pub loans : Marks → Stmt → List (Entry Loan)
   loans marks (Call kind site target f es) = record { key = site; items = lent_in marks es } ∷ []
   loans marks (If e b) = loans_in marks b
@@ -51,17 +51,17 @@ abbrev mutual
   loans marks (Region tag b) = loans_in marks b
   loans marks _ = []
 
-  -- those that a block puts
+  -- the loans that a block stores
   pub loans_in : Marks → Block → List (Entry Loan)
   loans_in marks End = []
   loans_in marks (Then line s b) = loans marks s ++ loans_in marks b
 
--- those that functions put
+-- the loans that functions store
 abbrev pub loans_of : List Function → List (Entry Loan)
 loans_of [] = []
 loans_of (f ∷ fs) = loans_in (marks_of f.params) f.body ++ loans_of fs
 
--- entries are put in turn
+-- entries are stored in sequence
 abbrev pub put_all : {X : Type 0} → List (Entry X) → List (List X) → List (List X)
 put_all [] lists = lists
 put_all (e ∷ es) lists = put_all es (slice_set lists e.key e.items)
@@ -98,7 +98,7 @@ mutual
       puts_in first marks b (put_lists first marks s lists) ∙ ap (put_all (entries_in first marks b)) (puts first marks s lists)
       ∙ sym (put_both (entries first marks s) (entries_in first marks b) lists)
 
--- functions put their entries in turn
+-- functions store their entries in sequence
 pub puts_of : (first : ℕ) (fs : List Function) (lists : List (List ℕ)) → put_lists_of first fs lists ≡ put_all (entries_of first fs) lists
 puts_of first [] lists = refl
 puts_of first (f ∷ fs) lists =
@@ -138,14 +138,14 @@ lends_of (f ∷ fs) lists =
     let here = loans_in (marks_of f.params) f.body in
     lends_of fs (put_loans_in (marks_of f.params) f.body lists) ∙ ap (put_all (loans_of fs)) (lends_in (marks_of f.params) f.body lists) ∙ sym (put_both here (loans_of fs) lists)
 
--- one where a number is this one
+-- 1 if the number is this one, otherwise 0
 abbrev pub one_where : Bool → ℕ
 one_where b = if b then 1 else 0
 
 abbrev pub is_at : (key n : ℕ) → ℕ
 is_at key n = one_where (nat_eq key n)
 
--- how often a number is used
+-- the number of uses of a number
 abbrev pub times : {X : Type 0} → (key : ℕ) → List (Entry X) → ℕ
 times key [] = 0
 times key (e ∷ es) = is_at key e.key + times key es
@@ -175,12 +175,12 @@ at_itself key = go (nat_eq key key) refl
     go true e = refl
     go false e = absurd (grind (arith, nat_tests))
 
--- a number that is not used stays as it was
+-- a number that is not used keeps its list
 stays : {X : Type 0} (es : List (Entry X)) (lists : List (List X)) (key : ℕ) → times key es ≡ 0 → slice_get (put_all es lists) key ≡ slice_get lists key
 stays [] lists key h = refl
 stays (e ∷ es) lists key h = stays es (slice_set lists e.key e.items) key (omega (arith, h)) ∙ set_other lists e.key key e.items (λ same. omega (arith, h, at_itself key, ap (is_at key) same))
 
--- where no number is used twice, and all are in range, each entry is found
+-- if no number is used twice and all are in range, each entry is found
 pub all_found : {X : Type 0} (es : List (Entry X)) (lists : List (List X)) → ((key : ℕ) → times key es ≤ 1) → ((key : ℕ) → 0 < times key es → key < length lists) → AllFound (put_all es lists) es
 all_found [] lists once there = tt
 all_found (e ∷ es) lists once there =

@@ -28,7 +28,7 @@ use Rattle.cw_gen.proofs.Fine.{marks_for}
 use Rattle.cw_gen.proofs.ListsPut.{Entry, entries, entries_in, entries_of, loans, loans_in, loans_of, puts_of, lends_of, is_at, one_where, times, AllFound, found_front, found_back, all_found}
 use Rattle.cw_gen.proofs.ListsWeighed.{Weights, weight, weight_in, weight_of, sites_weigh, loop_weighs, loops_weigh, lowered_weigh}
 
--- calls pass where all that the text puts is found
+-- calls find their lists if all lists that the text stores are found
 
 module _ (lists : Lists) (tables : Tables) where
   abbrev first : ℕ
@@ -76,7 +76,7 @@ module _ (lists : Lists) (tables : Tables) where
         passes_of fs (found_back tables.passed (entries_in first (marks_for f.params) body) (entries_of first rest) h) (found_back tables.lent (loans_in (marks_for f.params) body) (loans_of rest) k),
       )
 
--- a call weighs one where its list is put at this number
+-- a call has weight 1 if its list is stored at this number
 abbrev weights_at : (first : ℕ) → (names : List Name) → (key : ℕ) → Weights
 weights_at first names key = record {
   site = λ n. is_at key n;
@@ -84,7 +84,7 @@ weights_at first names key = record {
   half = λ kind f. is_at key (half_list first kind (slot_of f names));
 }
 
--- one where its loans are
+-- a call has weight 1 if its loans are stored at this number
 abbrev lending_at : (key : ℕ) → Weights
 lending_at key = record {
   site = λ n. is_at key n;
@@ -179,7 +179,7 @@ module _ (first : ℕ) (lists : Lists) (key : ℕ) where
       let there = loans_of (map (slotted_function lists) fs) in
       omega (arith, lent_by_block (marks_for f.params) (locals_of f.params) f.body, lent_by_all fs, both_times key here there)
 
--- a number is used at most once, and only where it is in this range
+-- a number is used at most once, and only if it is in this range
 record Within (count key low high : ℕ) : Type 0 where
   once : count ≤ 1
   from : 0 < count → low ≤ key
@@ -227,17 +227,17 @@ sites_within first names key n (s ∷ sites) h =
     later : (i : ℕ) → suc (suc n) + i ≡ suc n + suc i
     later i = omega arith
 
--- as many loans
+-- call sites have the same weight for loans and for lists
 sites_same : (from : ℕ) (names : List Name) (key : ℕ) (sites : List CallSite) → sites_weigh (lending_at key) sites ≡ sites_weigh (weights_at from names key) sites
 sites_same from names key [] = refl
 sites_same from names key (s ∷ sites) = ap (λ n. is_at key s.number + n) (sites_same from names key sites)
 
--- the calls of loops' functions have none
+-- the calls of loops' functions have no loans
 loops_lend_none : (key k count : ℕ) → loops_weigh (lending_at key) k count ≡ 0
 loops_lend_none key k zero = refl
 loops_lend_none key k (suc count) = omega (arith, loops_lend_none key k count)
 
--- the slots of generated functions are behind those of the source
+-- the slots of generated functions follow the slots of the source
 
 past_source : (fs made : List Function) (k j : ℕ) → list_all is_source_function fs ≡ true
     → slot_of (loop_name j) (function_names (lower_functions k fs ++ made)) ≡ length fs + slot_of (loop_name j) (function_names made)
@@ -249,9 +249,9 @@ past_source (f ∷ fs) made k j h =
     (apart_plain f.name (j ∷ []) (first_true (is_plain f.name) (is_source_block f.body) here))
     ∙ omega (arith, more)
 
--- the lists of the calls of a loop's function have three numbers of their own
+-- the lists of the calls of a loop's function have three numbers that no other list has
 module _ (first : ℕ) (names : List Name) (key sources : ℕ) where
-  -- the first of these numbers
+  -- the first of the three numbers of a loop's function
   abbrev start : (j : ℕ) → ℕ
   start j = first + 3 * (sources + j)
 
@@ -320,7 +320,7 @@ module _ (program : Program) (source_like : list_all is_source_function program.
       length-map (lowered program).functions (slotted_function (lowered_lists program)) ∙ length-append (lower_functions 0 program.functions) made
       ∙ (let many = numbered_loops.many in let kept = count_stays 0 program.functions in omega (arith, many, kept))
 
-  -- each number is used once at most, and is in range
+  -- each number is used at most once, and it is in range
   all_within : (first key : ℕ) → are_numbered 0 (call_sites program) ≡ true → suc (length (call_sites program)) ≡ first → first + 3 * (length program.functions + loops) ≤ most_jump →
       Within (times key (entries_of first (slotted_functions program))) key 1 (first + 3 * (length program.functions + loops))
   all_within first key numbered is small =
@@ -344,7 +344,7 @@ module _ (program : Program) (source_like : list_all is_source_function program.
       total : times key (entries_of first (slotted_functions program)) ≡ sites_part + loops_part
       total = used_of first (lowered_lists program) key (lowered program).functions ∙ lowered_weigh here program.functions source_like
 
-  -- each number has loans once at most, and is in range
+  -- each number has loans at most once, and it is in range
   all_lent : (first key : ℕ) → are_numbered 0 (call_sites program) ≡ true → suc (length (call_sites program)) ≡ first → Within (times key (loans_of (slotted_functions program))) key 1 first
   all_lent first key numbered is =
       let names = (lowered_lists program).functions in

@@ -1,4 +1,5 @@
--- Lowering keeps what calls weigh: of each loop one first call and a call on each half come to the call sites of the source.
+-- Lowering keeps the weight of calls: each loop adds one first call and a call on each half to the call sites of the
+-- source.
 use Rattle.std.proofs.Common.{◌≡◌, ℕ, zero, suc, ◌+◌, true, List, [], ◌∷◌, ◌++◌, flat_map, arith, refl, ◌∙◌, ap}
 use Rattle.std.specs.Prelude.{◌&&◌}
 use Rattle.std.specs.List.{list_all}
@@ -14,14 +15,14 @@ use Rattle.cw_loops.specs.Lowered.{loop_count_in, lower_stmt, lower_block, made_
 use Rattle.cw_loops.specs.SourceLike.{is_source_expr, is_source_stmt, is_source_block, is_source_function}
 use Rattle.cw_loops.specs.lemmas.Numbering.{count_of}
 
--- what calls weigh: that of a site, the first one of a loop's function, and those on its halves
+-- the weights of calls: of a call site, of the first call of a loop's function, and of its calls on both halves
 pub record Weights : Type 0 where
   pub site : ℕ → ℕ
   pub whole : Name → ℕ
   pub half : CallKind → Name → ℕ
 
 abbrev mutual
-  -- what the calls of a statement weigh
+  -- the weight of the calls of a statement
   pub weight : Weights → Stmt → ℕ
   weight w (Call kind site target f es) = w.site site
   weight w (Start kind f es) = w.half kind f
@@ -34,22 +35,22 @@ abbrev mutual
   weight w (Region tag b) = weight_in w b
   weight w _ = 0
 
-  -- what those of a block do
+  -- the weight of the calls of a block
   pub weight_in : Weights → Block → ℕ
   weight_in w End = 0
   weight_in w (Then line s b) = weight w s + weight_in w b
 
--- what the calls of functions weigh
+-- the weight of the calls of functions
 abbrev pub weight_of : Weights → List Function → ℕ
 weight_of w [] = 0
 weight_of w (f ∷ fs) = weight_in w f.body + weight_of w fs
 
--- what call sites weigh
+-- the weight of call sites
 abbrev pub sites_weigh : Weights → List CallSite → ℕ
 sites_weigh w [] = 0
 sites_weigh w (s ∷ sites) = w.site s.number + sites_weigh w sites
 
--- what the calls of one loop's function weigh, and those of so many from a number on
+-- the weight of the calls of one loop's function, and of this number of loops from `k` on
 abbrev pub loop_weighs : Weights → (k : ℕ) → ℕ
 loop_weighs w k = w.whole (loop_name k) + (w.half Spawned (loop_name k) + w.half Plain (loop_name k))
 
@@ -89,7 +90,7 @@ module _ (w : Weights) where
   cuts_weigh line [] b = refl
   cuts_weigh line (a ∷ over) b = omega (arith, cuts_weigh line over b)
 
-  -- the function of a loop has the calls of its body, and one on each half
+  -- the function of a loop has the calls of its body, and one call on each half
   function_weighs : (name : Name) (line : ℕ) (x : Name) (grain : ℕ) (ints over : List Name) (b : Block)
       → weight_in w (loop_function name line x grain ints over b).body ≡ weight_in w b + (w.half Spawned name + w.half Plain name)
   function_weighs name line x grain ints over b = omega (arith, cuts_weigh line over (both_halves line name (left_arguments ints over) (right_arguments ints over)))
@@ -171,7 +172,8 @@ module _ (w : Weights) where
         both_loops k (loop_count_in f.body) (count_of fs),
       )
 
-  -- the calls of the lowered functions weigh what the call sites of the source and the calls of its loops do
+  -- the weight of the calls of the lowered functions is the weight of the call sites of the source and of the calls of
+  -- its loops
   pub lowered_weigh : (fs : List Function) → list_all is_source_function fs ≡ true →
       weight_of w (lower_functions 0 fs ++ made_of 0 fs) ≡ sites_weigh w (flat_map (λ (f : Function). sites_in_block f.body) fs) + loops_weigh w 0 (count_of fs)
   lowered_weigh fs h = both_weigh (lower_functions 0 fs) (made_of 0 fs) ∙ functions_weigh fs 0 h

@@ -1,4 +1,4 @@
--- What the function of a loop is made of: the code of its text is what is written, part by part.
+-- The parts of a loop's function: the code of its text is the code that the generator writes, part by part.
 use Rattle.std.proofs.Common.{◌≡◌, ℕ, zero, suc, ◌+◌, ◌-◌, ◌*◌, ◌<◌, Bool, true, false, if◌then◌else◌, cond, filter, List, []}
 use Rattle.std.proofs.Common.{◌∷◌, ◌++◌, length, map, refl, sym, ap, ◌∙◌, arith, append_assoc, length-append}
 use Rattle.std.specs.Prelude.{◌==◌, max, replicate, slice_set}
@@ -21,14 +21,14 @@ use Rattle.cw_gen.specs.Emit.{ints_in_block, arrays_in_block, put_lists_in, put_
 use Rattle.cw_gen.specs.Marks.{marks_in, marks_of, readers_in, count_such, count_ints, count_arrays, count_taken, count_readers, is_integer_kind}
 use Rattle.cw_gen.specs.Written.{turn_text, written_cuts, written_ends, written_half, written_middle, written_func}
 
--- numbers from one on begin with it
+-- consecutive numbers begin with the first
 pub numbers_next : (from i n : ℕ) → i < n → numbers from (n - i) ≡ from ∷ numbers (from + 1) (n - (i + 1))
 numbers_next from i n lt =
     let e : n - i ≡ suc (n - (i + 1)) = omega (arith, lt) in
     let next : suc from ≡ from + 1 = omega arith in
     ap (numbers from) e ∙ ap (λ k. from ∷ numbers k (n - (i + 1))) next
 
--- what is made of numbers, one by one, after the first of those that are left
+-- a list that is built from consecutive numbers, after one more number
 pub step_next : {A : Type 0} (g : List ℕ → List A) (items now whole one : List A) (from next i n : ℕ) → i < n → next ≡ from + 1 → now ≡ items ++ one →
     ((ns : List ℕ) → g (from ∷ ns) ≡ one ++ g ns) → items ++ g (numbers from (n - i)) ≡ whole → now ++ g (numbers next (n - (i + 1))) ≡ whole
 step_next g items now whole one from next i n lt is_next is_now split before =
@@ -39,7 +39,7 @@ step_next g items now whole one from next i n lt is_next is_now split before =
     ∙ ap (λ l. items ++ l) (sym (ap g (numbers_next from i n lt) ∙ split rest))
     ∙ before
 
--- arrays have no instructions, and are what is passed
+-- arrays have no instructions, and their slots are the list of the call
 args_of_arrays : (line : ℕ) (arrays : List ℕ) → emitted_args [] line (map Array arrays) ≡ []
 args_of_arrays line [] = refl
 args_of_arrays line (a ∷ arrays) = args_of_arrays line arrays
@@ -48,18 +48,18 @@ args_of_half : (line : ℕ) (ints arrays : List ℕ) → emitted_args [] line (m
 args_of_half line [] arrays = args_of_arrays line arrays
 args_of_half line (s ∷ ints) arrays = ap (λ is. instr.Load s ∷ is) (args_of_half line ints arrays)
 
--- a call on one half
+-- the code of a call on one half
 pub half_emitted : (first line : ℕ) (kind : CallKind) (index from to k : ℕ) (arrays : List ℕ) →
     emitted_alone first [] line (Start kind index (half from to (numbers 2 k) arrays)) ≡ written_half kind (half_of first kind index) from to k
 half_emitted first line kind index from to k arrays =
     ap (λ is. instr.Load from ∷ instr.Load to ∷ (is ++ instr.Recur kind (half_of first kind index) ∷ [])) (args_of_half line (numbers 2 k) arrays)
 
--- one end more at the back is one more in front
+-- appending an end and prepending an end are the same
 ends_turned : (arrays : List ℕ) → written_ends arrays ++ instr.EndCut ∷ [] ≡ instr.EndCut ∷ written_ends arrays
 ends_turned [] = refl
 ends_turned (n ∷ arrays) = ap (λ is. instr.EndCut ∷ is) (ends_turned arrays)
 
--- what stands inside cuts
+-- the code of a block inside cuts: the cuts, the block, and the ends of the cuts
 pub cuts_emitted : (first : ℕ) (l : Loop) (arrays : List ℕ) (inside : Block) →
     emitted_block first [] (in_cuts l arrays inside) ≡ written_cuts l arrays ++ (emitted_block first [] inside ++ written_ends arrays)
 cuts_emitted first l [] inside = sym (append-nil (emitted_block first [] inside))
@@ -75,7 +75,7 @@ cuts_emitted first l (n ∷ arrays) inside =
     let body = ap (λ is. (is ++ instr.EndCut ∷ []) ++ []) (cuts_emitted first l arrays inside) ∙ regrouped in
     ap (λ is. written_cuts l (n ∷ []) ++ is) body
 
--- a node
+-- the code of a node
 pub node_emitted : (first index : ℕ) (l : Loop) →
     let m = turn_slot l.captured in
     let arrays = numbers 0 l.over in
@@ -95,7 +95,7 @@ node_emitted first index l =
     ∙ ap (λ is. written_half Spawned (half_of first Spawned index) low m l.captured ++ is) (append-nil right_code ∙ other) in
     ap (λ is. written_middle l ++ is) (cuts_emitted first l arrays (both_halves index l) ∙ ap (λ is. written_cuts l arrays ++ (is ++ written_ends arrays)) both)
 
--- a leaf
+-- the code of a leaf
 pub leaf_emitted : (first : ℕ) (l : Loop) →
     emitted_block first [] (leaf l)
     ≡ instr.Load low ∷ instr.Store (turn_slot l.captured) ∷ instr.Load (turn_slot l.captured) ∷ instr.Load high ∷ instr.Binary Less l.line ∷ emitted_turn 3 (emitted_block first [] (turn_text l))
@@ -103,7 +103,7 @@ leaf_emitted first l =
     ap (λ is. instr.Load low ∷ instr.Store (turn_slot l.captured) ∷ instr.Load (turn_slot l.captured) ∷ instr.Load high ∷ instr.Binary Less l.line
     ∷ is) (append-nil (emitted_turn 3 (emitted_block first [] (turn_text l))))
 
--- what is counted of parameters, of which integers come first
+-- the number of parameters of a kind; integers come first
 count_behind : (such : NameKind → Bool) (k : NameKind) (q : ℕ) → such k ≡ true → count_such such (replicate q k) ≡ q
 count_behind such k zero is = refl
 count_behind such k (suc q) is = ap (λ b. length (cond b (k ∷ filter such (replicate q k)) (filter such (replicate q k)))) is ∙ ap suc (count_behind such k q is)
@@ -137,16 +137,16 @@ none_read (suc k) q = none_read k q
 pub loop_marks : (index : ℕ) (l : Loop) → marks_of (loop_text index l).params ≡ []
 loop_marks index l = ap (λ n. if n == 0 then [] else marks_in (replicate l.captured kind.Integer ++ replicate l.over kind.Array)) (none_read l.captured l.over)
 
--- so its code is that of its text as it stands
+-- the code of a loop's function is the code of its text
 pub text_emitted : (first index : ℕ) (l : Loop) → emitted_function first (loop_text index l) ≡ emitted_block first [] (loop_text index l).body ++ instr.Return ∷ []
 text_emitted first index l = ap (λ ms. emitted_block first ms (loop_text index l).body ++ instr.Return ∷ []) (loop_marks index l)
 
--- no cut has an integer
+-- the cuts declare no integer
 ints_in_cuts : (n index : ℕ) (l : Loop) (arrays : List ℕ) → ints_in_block n (in_cuts l arrays (both_halves index l)) ≡ n
 ints_in_cuts n index l [] = refl
 ints_in_cuts n index l (a ∷ arrays) = ints_in_cuts n index l arrays
 
--- behind the parts of so many arrays
+-- the end of the slots for the parts of this number of arrays
 abbrev parts_end : (q from count : ℕ) → ℕ
 parts_end q from zero = 0
 parts_end q from (suc c) = q + 2 * (from + suc c)
@@ -165,11 +165,11 @@ all_parts : (q : ℕ) → parts_end q 0 q ≡ 3 * q
 all_parts zero = refl
 all_parts (suc q) = let e : suc q + 2 * (0 + suc q) ≡ 3 * suc q = omega arith in e
 
--- what the code keeps of a function that gives no integer
+-- the entry of a function that returns no integer
 abbrev func_with : (start end params slots array_params arrays readers : ℕ) → Func
 func_with s e p n q a r = record { start = s; end = e; gives_int = false; params = p; slots = n; array_params = q; arrays = a; readers = r }
 
--- what the code keeps of a loop's function
+-- the entry of a loop's function
 pub func_emitted : (first start index : ℕ) (l : Loop) →
     emitted_func first start (loop_text index l) ≡ written_func start (start + length (emitted_function first (loop_text index l))) l
 func_emitted first start index l =
@@ -199,7 +199,7 @@ func_emitted first start index l =
     ∙ ap (λ n. func_with start end (2 + k) n q (arrays_in_block q f.body) 0) slots
     ∙ ap (λ n. func_with start end (2 + k) (max (ints_in_block (3 + k) l.body) (3 + k)) q n 0) parts
 
--- cuts have no lists
+-- cuts store no lists
 lists_in_cuts : (first : ℕ) (l : Loop) (arrays : List ℕ) (inside : Block) (lists : List (List ℕ)) → put_lists_in first [] (in_cuts l arrays inside) lists ≡ put_lists_in first [] inside lists
 lists_in_cuts first l [] inside lists = refl
 lists_in_cuts first l (a ∷ arrays) inside lists = lists_in_cuts first l arrays inside lists
@@ -228,7 +228,7 @@ lists_emitted first index l lists =
     (passed_in [] (map (λ s. Int (Variable s)) ints ++ map Array rights))) (passed_by_half ints lefts)
     ∙ ap (λ slots. slice_set (slice_set before (half_list first Spawned index) lefts) (half_list first Plain index) slots) (passed_by_half ints rights)
 
--- the slots of the parts of a cut, as they are counted
+-- the slots of the parts of a cut, as numbers
 pub cut_row : (l : Loop) (i : ℕ) →
     (instr.Load (l.captured + 2) ∷ instr.Load 0 ∷ instr.Binary Minus l.line ∷ instr.Cut (record { array = i; left = l.over + 2 * i; right = l.over + 2 * i + 1 }) l.line ∷ []) ≡ written_cuts l (i ∷ [])
 cut_row l i =
@@ -237,7 +237,7 @@ cut_row l i =
     ap (λ u. instr.Load u ∷ instr.Load 0 ∷ instr.Binary Minus l.line ∷ instr.Cut (halves_of i (l.over + 2 * i) (l.over + 2 * i + 1)) l.line ∷ []) m
     ∙ ap (λ u. instr.Load (turn_slot l.captured) ∷ instr.Load 0 ∷ instr.Binary Minus l.line ∷ instr.Cut (halves_of i (l.over + 2 * i) u) l.line ∷ []) r
 
--- a leaf, from what each step of the emission leaves
+-- the code of a leaf, from the effect of each step of the generator
 pub leaf_written : (old set tested new : List Instr) (first start v : ℕ) (l : Loop) → v ≡ turn_slot l.captured → set ≡ old ++ instr.Load 0 ∷ instr.Store v ∷ [] → start ≡ length set →
     tested ≡ set ++ instr.Load v ∷ instr.Load 1 ∷ instr.Binary Less l.line ∷ []
     → new ≡ tested ++ emitted_turn (length tested - start) (emitted_block first [] (turn_text l)) → new ≡ old ++ emitted_block first [] (leaf l)
@@ -257,7 +257,7 @@ leaf_written old set tested new first start v l is_v is_set is_start is_tested i
     ∙ append_assoc old one (other ++ turn)
     ∙ ap (λ is. old ++ is) (sym (leaf_emitted first l))
 
--- five pieces of code one after another
+-- five parts of code in sequence
 pub five_joined : (old a b c d e all : List Instr) → all ≡ ((((old ++ a) ++ b) ++ c) ++ d) ++ e → all ≡ old ++ (a ++ (b ++ ((c ++ d) ++ e)))
 five_joined old a b c d e all is =
     is
@@ -267,7 +267,7 @@ five_joined old a b c d e all is =
     ∙ append_assoc old a (b ++ (c ++ (d ++ e)))
     ∙ ap (λ is. old ++ (a ++ (b ++ is))) (sym (append_assoc c d e))
 
--- no loan stands but in the body of a loop's function
+-- loans occur only in the body of a loop's function
 loans_in_cuts : (l : Loop) (arrays : List ℕ) (inside : Block) (lists : List (List Loan)) → put_loans_in [] (in_cuts l arrays inside) lists ≡ put_loans_in [] inside lists
 loans_in_cuts l [] inside lists = refl
 loans_in_cuts l (a ∷ arrays) inside lists = loans_in_cuts l arrays inside lists

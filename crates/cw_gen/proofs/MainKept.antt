@@ -1,4 +1,4 @@
--- Main and the reducers of a lowered program are as in its source; and what its code relies on, put together.
+-- A lowered program has the main and the reducers of its source; the conditions on its code, combined.
 use Rattle.std.proofs.Common.{◌≡◌, ℕ, ◌+◌, List, [], ◌∷◌, ◌++◌, Bool, true, false, not, ◌&&◌, ◌||◌, if◌then◌else◌, refl, sym, ap, ◌∙◌, true≢false}
 use Rattle.std.specs.Prelude.{map, flat_map}
 use Rattle.std.specs.List.{list_all, list_any}
@@ -28,12 +28,12 @@ use Rattle.cw_gen.proofs.KnownLowered.{functions_own}
 use Rattle.cw_gen.proofs.Together.{functions_fine}
 use Rattle.cw_gen.proofs.Told.{AllPass}
 
--- main gives an integer, and takes integers
+-- main returns an integer and takes integers
 record MainFine (fs : List Function) : Type 0 where
   pub gives : (function_named main_name fs).gives_int ≡ true
   pub ints : list_all (λ p. not (wants_array p)) (function_named main_name fs).params ≡ true
 
--- parameters that are all integers
+-- no parameter is an array
 all_ints : (ps : List Param) → list_any (λ p. (wants_array p)) ps ≡ false → list_all (λ p. not (wants_array p)) ps ≡ true
 all_ints [] h = refl
 all_ints (p ∷ ps) h = test (all_ints ps (neither_second (wants_array p) (list_any (λ q. (wants_array q)) ps) h)) (wants_array p) (neither_first (wants_array p) (list_any (λ q. (wants_array q)) ps) h)
@@ -42,7 +42,7 @@ all_ints (p ∷ ps) h = test (all_ints ps (neither_second (wants_array p) (list_
     test rest true e = cc
     test rest false e = rest
 
--- in a program of right types
+-- main in a well-typed program
 main_fine : (program : Program) (fs : List Function) → flat_map (faults_of program) fs ≡ [] → is_function main_name fs ≡ true → MainFine fs
 main_fine program [] typed h = cc
 main_fine program (f ∷ fs) typed h = test (main_fine program fs (right_none (faults_of program f) _ typed)) (same_name main_name f.name) refl h
@@ -70,7 +70,7 @@ main_fine program (f ∷ fs) typed h = test (main_fine program fs (right_none (f
           ints = ap (λ b. list_all (λ p. not (wants_array p)) (if b then f else function_named main_name fs).params) e ∙ rest.ints;
         }
 
--- a function of the source is found in the lowered program, with what its head says
+-- a function of the source is found in the lowered program, with the same head
 pub record SameHead (name : Name) (fs gs : List Function) : Type 0 where
   pub there : is_function name gs ≡ true
   pub gives : (function_named name gs).gives_int ≡ (function_named name fs).gives_int
@@ -105,7 +105,7 @@ same_head name k (f ∷ fs) more h = test (same_head name (k + loop_count_in f.b
           params = ap (λ b. (here b).params) e ∙ same.params ∙ sym (ap (λ b. (source b).params) e);
         }
 
--- reducers that no rule refuses have names that differ
+-- if no rule rejects the reducers, their names are distinct
 no_earlier : (ds : List (Name × ℕ)) (earlier : List Name) → repeated ds earlier ≡ [] → (x : Name) → is_among x earlier ≡ true → fits.is_among x (map (λ d. d.0) ds) ≡ false
 no_earlier [] earlier h x a = refl
 no_earlier (d ∷ ds) earlier h x a = test (no_earlier ds (d.0 ∷ earlier) (right_none (unless (not (is_among d.0 earlier)) d.1) (repeated ds (d.0 ∷ earlier)) h) x (further d.0)) (same_name x d.0) refl
@@ -135,17 +135,17 @@ reducer_names_are : (rs : List Reducer) → map (λ r. r.name) rs ≡ map (λ (d
 reducer_names_are [] = refl
 reducer_names_are (r ∷ rs) = ap (λ l. r.name ∷ l) (reducer_names_are rs)
 
--- main is there in a program of right types
+-- a well-typed program has a main
 pub source_main : (program : Program) → type_faults program ≡ [] → is_function main_name program.functions ≡ true
 source_main program typed =
     let main = is_among main_name (map (λ f. f.name) program.functions) in
     function_there main_name program.functions (kept main 1 (left_none (unless main 1) _ typed))
 
--- and in the lowered program, with the head that it has in the source
+-- the lowered program has the main of its source, with the same head
 pub lowered_main : (program : Program) → type_faults program ≡ [] → SameHead main_name program.functions (lowered program).functions
 lowered_main program typed = same_head main_name 0 program.functions (made_of 0 program.functions) (source_main program typed)
 
--- the names of reducers differ
+-- the names of reducers are distinct
 apart_reducers : (program : Program) → type_faults program ≡ [] → fits.are_apart (reducer_names program.reducers) ≡ true
 apart_reducers program typed =
     let behind_main = right_none (unless (is_among main_name (map (λ f. f.name) program.functions)) 1) _ typed in
@@ -154,7 +154,7 @@ apart_reducers program typed =
     let repeats = left_none (repeated reducers []) _ (right_none (repeated functions []) _ (left_none (repeated_names program) _ behind_main)) in
     ap fits.are_apart (reducer_names_are program.reducers) ∙ reducers_apart reducers [] repeats
 
--- what the code of a lowered program relies on
+-- the code of a lowered program satisfies its conditions
 pub program_fine : (program : Program) → IsOwnedSource program → are_numbered 0 (call_sites program) ≡ true →
     AllFunctionsKnown (lowered program).functions (lowered program).functions → AllFree (lowered program).functions (lowered program).functions →
     AllPass (lowered_lists program) (tables_in (code_of program)) (lowered program).functions → ProgramFine (lowered program) (lowered_lists program) (tables_in (code_of program))

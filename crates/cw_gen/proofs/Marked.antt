@@ -1,4 +1,4 @@
--- Array slots of a proof, of which some are only read, and what they are in the code.
+-- Array slots, some of which are only read, and their places in the code.
 use Rattle.std.proofs.Common.{◌≡◌, ◌≢◌, ℕ, zero, suc, ◌+◌, ◌<◌, ◌≤◌, List, [], ◌∷◌, ◌++◌, length, Bool, true, false, Option, Some, None, refl, sym, ap, ◌∙◌, arith, ℤ}
 use Rattle.std.specs.Prelude.{slice_get, slice_set, map}
 use Rattle.cw_code.specs.declared.code.Loan.{Loan}
@@ -14,19 +14,19 @@ owned (m ∷ marks) [] = []
 owned (true ∷ marks) (x ∷ xs) = owned marks xs
 owned (false ∷ marks) (x ∷ xs) = x ∷ owned marks xs
 
--- those that are
+-- the slots that are only read
 abbrev pub lent : {X : Type 0} → Marks → List X → List X
 lent [] xs = []
 lent (m ∷ marks) [] = []
 lent (true ∷ marks) (x ∷ xs) = x ∷ lent marks xs
 lent (false ∷ marks) (x ∷ xs) = lent marks xs
 
--- what a slot holds, where it holds anything
+-- the value of a slot; the empty list if it is empty
 abbrev pub filled : Option (List ℤ) → List ℤ
 filled None = []
 filled (Some xs) = xs
 
--- the arrays that a call reads
+-- the arrays that a call only reads
 abbrev pub read_in : Marks → Slots (List ℤ) → Readers
 read_in marks slots = map filled (lent marks slots)
 
@@ -36,7 +36,7 @@ is_read [] s = false
 is_read (m ∷ marks) zero = m
 is_read (m ∷ marks) (suc s) = is_read marks s
 
--- a slot that is not
+-- a slot that is not only read
 abbrev pub IsOwn : Marks → ℕ → Type 0
 IsOwn marks s = is_read marks s ≡ false
 
@@ -70,14 +70,14 @@ place_read (false ∷ marks) (suc s) h = test (place_of marks s) (place_read mar
     test (loan.Array a) e = cc
     test (loan.Reader r) e = refl
 
--- the number behind one that is read or not, of slots that are not read
+-- the number of a slot that is not only read, after a marked slot
 pub at_read : (marks : Marks) (s : ℕ) → IsOwn marks s → array_at (true ∷ marks) (suc s) ≡ array_at marks s
 at_read marks s h = ap (λ l. number_of (behind_place true l)) (place_own marks s h)
 
 pub at_own : (marks : Marks) (s : ℕ) → IsOwn marks s → array_at (false ∷ marks) (suc s) ≡ suc (array_at marks s)
 at_own marks s h = ap (λ l. number_of (behind_place false l)) (place_own marks s h)
 
--- of slots that are read
+-- the number of a slot that is only read, after a marked slot
 at_read_read : (marks : Marks) (s : ℕ) → is_read marks s ≡ true → array_at (true ∷ marks) (suc s) ≡ suc (array_at marks s)
 at_read_read marks s h = ap (λ l. number_of (behind_place true l)) (place_read marks s h)
 
@@ -92,7 +92,7 @@ read_below (false ∷ marks) zero h = cc
 read_below (true ∷ marks) (suc s) h = omega (arith, read_below marks s h, at_read_read marks s h)
 read_below (false ∷ marks) (suc s) h = omega (arith, read_below marks s h, at_own_read marks s h)
 
--- what a slot holds that is not only read
+-- the value of a slot that is not only read
 pub get_owned : {X : Type 0} (marks : Marks) (s : ℕ) (xs : List X) → IsOwn marks s → slice_get (owned marks xs) (array_at marks s) ≡ slice_get xs s
 get_owned [] s xs h = refl
 get_owned (true ∷ marks) zero xs h = cc
@@ -103,7 +103,7 @@ get_owned (false ∷ marks) (suc s) [] h = refl
 get_owned (true ∷ marks) (suc s) (x ∷ xs) h = ap (slice_get (owned marks xs)) (at_read marks s h) ∙ get_owned marks s xs h
 get_owned (false ∷ marks) (suc s) (x ∷ xs) h = ap (slice_get (x ∷ owned marks xs)) (at_own marks s h) ∙ get_owned marks s xs h
 
--- it is written there
+-- writing a slot that is not only read
 pub set_owned : {X : Type 0} (marks : Marks) (s : ℕ) (x : X) (xs : List X) → IsOwn marks s → owned marks (slice_set xs s x) ≡ slice_set (owned marks xs) (array_at marks s) x
 set_owned [] s x xs h = refl
 set_owned (true ∷ marks) zero x xs h = cc
@@ -114,7 +114,7 @@ set_owned (false ∷ marks) (suc s) x [] h = refl
 set_owned (true ∷ marks) (suc s) x (y ∷ xs) h = set_owned marks s x xs h ∙ ap (λ n. slice_set (owned marks xs) n x) (sym (at_read marks s h))
 set_owned (false ∷ marks) (suc s) x (y ∷ xs) h = ap (λ l. y ∷ l) (set_owned marks s x xs h) ∙ ap (λ n. slice_set (y ∷ owned marks xs) n x) (sym (at_own marks s h))
 
--- and what is only read stays
+-- writing a slot that is not only read keeps the slots that are only read
 pub set_lent : {X : Type 0} (marks : Marks) (s : ℕ) (x : X) (xs : List X) → IsOwn marks s → lent marks (slice_set xs s x) ≡ lent marks xs
 set_lent [] s x xs h = refl
 set_lent (true ∷ marks) zero x xs h = cc
@@ -128,7 +128,7 @@ set_lent (false ∷ marks) (suc s) x (y ∷ xs) h = set_lent marks s x xs h
 pub set_read : (marks : Marks) (s : ℕ) (x : Option (List ℤ)) (xs : Slots (List ℤ)) → IsOwn marks s → read_in marks (slice_set xs s x) ≡ read_in marks xs
 set_read marks s x xs h = ap (map filled) (set_lent marks s x xs h)
 
--- what a slot holds that is only read
+-- the value of a slot that is only read
 pub get_read : (marks : Marks) (s : ℕ) (xs : Slots (List ℤ)) (v : List ℤ) → is_read marks s ≡ true → slice_get xs s ≡ Some (Some v) → reader (read_in marks xs) (array_at marks s) ≡ Some (Some v)
 get_read [] s xs v h is = cc
 get_read (false ∷ marks) zero xs v h is = cc
@@ -138,7 +138,7 @@ get_read (m ∷ marks) (suc s) [] v h is = cc
 get_read (true ∷ marks) (suc s) (x ∷ xs) v h is = ap (reader (filled x ∷ read_in marks xs)) (at_read_read marks s h) ∙ get_read marks s xs v h is
 get_read (false ∷ marks) (suc s) (x ∷ xs) v h is = ap (reader (read_in marks xs)) (at_own_read marks s h) ∙ get_read marks s xs v h is
 
--- slots that differ have numbers that differ
+-- distinct slots have distinct numbers
 pub at_apart : (marks : Marks) (s t : ℕ) → IsOwn marks s → IsOwn marks t → s ≢ t → array_at marks s ≢ array_at marks t
 at_apart [] s t h k other = other
 at_apart (m ∷ marks) zero zero h k other = λ e. other refl
@@ -153,12 +153,12 @@ at_apart (false ∷ marks) (suc s) (suc t) h k other =
     same : {a b : ℕ} → suc a ≡ suc b → a ≡ b
     same e = omega (arith, e)
 
--- what waits, with the numbers that the code has
+-- waiting results, with the numbers of the code
 abbrev pub told_at : {X : Type 0} → Marks → Results X → Results X
 told_at marks [] = []
 told_at marks (r ∷ results) = (array_at marks r.0, r.1) ∷ told_at marks results
 
--- nothing waits for a slot that is only read
+-- no result waits for a slot that is only read
 abbrev pub AllOwn : {X : Type 0} → Marks → Results X → Type 0
 AllOwn marks [] = Unit {0}
 AllOwn marks (r ∷ results) = IsOwn marks r.0 × AllOwn marks results
@@ -171,7 +171,7 @@ pub told_both : {X : Type 0} (marks : Marks) (a b : Results X) → told_at marks
 told_both marks [] b = refl
 told_both marks (r ∷ a) b = ap (λ l. (array_at marks r.0, r.1) ∷ l) (told_both marks a b)
 
--- a join
+-- a join settles the slots that are not only read
 pub settle_owned : {X : Type 0} (marks : Marks) (results : Results X) (slots : Slots X) → AllOwn marks results
     → owned marks (settled results slots) ≡ settled (told_at marks results) (owned marks slots)
 settle_owned marks [] slots h = refl
@@ -190,7 +190,7 @@ OwnSlots marks (s ∷ slots) = IsOwn marks s × OwnSlots marks slots
 abbrev pub numbers_at : Marks → List ℕ → List ℕ
 numbers_at marks slots = map (array_at marks) slots
 
--- arrays are moved out
+-- arrays are moved out of the slots that are not only read
 pub move_owned : {X : Type 0} (marks : Marks) (given : List ℕ) (slots : Slots X) → OwnSlots marks given → owned marks (moved_out given slots) ≡ moved_out (numbers_at marks given) (owned marks slots)
 move_owned marks [] slots h = refl
 move_owned marks (s ∷ given) slots h = set_owned marks s None (moved_out given slots) h.0 ∙ ap (λ l. slice_set l (array_at marks s) None) (move_owned marks given slots h.1)
@@ -199,7 +199,7 @@ pub move_read : (marks : Marks) (given : List ℕ) (slots : Slots (List ℤ)) �
 move_read marks [] slots h = refl
 move_read marks (s ∷ given) slots h = set_read marks s None (moved_out given slots) h.0 ∙ move_read marks given slots h.1
 
--- slots that are all full, with more of them behind
+-- full slots, with more full slots after them
 pub owned_full : (marks : Marks) (xss more : List (List ℤ)) → length marks ≤ length xss → owned marks (full (xss ++ more)) ≡ full (owned marks xss ++ more)
 owned_full [] xss more h = refl
 owned_full (m ∷ marks) [] more h = absurd (omega (arith, h))
@@ -212,7 +212,7 @@ read_full (m ∷ marks) [] more h = absurd (omega (arith, h))
 read_full (true ∷ marks) (xs ∷ xss) more h = ap (λ l. xs ∷ l) (read_full marks xss more (omega (arith, h)))
 read_full (false ∷ marks) (xs ∷ xss) more h = read_full marks xss more (omega (arith, h))
 
--- how many slots are left
+-- the number of slots that are not only read
 pub length_owned : {X : Type 0} (marks : Marks) (xs : List X) → length marks ≤ length xs → length (owned marks xs) + readers_in marks ≡ length xs
 length_owned [] xs h = omega arith
 length_owned (m ∷ marks) [] h = absurd (omega (arith, h))
@@ -225,13 +225,13 @@ length_lent (m ∷ marks) [] h = absurd (omega (arith, h))
 length_lent (true ∷ marks) (x ∷ xs) h = ap suc (length_lent marks xs (omega (arith, h)))
 length_lent (false ∷ marks) (x ∷ xs) h = length_lent marks xs (omega (arith, h))
 
--- a slot behind all that have a mark is not only read
+-- a slot after all marked slots is not only read
 pub own_behind : (marks : Marks) (s : ℕ) → length marks ≤ s → IsOwn marks s
 own_behind [] s h = refl
 own_behind (m ∷ marks) zero h = absurd (omega (arith, h))
 own_behind (m ∷ marks) (suc s) h = own_behind marks s (omega (arith, h))
 
--- its number: as many fewer as are read
+-- the number of a slot after the marked slots: reduced by the number of readers
 pub at_behind : (marks : Marks) (s : ℕ) → length marks ≤ s → array_at marks s + readers_in marks ≡ s
 at_behind [] s h = omega arith
 at_behind (m ∷ marks) zero h = absurd (omega (arith, h))
@@ -242,7 +242,7 @@ at_behind (false ∷ marks) (suc s) h =
     let h' : length marks ≤ s = omega (arith, h) in
     omega (arith, at_behind marks s h', at_own marks s (own_behind marks s h'))
 
--- numbers of array slots, where so many slots are there
+-- bounds of the numbers of array slots
 pub at_within : {X : Type 0} (marks : Marks) (s : ℕ) (xs : List X) → IsOwn marks s → s < length xs → array_at marks s < length (owned marks xs)
 at_within [] s xs h within = within
 at_within (m ∷ marks) s [] h within = absurd (omega (arith, within))
@@ -259,7 +259,7 @@ in_owned marks (s ∷ given) slots h =
     ∙ ap (λ o. and_array o (arrays_in (numbers_at marks given) (owned marks slots))) (get_owned marks s (moved_out given slots) h.0)
     ∙ ap (and_array (slice_get (moved_out given slots) s)) (in_owned marks given slots h.1)
 
--- what a call took, by the numbers of the code
+-- the arrays that a call took, with the numbers of the code
 abbrev pub taken_at : Marks → run.Taken → run.Taken
 taken_at marks (Whole a) = Whole (array_at marks a)
 taken_at marks (Part a from whole) = Part (array_at marks a) from whole
@@ -278,7 +278,7 @@ parts_told marks from [] xss = refl
 parts_told marks from (s ∷ given) [] = refl
 parts_told marks from (s ∷ given) (xs ∷ xss) = ap (λ l. Part (array_at marks s) from xs ∷ l) (parts_told marks from given xss)
 
--- what it gives back
+-- the arrays that a call returns, with the numbers of the code
 abbrev pub told_all : Marks → Option (Results (List ℤ)) → Option (Results (List ℤ))
 told_all marks None = None
 told_all marks (Some results) = Some (told_at marks results)
@@ -298,7 +298,7 @@ given_told marks (x ∷ outs) (o ∷ slots) = ap (and_result (taken_at marks x) 
     one (Part a from whole) (Some xs) None = refl
     one (Part a from whole) (Some xs) (Some r) = refl
 
--- an array that a call lends, that it does not take too
+-- an array that a call lends and does not also take
 pub loan_found : (marks : Marks) (given : List ℕ) (s : ℕ) (slots : Slots (List ℤ)) (v : List ℤ) → OwnSlots marks given → slice_get (moved_out given slots) s ≡ Some (Some v) →
     loaned (place_of marks s) (moved_out (numbers_at marks given) (owned marks slots)) (read_in marks slots) ≡ Some (Some v)
 loan_found marks given s slots v h is = test (is_read marks s) refl
@@ -317,6 +317,6 @@ loan_found marks given s slots v h is = test (is_read marks s) refl
         ∙ get_owned marks s (moved_out given slots) e
         ∙ is
 
--- no slot waits that a call gave back in place
+-- the returned and the waiting arrays, concatenated
 pub told_more : (marks : Marks) (back arrived : Results (List ℤ)) → told_at marks back ++ told_at marks arrived ≡ told_at marks (back ++ arrived)
 told_more marks back arrived = sym (told_both marks back arrived)

@@ -10,11 +10,11 @@ use Rattle.cw_gen.proofs.Marked.{owned, read_in, IsOwn, get_owned, set_owned, se
 abbrev pub OwnHalves : Marks → Halves → Type 0
 OwnHalves marks h = IsOwn marks h.array × IsOwn marks h.left × IsOwn marks h.right
 
--- their numbers in the code
+-- the slots of a cut, with the numbers of the code
 abbrev pub cut_numbers : Marks → Halves → Halves
 cut_numbers marks h = record { array = array_at marks h.array; left = array_at marks h.left; right = array_at marks h.right }
 
--- three slots, set one after another
+-- three slots, set in sequence
 three : (marks : Marks) (i j k : ℕ) (x y z : Option (List ℤ)) (slots : Slots (List ℤ)) → IsOwn marks i → IsOwn marks j → IsOwn marks k →
     owned marks (slice_set (slice_set (slice_set slots i x) j y) k z) ≡ slice_set (slice_set (slice_set (owned marks slots) (array_at marks i) x) (array_at marks j) y) (array_at marks k) z
 three marks i j k x y z slots hi hj hk =
@@ -39,7 +39,7 @@ uncut_owned marks h left right slots own = three marks h.left h.right h.array (S
 pub uncut_read : (marks : Marks) (h : Halves) (left right : List ℤ) (slots : Slots (List ℤ)) → OwnHalves marks h → read_in marks (uncut_arrays h left right slots) ≡ read_in marks slots
 uncut_read marks h left right slots own = three_read marks h.left h.right h.array (Some []) (Some []) (Some (left ++ right)) slots own.1 own.2 own.0
 
--- a cut finds its slots
+-- the slots of a cut are available
 pub may_cut_owned : (marks : Marks) (h : Halves) (slots : Slots (List ℤ)) → OwnHalves marks h → may_cut (cut_numbers marks h) (owned marks slots) ≡ may_cut h slots
 may_cut_owned marks h slots own =
     let a = array_at marks h.array in

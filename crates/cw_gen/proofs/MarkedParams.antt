@@ -1,4 +1,4 @@
--- The marks of parameters: which of their arrays are only read.
+-- The marks of parameters: the arrays among them that are only read.
 use Rattle.std.proofs.Common.{◌≡◌, ℕ, zero, suc, ◌+◌, ◌≤◌, List, [], ◌∷◌, ◌++◌, length, Bool, true, false, not, if◌then◌else◌, cond, filter, refl, sym, ap, ◌∙◌, arith, true≢false}
 use Rattle.std.specs.Prelude.{map, ◌==◌}
 use Rattle.std.proofs.lemmas.Slice.Eq.{bytes_eq-Decides}
@@ -22,7 +22,7 @@ use Rattle.cw_gen.proofs.Marked.{owned, lent, is_read, IsOwn}
 abbrev pub all_marks : List Param → Marks
 all_marks ps = marks_in (map (λ p. p.kind) ps)
 
--- where none is only read, all marks are as none
+-- if no slot is only read, marks have no effect
 none_owned : {X : Type 0} (marks : Marks) (xs : List X) → readers_in marks ≡ 0 → owned marks xs ≡ xs
 none_owned [] xs h = refl
 none_owned (true ∷ marks) xs h = cc
@@ -76,7 +76,7 @@ short_same marks = test (readers_in marks == 0)
     test true = omega arith
     test false = omega arith
 
--- there are as many marks as arrays
+-- the number of marks is the number of arrays
 all_short : (ps : List Param) → length (all_marks ps) ≡ length (locals_of ps).arrays
 all_short [] = refl
 all_short (p ∷ ps) = test p.kind (all_short ps)
@@ -90,7 +90,7 @@ all_short (p ∷ ps) = test p.kind (all_short ps)
 pub marks_short : (ps : List Param) → length (marks_for ps) ≤ length (locals_of ps).arrays
 marks_short ps = omega (arith, short_same (all_marks ps), all_short ps)
 
--- those that are not only read are those that are taken
+-- the parameters that are not only read are those that are taken
 owned_params : (ps : List Param) → owned (all_marks ps) (locals_of ps).arrays ≡ taken_params ps
 owned_params [] = refl
 owned_params (p ∷ ps) = test p.kind (owned_params ps)
@@ -105,7 +105,7 @@ owned_params (p ∷ ps) = test p.kind (owned_params ps)
 pub params_owned : (ps : List Param) → owned (marks_for ps) (locals_of ps).arrays ≡ taken_params ps
 params_owned ps = owned_same (all_marks ps) (locals_of ps).arrays ∙ owned_params ps
 
--- more names behind them
+-- more names after the marked ones
 owned_more : {X : Type 0} (marks : Marks) (xs more : List X) → length marks ≤ length xs → owned marks (xs ++ more) ≡ owned marks xs ++ more
 owned_more [] xs more h = refl
 owned_more (m ∷ marks) [] more h = absurd (omega (arith, h))
@@ -115,7 +115,7 @@ owned_more (false ∷ marks) (x ∷ xs) more h = ap (λ l. x ∷ l) (owned_more 
 pub names_owned : (ps : List Param) (more : List Name) → owned (marks_for ps) ((locals_of ps).arrays ++ more) ≡ taken_params ps ++ more
 names_owned ps more = owned_more (marks_for ps) (locals_of ps).arrays more (marks_short ps) ∙ ap (λ l. l ++ more) (params_owned ps)
 
--- values beside their names
+-- the names of the entries whose slots are not only read
 pub entries_names : {A : Type 0} (marks : Marks) (es : Entries A) → holding.names_in (owned marks es) ≡ owned marks (holding.names_in es)
 entries_names [] es = refl
 entries_names (m ∷ marks) [] = refl
@@ -128,7 +128,7 @@ entries_values (m ∷ marks) [] = refl
 entries_values (true ∷ marks) (e ∷ es) = entries_values marks es
 entries_values (false ∷ marks) (e ∷ es) = ap (λ l. e.1 ∷ l) (entries_values marks es)
 
--- a name whose slot is not only read is found among those
+-- a name whose slot is not only read is found among the slots that are not only read
 pub find_owned : {A : Type 0} (none : A) (marks : Marks) (q : Name) (es : Entries A) → IsOwn marks (slot_of q (holding.names_in es)) → find none q es ≡ find none q (owned marks es)
 find_owned none [] q es h = refl
 find_owned none (m ∷ marks) q [] h = refl
@@ -158,7 +158,7 @@ lent_map f (m ∷ marks) [] = refl
 lent_map f (true ∷ marks) (x ∷ xs) = ap (λ l. f x ∷ l) (lent_map f marks xs)
 lent_map f (false ∷ marks) (x ∷ xs) = lent_map f marks xs
 
--- the arrays of a call that are given away, and those that are only read
+-- the arrays of a call that are given away, and the arrays that are only read
 all_given : (marks : Marks) (locals : Locals) (taken : Taken) (ps : List Param) (es : List Expr) → ArgsFine marks locals taken ps es → owned (all_marks ps) (arrays_named ps es) ≡ arrays_given ps es
 all_given marks locals taken [] [] fine = refl
 all_given marks locals taken [] (e ∷ es) fine = absurd fine
@@ -197,7 +197,7 @@ pub lent_args : {X : Type 0} (f : Name → X) (marks : Marks) (locals : Locals) 
 lent_args f marks locals taken ps es fine =
     lent_same (all_marks ps) (map f (arrays_named ps es)) ∙ lent_map f (all_marks ps) (arrays_named ps es) ∙ ap (map f) (all_lent marks locals taken ps es fine)
 
--- as many arrays are named as parameters are arrays
+-- the number of arrays among arguments is the number of array parameters
 pub as_many_named : (marks : Marks) (locals : Locals) (taken : Taken) (ps : List Param) (es : List Expr) → ArgsFine marks locals taken ps es
     → length (arrays_named ps es) ≡ length (locals_of ps).arrays
 as_many_named marks locals taken [] [] fine = refl
@@ -214,7 +214,7 @@ as_many_named marks locals taken (p ∷ ps) (e ∷ es) fine = one p.kind e fine.
     one Const (Variable a) h more = ap suc more
     one Const _ h more = absurd h
 
--- the slot of an array that is taken is not only read, where names differ
+-- the slot of an array that is taken is not only read, if names are distinct
 all_own : (ps : List Param) (q : Name) → differ (map (λ p. p.name) ps) ≡ true → is_among q (taken_params ps) ≡ true → IsOwn (all_marks ps) (slot_of q (locals_of ps).arrays)
 all_own [] q apart h = cc
 all_own (p ∷ ps) q apart h =
@@ -241,7 +241,7 @@ all_own (p ∷ ps) q apart h =
 pub taken_own : (ps : List Param) (q : Name) → differ (map (λ p. p.name) ps) ≡ true → is_among q (taken_params ps) ≡ true → IsOwn (marks_for ps) (slot_of q (locals_of ps).arrays)
 taken_own ps q apart h = read_same (all_marks ps) (slot_of q (locals_of ps).arrays) ∙ all_own ps q apart h
 
--- as many parameters are counted
+-- the number of integer parameters
 pub counted_ints : (ps : List Param) → length (locals_of ps).ints ≡ count_ints (map (λ p. p.kind) ps)
 counted_ints [] = refl
 counted_ints (p ∷ ps) = test p.kind (counted_ints ps)
@@ -289,7 +289,7 @@ all_readers (k ∷ kinds) = test k (all_readers kinds)
 pub counted_readers : (ps : List Param) → readers_in (marks_for ps) ≡ count_readers (map (λ p. p.kind) ps)
 counted_readers ps = count_same (all_marks ps) ∙ all_readers (map (λ p. p.kind) ps)
 
--- arrays are taken or only read
+-- an array parameter is taken or only read
 pub both_counted : (kinds : List NameKind) → count_taken kinds + count_readers kinds ≡ count_arrays kinds
 both_counted [] = refl
 both_counted (k ∷ kinds) = test k (both_counted kinds)

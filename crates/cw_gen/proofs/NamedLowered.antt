@@ -1,4 +1,4 @@
--- The reducers, the tags and the sites that a lowered program names are told by its code.
+-- The reducers, the tags and the sites that a lowered program refers to exist in its code.
 use Rattle.std.proofs.Common.{◌≡◌, ℕ, ◌+◌, List, [], ◌∷◌, ◌++◌, true, refl, ap, ◌∙◌}
 use Rattle.std.proofs.lemmas.List.{map-append}
 use Rattle.cw_model.specs.Syntax.{Name, Stmt, Declare, DeclareArray, Assign, AssignElement, Reduce, Call, Start, Begin, Sync, If, IfElse}
@@ -25,7 +25,7 @@ module _ (lists : Lists) (tables : Tables) where
   listed_both (f ∷ fs) gs h k = (h.0, listed_both fs gs h.1 k)
 
   mutual
-    -- the lowered text of a statement names what its source names
+    -- the lowered text of a statement refers to the items of its source
     stmt_listed : (over : List Name) (k : ℕ) (s : Stmt) → NamedStmt lists tables s → ListedStmt lists tables (lower_stmt over k s)
     stmt_listed over k (Declare x e) h = tt
     stmt_listed over k (DeclareArray a e) h = tt
@@ -50,12 +50,12 @@ module _ (lists : Lists) (tables : Tables) where
     block_listed over k End h = tt
     block_listed over k (Then line s b) h = (stmt_listed over k s h.0, block_listed over (k + loop_count s) b h.1)
 
-  -- halves of a loop name nothing
+  -- the calls on halves refer to nothing
   cuts_listed : (line : ℕ) (arrays : List Name) (inside : Block) → ListedBlock lists tables inside → ListedBlock lists tables (in_cuts line arrays inside)
   cuts_listed line [] inside h = h
   cuts_listed line (a ∷ arrays) inside h = (cuts_listed line arrays inside h, tt)
 
-  -- the function of a loop names what its body names
+  -- the function of a loop refers to the items of its body
   loop_listed : (name : Name) (line : ℕ) (x : Name) (grain : ℕ) (ints over : List Name) (b : Block) → ListedBlock lists tables b
       → ListedBlock lists tables (loop_function name line x grain ints over b).body
   loop_listed name line x grain ints over b h =
@@ -63,7 +63,7 @@ module _ (lists : Lists) (tables : Tables) where
       (((tt, ((h, (tt, tt)), tt)), (tt, halves)), tt)
 
   mutual
-    -- the functions of loops in a statement
+    -- the functions of the loops in a statement refer to existing items
     made_listed : (line k : ℕ) (s : Stmt) → NamedStmt lists tables s → AllListed lists tables (made_by line k s)
     made_listed line k (If e b) h = made_listed_in k b h
     made_listed line k (IfElse e b c) h = listed_both (made_in k b) (made_in (k + loop_count_in b) c) (made_listed_in k b h.0) (made_listed_in (k + loop_count_in b) c h.1)
@@ -80,12 +80,12 @@ module _ (lists : Lists) (tables : Tables) where
     made_listed_in k End h = tt
     made_listed_in k (Then line s b) h = listed_both (made_by line k s) (made_in (k + loop_count s) b) (made_listed line k s h.0) (made_listed_in (k + loop_count s) b h.1)
 
-  -- the functions of the source
+  -- the functions of the source refer to existing items
   lowered_listed : (k : ℕ) (fs : List Function) → AllNamed lists tables fs → AllListed lists tables (lower_functions k fs)
   lowered_listed k [] h = tt
   lowered_listed k (f ∷ fs) h = (block_listed [] k f.body h.0, lowered_listed (k + loop_count_in f.body) fs h.1)
 
-  -- and those of its loops
+  -- the functions of the loops of the source refer to existing items
   loops_listed : (k : ℕ) (fs : List Function) → AllNamed lists tables fs → AllListed lists tables (made_of k fs)
   loops_listed k [] h = tt
   loops_listed k (f ∷ fs) h = listed_both (made_in k f.body) (made_of (k + loop_count_in f.body) fs) (made_listed_in k f.body h.0) (loops_listed (k + loop_count_in f.body) fs h.1)
@@ -96,12 +96,12 @@ first_names program =
     map-append (λ f. f.name) (lower_functions 0 program.functions) (made_of 0 program.functions)
     ∙ ap (λ names. names ++ function_names (made_of 0 program.functions)) (names_stay 0 program.functions)
 
--- so each has the index that it has there
+-- a source function keeps its index
 pub same_index : (program : Program) (f : Name) → is_among f (function_names program.functions) ≡ true → slot_of f (lowered_lists program).functions ≡ slot_of f (function_names program.functions)
 same_index program f h =
     ap (slot_of f) (first_names program) ∙ slot_stays f (function_names program.functions) (function_names (made_of 0 program.functions)) h
 
--- what the lowered program names is told by its code
+-- everything that the lowered program refers to exists in its code
 pub all_listed : (program : Program) → IsOwnedSource program → are_numbered 0 (call_sites program) ≡ true → AllListed (lowered_lists program) (tables_in (code_of program)) (lowered program).functions
 all_listed program owned numbered =
     let lists = lowered_lists program in

@@ -1,4 +1,4 @@
--- What a program of right types names: its reducers, tags and call sites are told by its code.
+-- The reducers, tags and call sites that a well-typed program refers to exist in its code.
 use Rattle.cw_facts.specs.Tests.{first_true}
 use Rattle.cw_model.specs.declared.syntax.NameKind.TheVariants as name_kind
 use Rattle.std.proofs.Common.{◌≡◌, ℕ, List, [], ◌∷◌, ◌++◌, Bool, true, false, not, ◌&&◌, ◌||◌, if◌then◌else◌, Option, Some, None, refl, sym, ap, ◌∙◌, subst}
@@ -22,7 +22,7 @@ use Rattle.cw_gen.proofs.SourceSites.{StandsAtItsNumber}
 use Rattle.cw_gen.proofs.Tags.{tags_are_told}
 
 abbrev mutual
-  -- the reducers, the tags and the sites that a statement of a source names are there, in its loops too
+  -- the reducers, the tags and the sites that a source statement and its loops refer to exist
   pub NamedStmt : Lists → Tables → Stmt → Type 0
   NamedStmt lists tables (Reduce how s e) = IsListed lists.reducers s
   NamedStmt lists tables (Call kind site target f es) = HasSite tables.sites kind site (slot_of f lists.functions)
@@ -35,17 +35,17 @@ abbrev mutual
   NamedStmt lists tables (Region tag b) = IsListed lists.tags tag × NamedBlock lists tables b
   NamedStmt lists tables _ = Unit {0}
 
-  -- those that a block names
+  -- the reducers, the tags and the sites that a block refers to exist
   pub NamedBlock : Lists → Tables → Block → Type 0
   NamedBlock lists tables End = Unit {0}
   NamedBlock lists tables (Then line s b) = NamedStmt lists tables s × NamedBlock lists tables b
 
--- those that functions name
+-- the reducers, the tags and the sites that functions refer to exist
 abbrev pub AllNamed : Lists → Tables → List Function → Type 0
 AllNamed lists tables [] = Unit {0}
 AllNamed lists tables (f ∷ fs) = NamedBlock lists tables f.body × AllNamed lists tables fs
 
--- a function that is called is there
+-- a called function exists
 called_there : (f : Name) (fs : List Function) (g : Function) → called f fs ≡ Some g → is_among f (function_names fs) ≡ true
 called_there f [] g e = cc
 called_there f (k ∷ fs) g e = test (called_there f fs g) (same_name f k.name) e
@@ -59,7 +59,7 @@ callee_there : (fs : List Function) (known : Known) (target : Option Name) (f : 
 callee_there fs known target f es None e h = cc
 callee_there fs known target f es (Some g) e h = called_there f fs g e
 
--- the tags of a list are those of its new names
+-- the tags of a list are its new names
 tags_listed : (P : Name → Type 0) (xs known : List Name) → ((x : Name) → is_among x (new_names xs known) ≡ true → P x) → ((x : Name) → is_among x known ≡ true → P x) → Each P xs
 tags_listed P [] known new old = tt
 tags_listed P (x ∷ xs) known new old = test (λ new'. tags_listed P xs known new' old) (λ new' old'. tags_listed P xs (x ∷ known) new' old') (is_among x known) refl
@@ -157,14 +157,14 @@ module _ (program : Program) (lists : Lists) (tables : Tables) (reducers_are : l
             (each_rear (StandsAtItsNumber tables.sites) sites_here sites_there sites),
       )
 
--- each tag of a program is one of those that it lists
+-- each tag of a program is one of its listed tags
 tags_of_program : (program : Program) → Each (λ tag. IsListed (tags_of program) tag) (flat_map (λ f. tags_in_block f.body) program.functions)
 tags_of_program program =
     let all = flat_map (λ (f : Function). tags_in_block f.body) program.functions in
     subst (λ names. Each (λ tag. IsListed names tag) all) (sym (tags_are_told program))
     (tags_listed (λ tag. IsListed (new_names all []) tag) all [] (λ x h. listed_there x (new_names all []) h) (λ x h. cc))
 
--- a program of right types whose sites stand at their numbers
+-- if the sites of a well-typed program are at their numbers, all items that it refers to exist
 pub source_named : (program : Program) (lists : Lists) (tables : Tables) → lists.reducers ≡ reducer_names program.reducers → lists.tags ≡ tags_of program →
     ((f : Name) → is_among f (function_names program.functions) ≡ true → slot_of f lists.functions ≡ slot_of f (function_names program.functions)) →
     type_faults program ≡ [] → Each (StandsAtItsNumber tables.sites) (emitted_sites_of (resolved program).functions) → AllNamed lists tables program.functions

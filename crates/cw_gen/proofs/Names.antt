@@ -1,4 +1,4 @@
--- Names by their slots, and the results that wait.
+-- Names by their slots, and the results that wait for a join.
 use Rattle.std.proofs.Common.{◌≡◌, ◌≢◌, ℕ, zero, suc, ◌+◌, ◌-◌, ◌<◌, ◌≤◌, List, [], ◌∷◌, ◌++◌, length, Bool, true, false, if◌then◌else◌}
 use Rattle.std.proofs.Common.{Option, Some, None, refl, sym, ap, ◌∙◌, arith, append_assoc, length-append, true≢false}
 use Rattle.std.specs.Prelude.{slice_get, slice_set, take, drop}
@@ -18,7 +18,7 @@ use Rattle.cw_gen.proofs.KnownNames.{in_second}
 use Rattle.cw_gen.proofs.Fine.{IsUsable}
 use Rattle.cw_gen.proofs.Takens.{holds, held_is_taken, held_past, held_past_cut, held_without}
 
--- names in order, each with what it stands for
+-- names in order, each with its value
 abbrev pub Entries : Type 0 → Type 0
 Entries A = List (Name × A)
 
@@ -35,7 +35,7 @@ abbrev pub NotAwaited : {A : Type 0} → ℕ → Results A → Type 0
 NotAwaited a [] = Unit {0}
 NotAwaited a (r ∷ results) = (a ≢ r.0) × NotAwaited a results
 
--- what is set elsewhere leaves a place
+-- writing one position keeps the others
 pub get-other : {X : Type 0} (xs : List X) (i j : ℕ) (x : X) → i ≢ j → slice_get (slice_set xs j x) i ≡ slice_get xs i
 get-other [] i zero x h = refl
 get-other [] i (suc j) x h = refl
@@ -44,7 +44,7 @@ get-other (y ∷ xs) zero (suc j) x h = refl
 get-other (y ∷ xs) (suc i) zero x h = refl
 get-other (y ∷ xs) (suc i) (suc j) x h = get-other xs i j x (λ e. h (ap suc e))
 
--- a slot holds what it will hold after the join, unless a result waits for it
+-- a slot for which no result waits has the same value after the join
 pub get-settled : {A : Type 0} (a : ℕ) (results : Results A) (slots : Slots A) → NotAwaited a results → slice_get (settled results slots) a ≡ slice_get slots a
 get-settled a [] slots h = refl
 get-settled a (r ∷ results) slots h = get-settled a results (slice_set slots r.0 (Some r.1)) h.1 ∙ get-other slots a r.0 (Some r.1) h.0
@@ -55,7 +55,7 @@ settled-set a x (r ∷ results) slots h =
     ap (settled results) (set_comm slots a r.0 x (Some r.1) h.0)
     ∙ settled-set a x results (slice_set slots r.0 (Some r.1)) h.1
 
--- the results that wait, one sync block after another, the innermost first
+-- the waiting results of all sync blocks, the innermost first
 abbrev pub all_of : {A : Type 0} → List (Results A) → Results A
 all_of [] = []
 all_of (results ∷ outer) = results ++ all_of outer
@@ -101,7 +101,7 @@ put_names x v (e ∷ es) = test (put_names x v es) (same_name x e.0)
     test more true = refl
     test more false = ap (λ l. e.0 ∷ l) more
 
--- two names that are there have one slot only if they are the same
+-- known names with the same slot are equal
 pub slots_apart : (x y : Name) (names : List Name) → is_among x names ≡ true → is_among y names ≡ true → same_name x y ≡ false → slot_of x names ≢ slot_of y names
 slots_apart x y [] hx hy other = cc
 slots_apart x y (z ∷ names) hx hy other = test (slots_apart x y names) (same_name x z) (same_name y z) refl refl hx hy
@@ -114,7 +114,7 @@ slots_apart x y (z ∷ names) hx hy other = test (slots_apart x y names) (same_n
     test more false true ex ey hx hy = λ e. omega (arith, e)
     test more false false ex ey hx hy = λ e. more hx hy other (omega (arith, e))
 
--- a name that was not there has the slot behind those that were
+-- a new name has the slot after the known names
 pub slot_new : (x : Name) (names : List Name) → is_among x names ≡ false → slot_of x (names ++ x ∷ []) ≡ length names
 slot_new x [] h = ap (λ b. if b then 0 else 1) ((bytes_eq-Decides x x).1 refl)
 slot_new x (y ∷ names) h = test (slot_new x names) (same_name x y) h
@@ -138,43 +138,43 @@ values_split zero es = refl
 values_split (suc n) [] = refl
 values_split (suc n) (e ∷ es) = ap (λ l. e.1 ∷ l) (values_split n es)
 
--- what is held stays so where each name and each hold does
+-- a held name of `names` is among `names'` with the same slot, and it stays held
 pub record Keeps (cuts : Bool) (names names' : List Name) (taken taken' : Taken) (depth : ℕ) : Type 0 where
   pub name : (x : Name) → is_among x names ≡ true → holds cuts depth x taken ≡ true → (is_among x names' ≡ true) × (slot_of x names' ≡ slot_of x names)
   pub hold : (x : Name) → is_among x names ≡ true → holds cuts depth x taken ≡ true → holds cuts depth x taken' ≡ true
 
--- more is taken
+-- held names stay held if more names are held
 pub more_taken : (cuts : Bool) (names : List Name) (taken taken' : Taken)
     → ((depth : ℕ) (x : Name) → holds cuts depth x taken ≡ true → holds cuts depth x taken' ≡ true) → (depth : ℕ) → Keeps cuts names names taken taken' depth
 more_taken cuts names taken taken' more depth = record { name = λ x h k. (h, refl); hold = λ x h k. more depth x k }
 
 module _ (cuts : Bool) {A : Type 0} where
-  -- a result waits for a name that a spawn of a sync block holds, or a cut, where cuts count
+  -- a result waits for a name that a spawn of the sync block, or a cut if `cuts` is set, holds
   pub record HeldBy (names : List Name) (taken : Taken) (depth : ℕ) (r : ℕ × A) : Type 0 where
     pub name : Name
     pub declared : is_among name names ≡ true
     pub slot : slot_of name names ≡ r.0
     pub held : holds cuts depth name taken ≡ true
 
-  -- so does each of these
+  -- each of these results waits for a held name
   abbrev pub AllHeld : List Name → Taken → ℕ → Results A → Type 0
   AllHeld names taken depth [] = Unit {0}
   AllHeld names taken depth (r ∷ results) = HeldBy names taken depth r × AllHeld names taken depth results
 
-  -- and so in each sync block of the call
+  -- in each sync block of the call, each result waits for a held name
   abbrev pub Levels : List Name → Taken → List (Results A) → Type 0
   Levels names taken [] = Unit {0}
   Levels names taken (results ∷ outer) = AllHeld names taken (suc (length outer)) results × Levels names taken outer
 
-  -- the names of one kind lie in their slots in the order of declaration, but for those whose results wait for a join;
-  -- each of these is taken by a spawn of the sync block where its result waits, or by a cut
+  -- the names of one kind are in their slots in the order of declaration, except those whose results wait for a join;
+  -- each of these is held by a spawn of the sync block in which its result waits, or by a cut
   pub record AgreesOf (names : List Name) (taken : Taken) (entries : Entries A) (slots : Slots A) (waits : List (Results A)) : Type 0 where
     pub named : names_in entries ≡ names
     pub rest : List A
     pub held : settled (all_of waits) slots ≡ full (values_in entries ++ rest)
     pub levels : Levels names taken waits
 
-  -- a name is not the one that a spawn holds, if it is free
+  -- a free name is not the name that a spawn holds
   pub apart : (names : List Name) (taken : Taken) (x : Name) (depth : ℕ) (r : ℕ × A) → IsUsable names taken x → HeldBy names taken depth r → slot_of x names ≢ r.0
   apart names taken x depth r u h = test (same_name x h.name) refl
     where
@@ -182,7 +182,7 @@ module _ (cuts : Bool) {A : Type 0} where
       test true e = λ _. true≢false (sym (held_is_taken cuts depth h.name taken h.held) ∙ ap (is_taken taken) (sym ((bytes_eq-Decides x h.name).0 e)) ∙ u.free)
       test false e = λ at. slots_apart x h.name names u.declared h.declared e (at ∙ sym h.slot)
 
-  -- no result waits for a name that is free
+  -- no result waits for a free name
   pub is_free : (names : List Name) (taken : Taken) (x : Name) (waits : List (Results A)) → IsUsable names taken x → Levels names taken waits → NotAwaited (slot_of x names) (all_of waits)
   is_free names taken x [] u h = tt
   is_free names taken x (results ∷ outer) u h = both_apart (slot_of x names) results (all_of outer) (each results h.0) (is_free names taken x outer u h.1)
@@ -191,7 +191,7 @@ module _ (cuts : Bool) {A : Type 0} where
       each [] k = tt
       each (r ∷ rs) k = (apart names taken x (suc (length outer)) r u k.0, each rs k.1)
 
-  -- nor for a slot behind those of the names
+  -- no result waits for a slot after the slots of the names
   pub is_later : (names : List Name) (taken : Taken) (a : ℕ) (waits : List (Results A)) → length names ≤ a → Levels names taken waits → NotAwaited a (all_of waits)
   is_later names taken a [] le h = tt
   is_later names taken a (results ∷ outer) le h = both_apart a results (all_of outer) (each results h.0) (is_later names taken a outer le h.1)
@@ -215,7 +215,7 @@ module _ (cuts : Bool) {A : Type 0} where
     levels_kept names names' taken taken' outer (λ depth le. k depth (omega (arith, le))) h.1,
   )
 
-  -- a name that is not taken holds its value
+  -- a name that is not taken has its value in its slot
   pub loads : (none : A) (names : List Name) (taken : Taken) (x : Name) (entries : Entries A) (slots : Slots A) (waits : List (Results A))
       → IsUsable names taken x → AgreesOf names taken entries slots waits → slice_get slots (slot_of x names) ≡ Some (Some (find none x entries))
   loads none names taken x entries slots waits u a =
@@ -237,7 +237,7 @@ module _ (cuts : Bool) {A : Type 0} where
       ap is_full (sym (get-settled a (all_of waits) slots free) ∙ ap (λ l. slice_get l a) agrees.held)
       ∙ full_is_full all a (omega (arith, n))
 
-  -- how many slots there are
+  -- the number of slots is the number of names and of the slots after them
   pub count_slots : (names : List Name) (taken : Taken) (entries : Entries A) (slots : Slots A) (waits : List (Results A))
       (a : AgreesOf names taken entries slots waits) → length slots ≡ length names + length a.rest
   count_slots names taken entries slots waits a =
@@ -250,7 +250,7 @@ module _ (cuts : Bool) {A : Type 0} where
   can_write names taken x entries slots waits u a =
       is_there names taken (slot_of x names) entries slots waits (is_free names taken x waits u a.levels) (omega (arith, slot_in x names u.declared, count_slots names taken entries slots waits a)) a
 
-  -- what the slots hold after all joins, with one value written
+  -- the slots after all joins, with one value written
   written : (names : List Name) (taken : Taken) (x : Name) (v : A) (entries : Entries A) (slots : Slots A) (waits : List (Results A))
       → IsUsable names taken x → (a : AgreesOf names taken entries slots waits) →
       settled (all_of waits) (slice_set slots (slot_of x names) (Some v)) ≡ full (values_in (put x v entries) ++ a.rest)
@@ -260,7 +260,7 @@ module _ (cuts : Bool) {A : Type 0} where
       ∙ sym (map-set (λ w. Some w) (values_in entries ++ a.rest) (slot_of x names) v)
       ∙ ap full (ap (λ ns. slice_set (values_in entries ++ a.rest) (slot_of x ns) v) (sym a.named) ∙ store_in x v entries a.rest (ap (is_among x) a.named ∙ u.declared))
 
-  -- a value, into the slot of a name that is not taken
+  -- writes a value to the slot of a name that is not taken
   pub assigns : (names : List Name) (taken : Taken) (x : Name) (v : A) (entries : Entries A) (slots : Slots A) (waits : List (Results A))
       → IsUsable names taken x → AgreesOf names taken entries slots waits →
       AgreesOf names taken (put x v entries) (slice_set slots (slot_of x names) (Some v)) waits
@@ -271,7 +271,7 @@ module _ (cuts : Bool) {A : Type 0} where
     levels = a.levels;
   }
 
-  -- a value, into the slot of a new name
+  -- writes a value to the slot of a new name
   pub declares : (names : List Name) (taken : Taken) (x : Name) (v : A) (entries : Entries A) (slots : Slots A) (waits : List (Results A))
       → length names < length slots → AgreesOf names taken entries slots waits →
       AgreesOf (names ++ x ∷ []) taken (entries ++ (x, v) ∷ []) (slice_set slots (length names) (Some v)) waits
@@ -303,7 +303,7 @@ module _ (cuts : Bool) {A : Type 0} where
         levels = levels_kept names (names ++ x ∷ []) taken taken waits (λ depth le. kept depth) a.levels;
       }
 
-  -- other names are taken
+  -- the slots still agree if more names are held
   pub takes : (names : List Name) (taken taken' : Taken) (entries : Entries A) (slots : Slots A) (waits : List (Results A))
       → ((depth : ℕ) (x : Name) → holds cuts depth x taken ≡ true → holds cuts depth x taken' ≡ true) → AgreesOf names taken entries slots waits →
       AgreesOf names taken' entries slots waits
@@ -314,7 +314,7 @@ module _ (cuts : Bool) {A : Type 0} where
     levels = levels_kept names names taken taken' waits (λ depth le. more_taken cuts names taken taken' more depth) a.levels;
   }
 
-  -- a result waits in the innermost sync block, and the name's slot is empty
+  -- a result waits in the innermost sync block, and the slot of its name is empty
   pub awaits : (names : List Name) (taken taken' : Taken) (x : Name) (v : A) (entries : Entries A) (slots : Slots A) (results : Results A) (outer : List (Results A)) → IsUsable names taken x →
       ((d : ℕ) (y : Name) → holds cuts d y taken ≡ true → holds cuts d y taken' ≡ true) → holds cuts (suc (length outer)) x taken' ≡ true → AgreesOf names taken entries slots (results ∷ outer) →
       AgreesOf names taken' (put x v entries) (slice_set slots (slot_of x names) None) (((slot_of x names, v) ∷ results) ∷ outer)
@@ -327,7 +327,7 @@ module _ (cuts : Bool) {A : Type 0} where
         levels = ((record { name = x; declared = u.declared; slot = refl; held = is }, kept.0), kept.1);
       }
 
-  -- at a join each result of its sync block goes back
+  -- at a join each result of its sync block returns to its slot
   pub joins : (names : List Name) (taken : Taken) (entries : Entries A) (slots : Slots A) (results : Results A) (outer : List (Results A)) → AgreesOf names taken entries slots (results ∷ outer) →
       AgreesOf names (freed (suc (length outer)) taken) entries (settled results slots) ([] ∷ outer)
   joins names taken entries slots results outer a = record {
@@ -340,17 +340,17 @@ module _ (cuts : Bool) {A : Type 0} where
       kept : (depth : ℕ) → depth ≤ length outer → Keeps cuts names names taken (freed (suc (length outer)) taken) depth
       kept depth le = record { name = λ x h k. (h, refl); hold = λ x h k. held_past cuts (suc (length outer)) depth x taken (λ e. omega (arith, le, e)) k }
 
-  -- a further sync block begins
+  -- an inner sync block begins
   pub enters : (names : List Name) (taken : Taken) (entries : Entries A) (slots : Slots A) (waits : List (Results A))
       → AgreesOf names taken entries slots waits → AgreesOf names taken entries slots ([] ∷ waits)
   enters names taken entries slots waits a = record { named = a.named; rest = a.rest; held = a.held; levels = (tt, a.levels) }
 
-  -- it has ended
+  -- an inner sync block ends
   pub exits : (names : List Name) (taken : Taken) (entries : Entries A) (slots : Slots A) (waits : List (Results A))
       → AgreesOf names taken entries slots ([] ∷ waits) → AgreesOf names taken entries slots waits
   exits names taken entries slots waits a = record { named = a.named; rest = a.rest; held = a.held; levels = a.levels.1 }
 
-  -- at the end of a block its names are gone; none of them is taken then
+  -- at the end of a block the scope of its names ends, and none of them is taken
   pub leaves_block : (names more own : List Name) (taken : Taken) (before entries : Entries A) (slots : Slots A) (waits : List (Results A)) → names_in before ≡ names →
       ((x : Name) → is_among x more ≡ true → is_among x own ≡ true) → ((x : Name) → is_among x own ≡ true → is_taken taken x ≡ false) →
       AgreesOf (names ++ more) taken entries slots waits → AgreesOf names (without own taken) (take (length before) entries) slots waits
@@ -368,7 +368,7 @@ module _ (cuts : Bool) {A : Type 0} where
       count_names [] = refl
       count_names (e ∷ es) = ap suc (count_names es)
 
-      -- a name that is held is none of the block
+      -- a held name does not belong to the block
       not_own : (depth : ℕ) (x : Name) → holds cuts depth x taken ≡ true → is_among x own ≡ false
       not_own depth x k = cases (is_among x own) refl
         where
@@ -389,7 +389,7 @@ module _ (cuts : Bool) {A : Type 0} where
         hold = λ x h k. held_without cuts depth x own taken (not_own depth x k) k;
       }
 
-  -- what lies behind the names does not matter
+  -- the slots after the names do not matter
   pub junk : (names : List Name) (taken : Taken) (i : ℕ) (v : A) (entries : Entries A) (slots : Slots A) (waits : List (Results A)) → length names ≤ i → AgreesOf names taken entries slots waits →
       AgreesOf names taken entries (slice_set slots i (Some v)) waits
   junk names taken i v entries slots waits le a = record {
@@ -408,7 +408,7 @@ module _ (cuts : Bool) {A : Type 0} where
       behind (x ∷ xs) rest zero h = absurd (omega (arith, h))
       behind (x ∷ xs) rest (suc i) h = let e : i - length xs ≡ suc i - suc (length xs) = omega arith in ap (λ l. x ∷ l) (behind xs rest i (omega (arith, h)) ∙ ap (λ n. xs ++ slice_set rest n v) e)
 
-  -- a value, into the slot whose result no longer waits
+  -- at the end of a cut the slot of its array has a new value, and no result waits for it
   pub put_back : (names : List Name) (taken : Taken) (x : Name) (v w : A) (entries : Entries A) (slots : Slots A) (results : Results A)
       (outer : List (Results A)) → is_among x names ≡ true → NotAwaited (slot_of x names) (all_of (results ∷ outer)) →
       AgreesOf names taken entries slots (((slot_of x names, w) ∷ results) ∷ outer)

@@ -1,4 +1,4 @@
--- Arrays that a function writes, gives away, cuts or loops over are none of its parameters that are only read.
+-- Arrays that a function writes, gives away, cuts or loops over are not its read-only parameters.
 use Rattle.cw_facts.specs.Tests.{not_true}
 use Rattle.cw_model.specs.declared.syntax.NameKind.{NameKind}
 use Rattle.cw_model.specs.declared.syntax.NameKind.TheVariants as name_kind
@@ -48,7 +48,8 @@ OwnArgs marks locals (p ∷ ps) [] = Unit {0}
 OwnArgs marks locals (p ∷ ps) (e ∷ es) = OwnArg p.kind marks locals e × OwnArgs marks locals ps es
 
 abbrev mutual
-  -- the names that a statement writes, gives away, cuts or loops over; and new slots lie behind those of parameters
+  -- the arrays that a statement writes, gives away, cuts or loops over are not only read, and new slots follow the
+  -- slots of the parameters
   pub OwnStmt : List Function → Marks → Locals → Stmt → Type 0
   OwnStmt fs marks locals (DeclareArray a e) = length marks ≤ length locals.arrays
   OwnStmt fs marks locals (AssignElement a i e) = OwnName marks locals a
@@ -63,17 +64,17 @@ abbrev mutual
   OwnStmt fs marks locals (Region tag b) = OwnBlock fs marks locals b
   OwnStmt fs marks locals _ = Unit {0}
 
-  -- of a block
+  -- the arrays that a block writes, gives away, cuts or loops over are not only read
   pub OwnBlock : List Function → Marks → Locals → Block → Type 0
   OwnBlock fs marks locals End = Unit {0}
   OwnBlock fs marks locals (Then line s b) = OwnStmt fs marks locals s × OwnBlock fs marks (locals_after locals s) b
 
--- of functions
+-- the arrays that functions write, give away, cut or loop over are not only read
 abbrev pub AllOwnNames : List Function → List Function → Type 0
 AllOwnNames all [] = Unit {0}
 AllOwnNames all (f ∷ fs) = OwnBlock all (marks_for f.params) (locals_of f.params) f.body × AllOwnNames all fs
 
--- where no array is only read
+-- if no array is only read, the condition holds
 none_args : (locals : Locals) (ps : List Param) (es : List Expr) → OwnArgs [] locals ps es
 none_args locals [] es = tt
 none_args locals (p ∷ ps) [] = tt
@@ -119,11 +120,11 @@ mutual
   none_block fs locals End = tt
   none_block fs locals (Then line s b) = (none_stmt fs locals s, none_block fs (locals_after locals s) b)
 
--- a function that reads no array alone
+-- a function without read-only parameters
 pub unread_own : (fs : List Function) (f : Function) → marks_for f.params ≡ [] → OwnBlock fs (marks_for f.params) (locals_of f.params) f.body
 unread_own fs f none = subst (λ ms. OwnBlock fs ms (locals_of f.params) f.body) (sym none) (none_block fs (locals_of f.params) f.body)
 
--- what types know of the arrays of a function of the source
+-- the facts that the types know of the arrays of a source function
 pub record Written (marks : Marks) (known : Known) (locals : Locals) : Type 0 where
   pub same : (x : Name) → is_array known x ≡ is_among x locals.arrays
   pub short : length marks ≤ length locals.arrays
@@ -142,7 +143,7 @@ among_last x y (z ∷ names) = test (among_last x y names) (same_name x z) (same
         both false = refl
     test more false c = more
 
--- one more integer, and one more array
+-- one more integer, or one more array
 int_written : (marks : Marks) (known : Known) (locals : Locals) (x : Name) → is_array known x ≡ false → Written marks known locals → Written marks ((x, name_kind.Integer) ∷ known) (with_int x locals)
 int_written marks known locals x new w = record {
   same = λ y. same_one y (same_name y x) refl;
@@ -189,11 +190,11 @@ array_written marks known locals x new w = record {
         ∙ own_behind marks (length locals.arrays) w.short
     own_one y false e h = stays y e (is_among y locals.arrays) refl h
 
--- a new name is no array
+-- a new name is not an array
 new_array : (program : Program) (known : Known) (x : Name) → is_new program known x ≡ true → is_array known x ≡ false
 new_array program known x h = (new_name program known x h).1
 
--- what is written among parameters is taken
+-- a writable parameter is one that is taken
 pushed_known : (such : NameKind → Bool) (x : Name) (ks : Known) (n : Name) (k : NameKind) → is_known x such (ks ++ (n, k) ∷ []) ≡ true
     → (is_known x such ks ≡ true) ⊎ ((same_name x n ≡ true) × (such k ≡ true))
 pushed_known such x [] n k h = test (same_name x n) refl h
@@ -229,12 +230,12 @@ written_taken (p ∷ ps) x h = by p.kind refl (pushed_known is_written_kind x (k
         ap (λ b. is_among x (map (λ (z : Param). z.name) (cond b (p ∷ filter (λ z. takes_array z) ps) (filter (λ z. takes_array z) ps)))) h'.1
         ∙ ap (λ b. if b then true else is_among x (taken_params ps)) h'.0
 
--- at the head of a function
+-- the facts on arrays hold at the head of a function
 pub head_written : (ps : List Param) → differ (map (λ p. p.name) ps) ≡ true
     → ((x : Name) → is_array (known_of ps) x ≡ is_among x (locals_of ps).arrays) → Written (marks_for ps) (known_of ps) (locals_of ps)
 head_written ps apart same = record { same = same; short = marks_short ps; own = λ x h. taken_own ps x apart (written_taken ps x h) }
 
--- arguments
+-- lowered arguments satisfy the condition on arguments
 args_own : (marks : Marks) (known : Known) (locals : Locals) → Written marks known locals → (over : List Name) (ps : List Param) (es : List Expr)
     → are_arguments known ps es ≡ true → OwnArgs marks locals ps (lower_exprs over es)
 args_own marks known locals w over [] [] h = tt
@@ -261,7 +262,7 @@ over_own marks known locals w (a ∷ over) h =
     let two = and_parts (is_writable known a) (list_all (λ b. is_writable known b) over) h in
     (w.own a two.0, over_own marks known locals w over two.1)
 
--- behind a statement
+-- the facts on arrays hold after a statement
 after_written : (program : Program) (returns : Returns) (marks : Marks) (known : Known) (locals : Locals) (line : ℕ) (s : Stmt)
     → faults_in program returns known line s ≡ [] → Written marks known locals → Written marks (declares s known) (locals_after locals s)
 after_written program returns marks known locals line (Declare x e) typed w =
@@ -270,7 +271,7 @@ after_written program returns marks known locals line (DeclareArray x e) typed w
     array_written marks known locals x (new_array program known x (and_parts (is_fine known e) (is_new program known x) (kept (is_fine known e && is_new program known x) line typed)).1) w
 after_written program returns marks known locals line _ typed w = w
 
--- what types keep at a cut
+-- the facts that the types guarantee for a cut
 record CutTyped (program : Program) (known : Known) (a l r : Name) : Type 0 where
   writable : is_writable known a ≡ true
   left : is_array known l ≡ false
@@ -336,7 +337,7 @@ module _ (program : Program) (all : List Function) (calls : (f : Name) (g : Func
     stmt_own returns over known locals w line k (Print e) typed = tt
     stmt_own returns over known locals w line k (Return e) typed = tt
 
-    -- a block of the source, lowered
+    -- a lowered block of the source satisfies the condition on blocks
     pub block_own : (returns : Returns) (over : List Name) (known : Known) (locals : Locals) → Written marks known locals → (k : ℕ) (b : Block)
         → faults_in_block program returns known b ≡ [] → OwnBlock all marks locals (lower_block over k b)
     block_own returns over known locals w k End typed = tt

@@ -1,4 +1,4 @@
--- Arrays as arguments: what a call takes, and what it gives back.
+-- Arrays as arguments: the arrays that a call takes, and the arrays that it returns.
 use Rattle.std.proofs.Common.{◌≡◌, ℕ, suc, List, [], ◌∷◌, ◌++◌, length, Bool, true, false, not, ◌&&◌, if◌then◌else◌, cond, filter, Option, Some, None, refl, sym, ap, ◌∙◌, arith, append_assoc, ℤ}
 use Rattle.std.specs.Prelude.{slice_get, slice_set, map}
 use Rattle.std.proofs.lemmas.List.{length-set, set-set, set_comm}
@@ -36,12 +36,12 @@ use Rattle.cw_gen.proofs.Stores.{Store, Outside, int_waits, array_waits, Agrees}
 abbrev pub slots_for : (names given : List Name) → List ℕ
 slots_for names given = map (λ a. slot_of a names) given
 
--- arrays that may be written may be used
+-- arrays that may be written are usable
 pub all_usable : (marks : Marks) (names : List Name) (taken : Taken) (xs : List Name) → AllWritable marks names taken xs → AllUsable names taken xs
 all_usable marks names taken [] h = tt
 all_usable marks names taken (x ∷ xs) h = (h.0.usable, all_usable marks names taken xs h.1)
 
--- their slots are not only read
+-- the slots of arrays that may be written are not only read
 pub own_slots : (marks : Marks) (names : List Name) (taken : Taken) (xs : List Name) → AllWritable marks names taken xs → OwnSlots marks (slots_for names xs)
 own_slots marks names taken [] h = tt
 own_slots marks names taken (x ∷ xs) h = (h.0.own, own_slots marks names taken xs h.1)
@@ -61,7 +61,7 @@ writable_args marks locals taken (p ∷ ps) (e ∷ es) fine = one (arrays_given 
     one rest Array (Variable a) h r = (h, r)
     one rest Array _ h r = absurd h
 
--- those that are only read may be used
+-- the arrays among arguments that are only read are usable
 pub usable_lent : (marks : Marks) (locals : Locals) (taken : Taken) (ps : List Param) (es : List Expr) → ArgsFine marks locals taken ps es → AllUsable locals.arrays taken (arrays_lent ps es)
 usable_lent marks locals taken [] [] fine = tt
 usable_lent marks locals taken [] (e ∷ es) fine = absurd fine
@@ -75,7 +75,7 @@ usable_lent marks locals taken (p ∷ ps) (e ∷ es) fine = one (arrays_lent ps 
     one rest Const (Variable a) h r = (h, r)
     one rest Const _ h r = absurd h
 
--- the list of a call is the slots of its arrays, by the numbers of the code
+-- the list of a call has the slots of its arrays, with the numbers of the code
 pub passed_slots : (marks : Marks) (locals : Locals) (taken : Taken) (ps : List Param) (es : List Expr) → ArgsFine marks locals taken ps es →
     passed_in marks (slotted_arguments locals ps es) ≡ numbers_at marks (slots_for locals.arrays (arrays_given ps es))
 passed_slots marks locals taken [] [] fine = refl
@@ -115,7 +115,7 @@ passed_slots marks locals taken (p ∷ ps) (e ∷ es) fine = one (slotted_argume
         passed_in marks (slotted_argument locals (p ∷ ps) e ∷ args) ≡ numbers_at marks (slots_for locals.arrays ((if is_written_kind p.kind then names_in e else []) ++ rest))
     one args rest more k e h = ap (λ a. passed_in marks (a ∷ args)) (same e) ∙ kinds args rest more p.kind e h
 
--- its loans are the places of the arrays that are only read
+-- the loans of a call are the places of the arrays that are only read
 pub lent_slots : (marks : Marks) (locals : Locals) (taken : Taken) (ps : List Param) (es : List Expr) → ArgsFine marks locals taken ps es →
     lent_in marks (slotted_arguments locals ps es) ≡ map (place_of marks) (slots_for locals.arrays (arrays_lent ps es))
 lent_slots marks locals taken [] [] fine = refl
@@ -154,7 +154,7 @@ lent_slots marks locals taken (p ∷ ps) (e ∷ es) fine = one (slotted_argument
         lent_in marks (slotted_argument locals (p ∷ ps) e ∷ args) ≡ map (place_of marks) (slots_for locals.arrays ((if is_const_kind p.kind then names_in e else []) ++ rest))
     one args rest more e h = ap (λ a. lent_in marks (a ∷ args)) (same e) ∙ kinds args rest more p.kind e h
 
--- as many arrays are given as are taken
+-- the number of arrays that are given away is the number that is taken
 pub as_many_arrays : (marks : Marks) (locals : Locals) (taken : Taken) (ps : List Param) (es : List Expr) → ArgsFine marks locals taken ps es → length (arrays_given ps es) ≡ length (taken_params ps)
 as_many_arrays marks locals taken [] [] fine = refl
 as_many_arrays marks locals taken [] (e ∷ es) fine = absurd fine
@@ -177,7 +177,7 @@ not_same x given b h = cases (same_name x b) refl h
     cases true e h' = cc
     cases false e h' = (e, h')
 
--- moving other arrays out leaves a slot
+-- moving other arrays out keeps a slot
 pub get-moved : {A : Type 0} (names : List Name) (taken : Taken) (a : Name) (given : List Name) (slots : Slots A) → IsUsable names taken a
     → AllUsable names taken given → is_among a given ≡ false → slice_get (moved_out (slots_for names given) slots) (slot_of a names)
     ≡ slice_get slots (slot_of a names)
@@ -187,7 +187,7 @@ get-moved names taken a (b ∷ given) slots u us apart =
     get-other (moved_out (slots_for names given) slots) (slot_of a names) (slot_of b names) None (slots_apart a b names u.declared us.0.declared other.0)
     ∙ get-moved names taken a given slots u us.1 other.1
 
--- nor does it matter when a slot is set
+-- moving other arrays out commutes with setting a slot
 set-moved : {A : Type 0} (names : List Name) (taken : Taken) (a : Name) (given : List Name) (v : Option A) (slots : Slots A) → IsUsable names taken a
     → AllUsable names taken given → is_among a given ≡ false → slice_set (moved_out (slots_for names given) slots) (slot_of a names) v
     ≡ moved_out (slots_for names given) (slice_set slots (slot_of a names) v)
@@ -197,7 +197,7 @@ set-moved names taken a (b ∷ given) v slots u us apart =
     sym (set_comm (moved_out (slots_for names given) slots) (slot_of a names) (slot_of b names) v None (slots_apart a b names u.declared us.0.declared other.0))
     ∙ ap (λ l. slice_set l (slot_of b names) None) (set-moved names taken a given v slots u us.1 other.1)
 
--- slots that are empty are slots
+-- moving arrays out keeps the number of slots
 pub length-moved : {A : Type 0} (given : List ℕ) (slots : Slots A) → length (moved_out given slots) ≡ length slots
 length-moved [] slots = refl
 length-moved (a ∷ given) slots = length-set (moved_out given slots) a None ∙ length-moved given slots
@@ -212,7 +212,7 @@ arrays_found names taken entries slots waits (a ∷ given) agrees us apart =
     ap (λ o. and_array o (arrays_in (slots_for names given) slots)) (get-moved names taken a given slots us.0 us.1 other ∙ holding.loads true [] names taken a entries slots waits us.0 agrees)
     ∙ ap (λ o. and_array (Some (Some (find [] a entries))) o) (arrays_found names taken entries slots waits given agrees us.1 (second_true (not (is_among a given)) (differ given) apart))
 
--- a call is lent what it reads, which it does not take too
+-- a call is lent the arrays that it reads and does not also take
 pub loans_found : (marks : Marks) (names : List Name) (taken : Taken) (entries : Entries (List ℤ)) (slots : Slots (List ℤ))
     (waits : List (Results (List ℤ))) (given read : List Name) → AgreesOf true names taken entries slots waits → AllWritable marks names taken given
     → AllUsable names taken read → NotBoth given read →
@@ -229,25 +229,25 @@ loans_found marks names taken entries slots waits given (a ∷ read) agrees ws u
     ∙ ap (and_array (Some (Some (find [] a entries)))) (loans_found marks names taken entries slots waits given read agrees ws us.1
     (neither_second (is_among a given) (list_any (λ b. is_among b given) read) apart))
 
--- these values go back into the slots of these names
+-- these values return to the slots of these names
 abbrev pub backs : (names given : List Name) → List (List ℤ) → Results (List ℤ)
 backs names [] vs = []
 backs names (a ∷ given) [] = []
 backs names (a ∷ given) (v ∷ vs) = (slot_of a names, v) ∷ backs names given vs
 
--- none of these slots is only read
+-- no slot of a returned array is only read
 pub backs_own : (marks : Marks) (names : List Name) (taken : Taken) (given : List Name) (vs : List (List ℤ)) → AllWritable marks names taken given → AllOwn marks (backs names given vs)
 backs_own marks names taken [] vs h = tt
 backs_own marks names taken (a ∷ given) [] h = tt
 backs_own marks names taken (a ∷ given) (v ∷ vs) h = (h.0.own, backs_own marks names taken given vs h.1)
 
--- the same of a frame
+-- these values return to these names of a frame
 abbrev pub put_backs : (given : List Name) → List (List ℤ) → Entries (List ℤ) → Entries (List ℤ)
 put_backs [] vs entries = entries
 put_backs (a ∷ given) [] entries = entries
 put_backs (a ∷ given) (v ∷ vs) entries = put_backs given vs (put a v entries)
 
--- the arrays of a call under its parameters' names
+-- the arrays of a call, by the names of its parameters
 abbrev pub left_in : Frame → List Name → List (List ℤ)
 left_in g qs = map (λ q. array_of g q) qs
 
@@ -255,13 +255,13 @@ left_in g qs = map (λ q. array_of g q) qs
 abbrev pub with_arrays : Frame → Entries (List ℤ) → Frame
 with_arrays frame entries = record { ints = frame.ints; arrays = entries; sliced = frame.sliced }
 
--- an array that a call takes stands alone as an argument
+-- an array that a call takes is a name as an argument
 taken_alone : (k : NameKind) (marks : Marks) (locals : Locals) (taken : Taken) (e : Expr) → is_written_kind k ≡ true → ArgFine k marks locals taken e → ArrayAlone locals e
 taken_alone Integer marks locals taken e is h = cc
 taken_alone Array marks locals taken e is h = given_alone marks locals taken e h
 taken_alone Const marks locals taken e is h = cc
 
--- the arrays of a call go back under their names
+-- the arrays of a call return to their names
 pub returned_are : (marks : Marks) (locals : Locals) (taken : Taken) (ps : List Param) (es : List Expr) (g frame : Frame)
     → ArgsFine marks locals taken ps es → returned_arrays ps es g frame ≡ with_arrays frame (put_backs (arrays_given ps es) (left_in g (taken_params ps)) frame.arrays)
 returned_are marks locals taken [] [] g frame fine = refl
@@ -286,7 +286,7 @@ returned_are marks locals taken (p ∷ ps) (e ∷ es) g frame fine = returned_ar
         with_arrays f (put_backs (arrays_given ps es) (left_in g (taken_params ps)) f.arrays)) is
     one false is _ h = refl
 
--- what the slots of a call that ends hold, by its parameters' names
+-- the arrays that a call returns are the arrays of its frame, by the names of its parameters
 pub firsts : (names : List Name) (given qs more : List Name) (g : Frame) (entries : Entries (List ℤ)) (rest : List (List ℤ))
     → length given ≡ length qs → holding.names_in entries ≡ qs ++ more → differ qs ≡ true → ((q : Name) → is_among q qs ≡ true → array_of g q ≡ find [] q entries) →
     given_back (map (λ a. Whole a) (slots_for names given)) (full (values_in entries ++ rest)) ≡ Some (backs names given (left_in g qs))
@@ -304,7 +304,7 @@ firsts names (a ∷ given) (q ∷ qs) more g (e ∷ entries) rest n named apart 
     (λ z h. same z (later_among z q qs h) ∙ ap (λ b. if b then e.1 else find [] z entries) (ap (same_name z) head ∙ other_than z q qs other h)))
     ∙ ap (λ v. Some ((slot_of a names, v) ∷ backs names given (left_in g qs))) (sym here)
 
--- what goes back fills the slots that were moved out
+-- the returned arrays fill the slots that were moved out
 pub settled_moved : (names : List Name) (taken : Taken) (given : List Name) (vs : List (List ℤ)) (slots : Slots (List ℤ))
     → AllUsable names taken given → differ given ≡ true → length given ≡ length vs
     → settled (backs names given vs) (moved_out (slots_for names given) slots) ≡ settled (backs names given vs) slots
@@ -316,7 +316,7 @@ settled_moved names taken (a ∷ given) (v ∷ vs) slots us apart n =
     ap (settled (backs names given vs)) (set-set (moved_out (slots_for names given) slots) i None (Some v) ∙ set-moved names taken a given (Some v) slots us.0 us.1 other)
     ∙ settled_moved names taken given vs (slice_set slots i (Some v)) us.1 (second_true (not (is_among a given)) (differ given) apart) (omega (arith, n))
 
--- the arrays of a call in place stand in their slots again
+-- the arrays of a plain call are in their slots again
 pub agree_back : (names : List Name) (taken : Taken) (given : List Name) (vs : List (List ℤ)) (entries : Entries (List ℤ)) (slots : Slots (List ℤ))
     (waits : List (Results (List ℤ))) → AllUsable names taken given → AgreesOf true names taken entries slots waits →
     AgreesOf true names taken (put_backs given vs entries) (settled (backs names given vs) slots) waits
@@ -326,7 +326,7 @@ agree_back names taken (x ∷ given) (v ∷ vs) entries slots waits us a =
     agree_back names taken given vs (put x v entries) (slice_set slots (slot_of x names) (Some v)) waits us.1
     (holding.assigns true names taken x v entries slots waits us.0 a)
 
--- those of a spawned call wait
+-- the arrays of a spawned call wait
 pub agree_await : (names : List Name) (taken taken' : Taken) (given : List Name) (vs : List (List ℤ)) (entries : Entries (List ℤ))
     (slots : Slots (List ℤ)) (arrived : Results (List ℤ)) (outer : List (Results (List ℤ))) → AllUsable names taken given → differ given ≡ true
     → length given ≡ length vs →
@@ -365,7 +365,7 @@ none_of_some p x (z ∷ ps) h = cases (none_of_some p x ps) (same_name x z.name)
     cases more false true e h' = ap (λ b. if b then true else is_among x (map (λ (y : Param). y.name) (filter p ps))) e ∙ more h'
     cases more false false e h' = more h'
 
--- names that differ, some left out
+-- some of a list of distinct names are distinct
 pub differ_some : (p : Param → Bool) (ps : List Param) → differ (map (λ (q : Param). q.name) ps) ≡ true → differ (map (λ (q : Param). q.name) (filter p ps)) ≡ true
 differ_some p [] h = refl
 differ_some p (q ∷ ps) h = test (differ_some p ps (second_true (not (is_among q.name (map (λ (z : Param). z.name) ps))) (differ (map (λ (z : Param). z.name) ps)) h)) (p q)
@@ -378,7 +378,7 @@ differ_some p (q ∷ ps) h = test (differ_some p ps (second_true (not (is_among 
         ∙ rest
     test rest false = rest
 
--- the array slots of a caller, and what waits there, when a call gives arrays back
+-- the array slots of a caller, and the waiting arrays, after a call returns arrays
 abbrev pub arrays_after : CallKind → Results (List ℤ) → Slots (List ℤ) → Slots (List ℤ)
 arrays_after Plain back arrays = settled back arrays
 arrays_after Spawned back arrays = arrays
@@ -387,12 +387,12 @@ abbrev pub arrived_after : CallKind → Results (List ℤ) → Results (List ℤ
 arrived_after Plain back arrived = arrived
 arrived_after Spawned back arrived = back ++ arrived
 
--- there are as many slots as before
+-- the number of slots does not change
 pub arrays_count : (kind : CallKind) (back : Results (List ℤ)) (passed : List ℕ) (arrays : Slots (List ℤ)) → length (arrays_after kind back (moved_out passed arrays)) ≡ length arrays
 arrays_count Plain back passed arrays = settled_count back (moved_out passed arrays) ∙ length-moved passed arrays
 arrays_count Spawned back passed arrays = length-moved passed arrays
 
--- the caller's frame when a call has ended
+-- the frame of the caller after a call
 pub frame_came : (target : Option Name) (v : Option ℤ) (frame : Frame) (entries : Entries (List ℤ)) (after_it : Taken) (locals : Locals)
     (store : Store) (outer : Outside) → AgreesOf false locals.ints after_it (set_result target v frame).ints store.slots (store.results ∷ int_waits outer) →
     AgreesOf true locals.arrays after_it entries store.arrays (store.arrived ∷ array_waits outer) → frame.sliced ≡ []

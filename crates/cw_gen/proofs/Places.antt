@@ -1,11 +1,11 @@
--- Where instructions stand.
+-- Positions of instructions in the code.
 use Rattle.std.proofs.Common.{◌≡◌, ℕ, ◌+◌, ◌<◌, ◌≤◌, List, [], ◌∷◌, ◌++◌, length, Some, ap, ◌∙◌, subst, arith, append_assoc, length-append}
 use Rattle.std.specs.Prelude.{slice_get}
 use Rattle.std.proofs.Math.Seq.{get_or-append_seam}
 use Rattle.std.proofs.lemmas.Option.{slice_get-get_or, slice_get_within}
 use Rattle.cw_code.specs.declared.code.Instr.{Instr}
 
--- the instructions stand in the code at this place
+-- the code contains these instructions at this place
 abbrev pub HasAt : List Instr → ℕ → List Instr → Type 0
 HasAt code pc [] = Unit {0}
 HasAt code pc (i ∷ is) = (slice_get code pc ≡ Some i) × HasAt code (pc + 1) is
@@ -34,7 +34,7 @@ within_from : (code : List Instr) (pc : ℕ) (is : List Instr) → pc ≤ length
 within_from code pc [] le h = omega (arith, le)
 within_from code pc (i ∷ is) le h = omega (arith, within_from code (pc + 1) is (omega (arith, slice_get_within code pc i h.0)) h.1)
 
--- what stands in the code is no longer than the code
+-- instructions of the code are not longer than the code
 pub length_within : (code : List Instr) (pc : ℕ) (is : List Instr) → HasAt code pc is → length is ≤ length code
 length_within code pc [] h = omega arith
 length_within code pc (i ∷ is) h = omega (arith, within_from code pc (i ∷ is) (omega (arith, slice_get_within code pc i h.0)) h)

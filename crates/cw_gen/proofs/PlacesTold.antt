@@ -1,4 +1,4 @@
--- The table of what the first array slots of a function are, and the marks that it tells.
+-- The table of the places of the first array slots of a function, and the marks that it represents.
 use Rattle.std.proofs.Common.{◌≡◌, ℕ, zero, suc, ◌+◌, ◌-◌, ◌<◌, ◌≤◌, List, [], ◌∷◌, ◌++◌, length, Bool, Some, true, false, refl, sym, ap, ◌∙◌, arith}
 use Rattle.std.specs.Prelude.{slice_get, slice_index_or, if◌then◌else◌, ◌==◌}
 use Rattle.std.proofs.lemmas.List.{append-nil, length-map}
@@ -9,7 +9,7 @@ use Rattle.cw_code.specs.declared.code.Loan.{Loan}
 use Rattle.cw_code.specs.declared.code.Loan.TheVariants as loan
 use Rattle.cw_gen.specs.Marks.{Marks, place_of, behind_place, readers_in, is_reader_place, marks_in, places_from, marks_told, unless_none}
 
--- a place behind so many arrays and readers
+-- a place after this number of arrays and readers
 abbrev pub place_behind : (a r : ℕ) → Loan → Loan
 place_behind a r (loan.Array n) = loan.Array (a + n)
 place_behind a r (loan.Reader n) = loan.Reader (r + n)
@@ -20,7 +20,7 @@ array_eq e = ap loan.Array e
 reader_eq : {a b : ℕ} → a ≡ b → loan.Reader a ≡ loan.Reader b
 reader_eq e = ap loan.Reader e
 
--- behind one more
+-- a place after one more reader
 behind_read : (a r : ℕ) (l : Loan) → place_behind a (suc r) l ≡ place_behind a r (behind_place true l)
 behind_read a r (loan.Array n) = refl
 behind_read a r (loan.Reader n) = reader_eq (omega arith)
@@ -29,7 +29,7 @@ behind_own : (a r : ℕ) (l : Loan) → place_behind (suc a) r l ≡ place_behin
 behind_own a r (loan.Array n) = array_eq (omega arith)
 behind_own a r (loan.Reader n) = refl
 
--- a place in the table
+-- a place in the table is the place of its slot
 found_from : (a r : ℕ) (marks : Marks) (s : ℕ) → s < length marks → slice_get (places_from a r marks) s ≡ Some (place_behind a r (place_of marks s))
 found_from a r [] s h = absurd (omega (arith, h))
 found_from a r (true ∷ marks) zero h = ap Some (reader_eq (omega arith))
@@ -49,20 +49,20 @@ few_readers [] = omega arith
 few_readers (true ∷ marks) = omega (arith, few_readers marks)
 few_readers (false ∷ marks) = omega (arith, few_readers marks)
 
--- behind all of them, slots are arrays
+-- slots after the table are arrays
 pub place_beyond : (marks : Marks) (s : ℕ) → length marks ≤ s → place_of marks s ≡ loan.Array (s - readers_in marks)
 place_beyond [] s h = array_eq (omega arith)
 place_beyond (m ∷ marks) zero h = absurd (omega (arith, h))
 place_beyond (true ∷ marks) (suc s) h = ap (behind_place true) (place_beyond marks s (omega (arith, h))) ∙ array_eq (omega arith)
 place_beyond (false ∷ marks) (suc s) h = ap (behind_place false) (place_beyond marks s (omega (arith, h))) ∙ array_eq (omega (arith, h, few_readers marks))
 
--- and they tell the marks
+-- the table represents the marks
 pub told_from : (a r : ℕ) (marks : Marks) → marks_told (places_from a r marks) ≡ marks
 told_from a r [] = refl
 told_from a r (true ∷ marks) = ap (λ ms. true ∷ ms) (told_from a (suc r) marks)
 told_from a r (false ∷ marks) = ap (λ ms. false ∷ ms) (told_from (suc a) r marks)
 
--- a table that is made of marks is that of what it tells
+-- the marks of a table that is built from marks
 pub told_table : (items : List Loan) (marks : Marks) → items ≡ places_from 0 0 marks → marks_told items ≡ marks
 told_table items marks h = ap marks_told h ∙ told_from 0 0 marks
 
@@ -76,7 +76,7 @@ some_kept marks h = test (readers_in marks == 0) refl
     test true e = absurd (omega (arith, h, eqb-true (readers_in marks) 0 e))
     test false e = refl
 
--- a place that is read in the table
+-- a place that is read from the table
 pub place_at : (items : List Loan) (s : ℕ) (x : Loan) → items ≡ places_from 0 0 (marks_told items) → s < length items → x ≡ slice_index_or items s x → x ≡ place_of (marks_told items) s
 place_at items s x counted within is =
     let n : length (marks_told items) ≡ length items = length-map items is_reader_place in
@@ -84,7 +84,7 @@ place_at items s x counted within is =
     ap Some is ∙ sym (slice_get-get_or items s x within) ∙ ap (λ l. slice_get l s) counted ∙ place_found (marks_told items) s (omega (arith, within, n)) in
     cc found
 
--- there are no more readers than slots behind the table
+-- the number of readers is at most the position of a slot after the table
 pub readers_behind : (items : List Loan) (readers s : ℕ) → readers ≡ readers_in (marks_told items) → length items ≤ s → readers ≤ s
 readers_behind items readers s many le = omega (arith, many, le, few_readers (marks_told items), length-map items is_reader_place)
 
@@ -93,7 +93,7 @@ place_past items readers s many le =
     let n : length (marks_told items) ≡ length items = length-map items is_reader_place in
     ap (λ k. loan.Array (s - k)) many ∙ sym (place_beyond (marks_told items) s (omega (arith, le, n)))
 
--- a table behind the last parameter
+-- the table after the last parameter
 pub table_ends : (kinds left : List NameKind) (items : List Loan) (a r : ℕ) → left ≡ []
     → items ++ places_from a r (marks_in left) ≡ places_from 0 0 (marks_in kinds) → items ≡ places_from 0 0 (marks_in kinds)
 table_ends kinds left items a r none before = sym (append-nil items) ∙ sym (ap (λ l. items ++ places_from a r (marks_in l)) none) ∙ before

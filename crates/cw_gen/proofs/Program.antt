@@ -1,4 +1,4 @@
--- The code of a program does what its lowered program does.
+-- The code of a program executes its lowered program.
 use Rattle.std.proofs.Common.{◌≡◌, ℕ, suc, ◌+◌, ◌-◌, ◌≤◌, List, [], ◌∷◌, ◌++◌, length, Bool, true, false, ◌&&◌, if◌then◌else◌}
 use Rattle.std.proofs.Common.{Some, refl, sym, ap, ◌∙◌, subst, arith, append_assoc, length-append, true≢false, ℤ}
 use Rattle.std.specs.Prelude.{slice_get, nat_eq, nat_le, option_map, map}
@@ -44,11 +44,11 @@ module _ (code : Code) (all : List Function) (lists : Lists) where
   abbrev codes : List Function → List Instr
   codes fs = emitted_instrs first (map (slotted_function lists) fs)
 
-  -- their entries
+  -- the entries of functions
   abbrev funcs_from : (start : ℕ) → List Function → List Func
   funcs_from start fs = emitted_funcs first start (map (slotted_function lists) fs)
 
-  -- the entry of a function with so many parameters
+  -- the entry of a function with this number of parameters
   abbrev entry_of : (start : ℕ) → Function → (ints arrays taken readers : ℕ) → Func
   entry_of start f ints arrays taken readers =
       let body = slotted_block lists (locals_of f.params) f.body in
@@ -63,13 +63,13 @@ module _ (code : Code) (all : List Function) (lists : Lists) where
         readers = readers;
       }
 
-  -- that of a function
+  -- the entry of a function
   abbrev own_entry : (start : ℕ) → Function → Func
   own_entry start f =
       let kinds = map (λ p. p.kind) f.params in
       entry_of start f (count_ints kinds) (count_arrays kinds) (count_taken kinds) (count_readers kinds)
 
-  -- a function has its code where its entry says
+  -- the code of a function is where its entry says
   compiled_so : (start : ℕ) (f : Function) → HasAt code.instrs start (function_code first lists f) → FunctionFine all lists (tables_in code) f →
       Compiled code all lists f (own_entry start f)
   compiled_so start f there fine =
@@ -104,11 +104,11 @@ module _ (code : Code) (all : List Function) (lists : Lists) where
         returns = fine.returns;
       }
 
-  -- a function of this name has its entry and its code
+  -- a function with this name has its entry and its code
   abbrev Entry : (start : ℕ) → List Function → Name → Type 0
   Entry start fs name = (fn : Func) × (slice_get (funcs_from start fs) (slot_of name (function_names fs)) ≡ Some fn) × Compiled code all lists (function_named name fs) fn
 
-  -- each function has
+  -- each function has its entry and its code
   pub entries : (pre : List Instr) (fs : List Function) → code.instrs ≡ pre ++ codes fs → FunctionsFine all lists (tables_in code) fs → (name : Name)
       → is_function name fs ≡ true → Entry (length pre) fs name
   entries pre [] e fine name h = cc
@@ -130,7 +130,7 @@ module _ (code : Code) (all : List Function) (lists : Lists) where
 pub table_of : (program : Program) → ProgramFine (lowered program) (lowered_lists program) (tables_in (code_of program)) → Table (code_of program) (lowered program).functions (lowered_lists program)
 table_of program fine = record { entry = entries (code_of program) (lowered program).functions (lowered_lists program) [] (lowered program).functions refl fine.functions }
 
--- a name that is not among either is not among both
+-- a name in neither list is not in the concatenation
 neither : (name : Name) (fs gs : List Function) → is_among name (function_names fs) ≡ false → is_among name (function_names gs) ≡ false → is_among name (function_names (fs ++ gs)) ≡ false
 neither name [] gs h k = k
 neither name (f ∷ fs) gs h k = test (λ h'. neither name fs gs h' k) (same_name name f.name) h
@@ -140,7 +140,7 @@ neither name (f ∷ fs) gs h k = test (λ h'. neither name fs gs h' k) (same_nam
     test more true h' = cc
     test more false h' = more h'
 
--- no loop's function is named as main is
+-- no loop's function has the name of main
 mutual
   not_made_by : (line k : ℕ) (s : Stmt) → is_among main_name (function_names (made_by line k s)) ≡ false
   not_made_by line k (If e b) = not_made_in k b
@@ -156,12 +156,12 @@ mutual
   not_made_in k End = refl
   not_made_in k (Then line s b) = neither main_name (made_by line k s) (made_in (k + loop_count s) b) (not_made_by line k s) (not_made_in (k + loop_count s) b)
 
--- nor that of any function of the source
+-- no function of the loops of source functions has the name of main
 not_made_of : (k : ℕ) (fs : List Function) → is_among main_name (function_names (made_of k fs)) ≡ false
 not_made_of k [] = refl
 not_made_of k (f ∷ fs) = neither main_name (made_in k f.body) (made_of (k + loop_count_in f.body) fs) (not_made_in k f.body) (not_made_of (k + loop_count_in f.body) fs)
 
--- main is one of the source
+-- main is a function of the source
 pub main_there : (program : Program) → is_function main_name (lowered program).functions ≡ true → is_among main_name (function_names program.functions) ≡ true
 main_there program h = cases (is_among main_name (function_names program.functions)) refl
   where
@@ -171,20 +171,20 @@ main_there program h = cases (is_among main_name (function_names program.functio
         let among = sym (ap (is_among main_name) (first_names program)) ∙ named main_name (lowered program).functions h in
         absurd (true≢false (sym (in_second main_name (function_names program.functions) (function_names (made_of 0 program.functions)) among e) ∙ not_made_of 0 program.functions))
 
--- main has the same place among the functions of the source
+-- main has the same index among the functions of the source
 pub main_place : (program : Program) → is_function main_name (lowered program).functions ≡ true
     → slot_of main_name (function_names program.functions) ≡ slot_of main_name (lowered_lists program).functions
 main_place program h =
     sym (slot_stays main_name (function_names program.functions) (function_names (made_of 0 program.functions)) (main_there program h)) ∙ sym (ap (slot_of main_name) (first_names program))
 
--- the answer of the code is that of the program
+-- the answer of the code is the answer of the program
 same_answer : (program : Program) (o : Outcome Returned) → option_map (λ o'. answer_of (reducers_of (code_of program)) o')
     (resume quiet o (λ r l u. Some (Done (r.0, no_frame) l u))) ≡ Some (answer_of program.reducers o)
 same_answer program (Done r l u) = ap (λ totals. Some (Ended (int_given r.0) u.lines totals (normal (Marked (Invocation 0) (tree_of u.events))))) (same_totals program.reducers u.updates)
 same_answer program (Trapped trap line lines) = refl
 same_answer program Over = refl
 
--- code runs as its program does, lowered
+-- the code executes its lowered program
 pub same_run : (program : Program) → length (code_of program).instrs ≤ most_jump → TurnsClose (lowered program).functions
     → ProgramFine (lowered program) (lowered_lists program) (tables_in (code_of program)) →
     (args : List ℤ) → length args ≡ main_count (lowered program) → (n : ℕ) → code_serial (code_of program) args n ≡ Some (serial_answer (lowered program) args n)
@@ -218,7 +218,7 @@ same_run program small least fine args m n =
     (omega arith) (λ v g arrays l u gives_int gives le. refl))
     ∙ same_answer program (call (suc n) 0 fs Deeper main (main_frame main.params args no_frame) main.line n)
 
--- main takes as many arguments as the program's
+-- the number of arguments of main is that number in the program
 pub same_params : (program : Program) → length (code_of program).instrs ≤ most_jump
     → ProgramFine (lowered program) (lowered_lists program) (tables_in (code_of program)) → main_params (code_of program) ≡ main_count (lowered program)
 same_params program small fine =

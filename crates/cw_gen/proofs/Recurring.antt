@@ -1,4 +1,4 @@
--- The instruction of a call statement, and that of a call on one half of a range.
+-- The instruction of a call statement, and the instruction of a call on one half of a range.
 use Rattle.std.proofs.Common.{◌≡◌, ℕ, suc, ◌+◌, ◌<◌, ◌≤◌, List, [], ◌∷◌, ◌++◌, length, Bool, true, false, if◌then◌else◌, nat_lt, Option, Some, None, refl, sym, ap, ◌∙◌, arith, length-append, ℤ}
 use Rattle.std.specs.Prelude.{slice_get, reverse, map, option_map}
 use Rattle.cw_model.specs.Names.{differ}
@@ -37,7 +37,7 @@ use Rattle.cw_gen.proofs.Simple.{Onwards}
 use Rattle.cw_gen.proofs.Calling.{taken_on, Hands, CallsRun, can_take, entering, entered, begins_so, inside_runs}
 
 module _ (code : Code) (fs : List Function) (lists : Lists) (marks : Marks) where
-  -- what the arguments of a call hand over
+  -- the values that the arguments of a call pass to the function
   hands_for : (locals : Locals) (taken' : Taken) (frame : Frame) (name : Name) (es : List Expr) (fn : Func) (vs : List ℤ) (given : Frame) →
       Compiled code fs lists (function_named name fs) fn → length vs ≡ fn.params
       → Bound (function_named name fs).params vs (map (λ a. array_of frame a) (arrays_named (function_named name fs).params es)) no_frame given →
@@ -87,7 +87,7 @@ module _ (code : Code) (fs : List Function) (lists : Lists) (marks : Marks) wher
     abbrev at : List Around → ℕ → List ℤ → Store → Trace → State
     at around pc ops store t = here marks depth around pc ops store t
 
-    -- a call that would be too deep traps, and any other begins
+    -- a call that exceeds the maximum depth traps, and every other call begins
     deep_or_not : (around : List Around) (locals : Locals) (taken' : Taken) (level : ℕ) (kind : CallKind) (site : ℕ) (target : Option Name)
         (line pc : ℕ) (size : Room) (f : Function) (fn : Func) (frame : Frame) (h : Hands marks locals taken' frame f fn) (store : Store)
         (outer : Outside) (read : List Name) (u : Trace) (l : ℕ) (next : Completion → ℕ → Trace → RunOutcome) →
@@ -105,7 +105,7 @@ module _ (code : Code) (fs : List Function) (lists : Lists) (marks : Marks) wher
         inside_runs code fs lists marks depth bound calls run_calls around locals taken' level kind Deeper
         (Some site) target line pc size f fn frame h store outer read u l next shallow at_level compiled target_fine agrees m below on
 
-    -- the instruction of a call statement
+    -- the instruction of a call statement executes the call
     pub call_runs : (around : List Around) (locals : Locals) (taken' : Taken) (level : ℕ) (kind : CallKind) (site line pc : ℕ) (size : Room)
         (target : Option Name) (name : Name) (es : List Expr) (fn : Func) (vs : List ℤ) (given_frame : Frame) (store : Store) (outer : Outside)
         (frame : Frame) (u : Trace) (left : ℕ) (next : Completion → ℕ → Trace → RunOutcome) →
@@ -175,7 +175,7 @@ module _ (code : Code) (fs : List Function) (lists : Lists) (marks : Marks) wher
         ∙ sym (resume_then (ticked u) (joined_up (call_event kind site) (calls Deeper f given_frame line l)) (leaves target f.params es frame) next))
         ∙ sym (resume_then u (pay 1 left) (λ _ left'. then_do (joined_up (call_event kind site) (calls Deeper f given_frame line left')) (leaves target f.params es frame)) next)
 
-    -- the instruction of a call on one half: it is as deep as its caller, and at no site
+    -- the instruction of a call on one half executes the call, at the depth of its caller and without a site
     pub recur_runs : (around : List Around) (locals : Locals) (taken' : Taken) (level : ℕ) (kind : CallKind) (first line pc : ℕ) (size : Room)
         (name : Name) (es : List Expr) (fn : Func) (vs : List ℤ) (given_frame : Frame) (store : Store) (outer : Outside) (frame : Frame) (u : Trace)
         (left : ℕ) (next : Completion → ℕ → Trace → RunOutcome) →

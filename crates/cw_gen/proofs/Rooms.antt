@@ -10,7 +10,7 @@ use Rattle.cw_gen.proofs.Fine.{Room, room_of}
 use Rattle.cw_gen.proofs.Told.{RoomStmt, RoomBlock, AllHaveRooms}
 
 mutual
-  -- no fewer slots are needed than are there already
+  -- a statement does not decrease the number of slots
   pub ints_grow : (n : ℕ) (s : slotted.Stmt) → n ≤ ints_in n s
   ints_grow n (slotted.Declare u e) = omega arith
   ints_grow n (slotted.If e b) = ints_grow_in n b
@@ -26,7 +26,7 @@ mutual
   ints_grow_in n (slotted.Then line s b) = omega (arith, ints_grow n s, ints_grow_in (ints_in n s) b)
 
 mutual
-  -- nor fewer slots of arrays
+  -- a statement does not decrease the number of array slots
   pub arrays_grow : (n : ℕ) (s : slotted.Stmt) → n ≤ arrays_in n s
   arrays_grow n (slotted.DeclareArray u e) = omega arith
   arrays_grow n (slotted.If e b) = arrays_grow_in n b
@@ -43,7 +43,7 @@ mutual
 
 module _ (lists : Lists) (room : Room) where
   mutual
-    -- a statement whose slots the room has
+    -- a statement whose slots are within the room
     stmt_room : (n m : ℕ) (locals : Locals) (s : model.Stmt) → ints_in n (slotted_stmt lists locals s) ≤ room.ints → arrays_in m (slotted_stmt lists locals s) ≤ room.arrays → RoomStmt room locals s
     stmt_room n m locals (Declare x e) h k = omega (arith, h)
     stmt_room n m locals (DeclareArray a e) h k = omega (arith, k)
@@ -65,7 +65,7 @@ module _ (lists : Lists) (room : Room) where
     stmt_room n m locals (Region tag b) h k = block_room n m locals b h k
     stmt_room n m locals _ h k = tt
 
-    -- a block
+    -- a block whose slots are within the room
     block_room : (n m : ℕ) (locals : Locals) (b : model.Block) → ints_in_block n (slotted_block lists locals b) ≤ room.ints
         → arrays_in_block m (slotted_block lists locals b) ≤ room.arrays → RoomBlock room locals b
     block_room n m locals End h k = tt
@@ -76,7 +76,7 @@ module _ (lists : Lists) (room : Room) where
           block_room (ints_in n here) (arrays_in m here) (locals_after locals s) b h k,
         )
 
--- functions whose rooms are what their texts need
+-- functions whose rooms are sufficient for their texts
 pub all_have_rooms : (lists : Lists) (fs : List model.Function) → AllHaveRooms lists fs
 all_have_rooms lists [] = tt
 all_have_rooms lists (f ∷ fs) =

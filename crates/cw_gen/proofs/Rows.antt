@@ -1,4 +1,4 @@
--- Which slots may be empty where certain names are taken.
+-- Rows: the slots that may be empty if certain names are held.
 use Rattle.std.proofs.Common.{◌≡◌, ◌≢◌, ℕ, zero, suc, ◌+◌, ◌<◌, ◌≤◌, Option, Some, None, not, length-append, List, [], ◌∷◌, ◌++◌, length}
 use Rattle.std.proofs.Common.{Bool, true, false, ◌&&◌, if◌then◌else◌, refl, sym, ap, ◌∙◌, subst, arith, true≢false}
 use Rattle.std.specs.Prelude.{slice_get, slice_set, nat_eq}
@@ -26,7 +26,7 @@ use Rattle.cw_gen.proofs.FreeMembers.{In, in_taken}
 use Rattle.cw_gen.proofs.Names.{get-other, slots_apart}
 use Rattle.cw_gen.proofs.Scopes.{extended, same_locals}
 
--- for each of so many slots whether a spawn of the sync block at this depth holds the name that lies there
+-- for each of `n` slots, whether a spawn of the sync block at this depth holds the name of the slot
 abbrev pub row : ℕ → (depth : ℕ) → List Name → Taken → Row
 row zero depth names taken = []
 row (suc n) depth [] taken = false ∷ row n depth [] taken
@@ -37,7 +37,7 @@ length-row zero depth names taken = refl
 length-row (suc n) depth [] taken = ap suc (length-row n depth [] taken)
 length-row (suc n) depth (x ∷ names) taken = ap suc (length-row n depth names taken)
 
--- what the row says of a name
+-- the element of the row for a name
 row_at : (n depth : ℕ) (names : List Name) (taken : Taken) (x : Name) → length names ≤ n → is_among x names ≡ true
     → slice_get (row n depth names taken) (slot_of x names) ≡ Some (holds false depth x taken)
 row_at n depth [] taken x le h = cc
@@ -50,7 +50,7 @@ row_at (suc n) depth (y ∷ names) taken x le h = test (row_at n depth names tak
     test more true e h' = ap (λ z. Some (holds false depth z taken)) (sym ((bytes_eq-Decides x y).0 e))
     test more false e h' = more h'
 
--- behind the names no slot is empty
+-- no slot after the slots of the names is empty
 row_past : (n depth : ℕ) (names : List Name) (taken : Taken) (a : ℕ) → length names ≤ a → a < n → slice_get (row n depth names taken) a ≡ Some false
 row_past zero depth names taken a le below = absurd (omega (arith, below))
 row_past (suc n) depth [] taken zero le below = refl
@@ -58,25 +58,25 @@ row_past (suc n) depth [] taken (suc a) le below = row_past n depth [] taken a (
 row_past (suc n) depth (x ∷ names) taken zero le below = absurd (omega (arith, le))
 row_past (suc n) depth (x ∷ names) taken (suc a) le below = row_past n depth names taken a (omega (arith, le)) (omega (arith, below))
 
--- a name that is free is full
+-- the slot of a free name is full
 pub row_free : (size depth : ℕ) (names : List Name) (taken : Taken) (x : Name) → length names ≤ size → IsUsable names taken x
     → is_full_in (slice_get (row size depth names taken) (slot_of x names)) ≡ true
 row_free size depth names taken x le u =
     ap is_full_in (row_at size depth names taken x le u.declared)
     ∙ ap (λ b. is_full_in (Some b)) (not_held false depth x taken u.free)
 
--- so is a slot behind the names
+-- a slot after the slots of the names is full
 pub row_behind : (size depth : ℕ) (names : List Name) (taken : Taken) (a : ℕ) → length names ≤ a → a < size → is_full_in (slice_get (row size depth names taken) a) ≡ true
 row_behind size depth names taken a le below = ap is_full_in (row_past size depth names taken a le below)
 
--- any row covers one where nothing is empty
+-- every row covers a row without empty slots
 pub covers_none : (r : Row) (n : ℕ) → length r ≡ n → Covers r (none_empty n)
 covers_none [] zero e = tt
 covers_none [] (suc n) e = absurd (omega (arith, e))
 covers_none (b ∷ r) zero e = absurd (omega (arith, e))
 covers_none (b ∷ r) (suc n) e = (λ h. refl, covers_none r n (omega (arith, e)))
 
--- where more is held, and fewer names are there, of which none of the others is held
+-- a row covers the row with more names, if more is held and none of the other names is held
 pub covers_held : (n depth : ℕ) (names more : List Name) (taken taken' : Taken)
     → ((x : Name) → is_among x names ≡ true → holds false depth x taken ≡ true → holds false depth x taken' ≡ true)
     → ((x : Name) → is_among x more ≡ true → holds false depth x taken ≡ false) →
@@ -93,30 +93,30 @@ covers_held (suc n) depth (y ∷ names) more taken taken' h k = (λ e. back (hol
     back true e e' = absurd (true≢false (sym (h y (ap (λ c. if c then true else is_among y names) ((bytes_eq-Decides y y).1 refl)) e) ∙ e'))
     back false e e' = refl
 
--- a new name
+-- the row with a new name covers the row without it
 pub covers_declared : (n depth : ℕ) (names : List Name) (x : Name) (taken : Taken) → Covers (row n depth (names ++ x ∷ []) taken) (row n depth names taken)
 covers_declared zero depth names x taken = tt
 covers_declared (suc n) depth [] x taken = (λ e. refl, covers_itself (row n depth [] taken))
 covers_declared (suc n) depth (y ∷ names) x taken = (λ e. e, covers_declared n depth names x taken)
 
--- where more is held
+-- a row covers the row in which less is held
 pub row_more : (n depth : ℕ) (names : List Name) (taken taken' : Taken)
     → ((x : Name) → holds false depth x taken ≡ true → holds false depth x taken' ≡ true) → Covers (row n depth names taken') (row n depth names taken)
 row_more n depth names taken taken' h = subst (λ ns. Covers (row n depth names taken') (row n depth ns taken)) (append-nil names) (covers_held n depth names [] taken taken' (λ x a. h x) (λ x a. cc))
 
--- a slot that is empty in the first
+-- a row covers another one with a slot set that is empty in the first
 covers_raise : (s r : Row) (i : ℕ) → slice_get s i ≡ Some true → Covers s r → Covers s (slice_set r i true)
 covers_raise [] r i e h = cc
 covers_raise (a ∷ s) [] i e h = absurd h
 covers_raise (a ∷ s) (b ∷ r) zero e h = let is : a ≡ true = cc e in ((λ e'. absurd (true≢false (sym is ∙ e'))), h.1)
 covers_raise (a ∷ s) (b ∷ r) (suc i) e h = (h.0, covers_raise s r i e h.1)
 
--- a name that is held may be empty
+-- the slot of a held name may be empty
 pub covers_name : (n depth : ℕ) (names : List Name) (x : Name) (r : Row) (taken : Taken) → length names ≤ n → Covers (row n depth names taken) r
     → holds false depth x taken ≡ true → is_among x names ≡ true → Covers (row n depth names taken) (slice_set r (slot_of x names) true)
 covers_name n depth names x r taken le h held declared = covers_raise (row n depth names taken) r (slot_of x names) (row_at n depth names taken x le declared ∙ ap (λ b. Some b) held) h
 
--- a name that is not held is full
+-- the slot of a name that is not held is full
 pub row_of : (n depth : ℕ) (names : List Name) (taken : Taken) (x : Name) → slot_of x names < n → is_among x names ≡ true
     → holds false depth x taken ≡ false → is_full_in (slice_get (row n depth names taken) (slot_of x names)) ≡ true
 row_of n depth [] taken x below h free = cc
@@ -130,7 +130,7 @@ row_of (suc n) depth (y ∷ names) taken x below h free = test (row_of n depth n
     test more true e below' h' = ap (λ z. is_full_in (Some (holds false depth z taken))) (sym ((bytes_eq-Decides x y).0 e)) ∙ ap (λ b. is_full_in (Some b)) free
     test more false e below' h' = more (omega (arith, below')) h' free
 
--- a slot that is full in the second
+-- a row covers another one with a slot cleared
 pub covers_lower : (r s : Row) (i : ℕ) → Covers r s → Covers r (slice_set s i false)
 covers_lower [] [] zero h = tt
 covers_lower [] [] (suc i) h = tt
@@ -139,7 +139,7 @@ covers_lower (a ∷ r) [] i h = absurd h
 covers_lower (a ∷ r) (b ∷ s) zero h = (λ e. refl, h.1)
 covers_lower (a ∷ r) (b ∷ s) (suc i) h = (h.0, covers_lower r s i h.1)
 
--- the row round a cut
+-- the row around a cut
 abbrev pub with_cut : Option Halves → Row → Row
 with_cut None r = r
 with_cut (Some h) r = slice_set r h.array true
@@ -148,23 +148,23 @@ pub covers_cut : (c : Option Halves) (r s : Row) → Covers r s → Covers (with
 covers_cut None r s h = h
 covers_cut (Some h') r s h = covers_set r s h'.array h
 
--- the sync blocks of a call that are open round the innermost one, each with the cut that began the one inside it
+-- the open sync blocks of a call around the innermost one, each with the cut that began its inner block
 abbrev pub Opened : Type 0
 Opened = List (Option Halves)
 
 abbrev pub depth_in : Opened → ℕ
 depth_in opened = suc (length opened)
 
--- the row of arrays, with the numbers that the code has: those of slots that are only read are left out
+-- the row of arrays with the numbers of the code, without the slots that are only read
 abbrev pub array_row : Room → (depth : ℕ) → List Name → Taken → Row
 array_row size depth names taken = owned size.marks (row size.arrays depth names taken)
 
--- a cut with those numbers
+-- a cut with the numbers of the code
 abbrev pub told_cut : Marks → Option Halves → Option Halves
 told_cut marks None = None
 told_cut marks (Some h) = Some (cut_numbers marks h)
 
--- what they find
+-- the rows of these sync blocks
 abbrev pub outers : Room → Opened → Locals → Taken → List Outer
 outers size [] locals taken = []
 outers size (c ∷ opened) locals taken =
@@ -175,7 +175,7 @@ outers size (c ∷ opened) locals taken =
       cut = told_cut size.marks c;
     } ∷ outers size opened locals taken
 
--- what a place finds in these sync blocks, where these names are known and taken
+-- the shape at a place in these sync blocks, if these names are known and held
 abbrev pub shape_at : Room → Opened → Locals → Taken → (operands : ℕ) → Shape
 shape_at size opened locals taken n = record {
   operands = n;
@@ -185,7 +185,7 @@ shape_at size opened locals taken n = record {
   outer = outers size opened locals taken;
 }
 
--- rows cover each other where slots are left out
+-- removing slots keeps the covering of rows
 pub covers_owned : (marks : Marks) (r s : Row) → Covers r s → Covers (owned marks r) (owned marks s)
 covers_owned [] r s h = h
 covers_owned (m ∷ marks) [] [] h = tt
@@ -198,7 +198,7 @@ pub array_covers : (size : Room) (depth other : ℕ) (names names' : List Name) 
     → Covers (row size.arrays depth names taken) (row size.arrays other names' taken') → Covers (array_row size depth names taken) (array_row size other names' taken')
 array_covers size depth other names names' taken taken' h = covers_owned size.marks (row size.arrays depth names taken) (row size.arrays other names' taken') h
 
--- as many slots are left
+-- removing slots keeps equal lengths
 pub same_length_owned : (marks : Marks) (r s : Row) → length r ≡ length s → length (owned marks r) ≡ length (owned marks s)
 same_length_owned [] r s h = h
 same_length_owned (m ∷ marks) [] [] h = refl
@@ -211,7 +211,7 @@ pub length_array_row : (size : Room) (depth other : ℕ) (names names' : List Na
 length_array_row size depth other names names' taken taken' =
     same_length_owned size.marks (row size.arrays depth names taken) (row size.arrays other names' taken') (length-row size.arrays depth names taken ∙ sym (length-row size.arrays other names' taken'))
 
--- a shape that takes another one
+-- a shape that covers another one
 abbrev pub Over : Shape → Shape → Type 0
 Over many few = Covers many.empty few.empty × Covers many.gone few.gone × Covers many.frozen few.frozen × CoversEach many.outer few.outer
 
@@ -226,7 +226,7 @@ over_after r s t h k = (
   each_covers_after r.outer s.outer t.outer h.3 k.3,
 )
 
--- what is held up to a depth stays so, and so does what is frozen
+-- names held up to a depth stay held, and frozen arrays stay frozen
 abbrev pub KeepsHeld : (taken taken' : Taken) → ℕ → Type 0
 KeepsHeld taken taken' depth = (d : ℕ) (x : Name) → d ≤ depth → holds false d x taken ≡ true → holds false d x taken' ≡ true
 
@@ -234,7 +234,7 @@ KeepsHeld taken taken' depth = (d : ℕ) (x : Name) → d ≤ depth → holds fa
 abbrev pub NoneHeld : List Name → Taken → ℕ → Type 0
 NoneHeld names taken depth = (d : ℕ) (x : Name) → d ≤ depth → is_among x names ≡ true → holds false d x taken ≡ false
 
--- where more is held, and fewer names are there, of which none of the others is held
+-- the outer rows cover the outer rows with more names, if more is held and none of the other names is held
 pub outers_held : (size : Room) (opened : Opened) (locals : Locals) (ints arrays : List Name) (taken taken' : Taken)
     → KeepsHeld taken taken' (length opened) → KeepsHeld (frozen_of taken) (frozen_of taken') (length opened) →
     NoneHeld ints taken (length opened) → NoneHeld arrays taken (length opened) → NoneHeld arrays (frozen_of taken) (length opened)
@@ -261,7 +261,7 @@ outers_more size opened locals taken taken' h f =
     (same_locals (locals.ints ++ []) locals.ints (locals.arrays ++ []) locals.arrays (append-nil locals.ints) (append-nil locals.arrays))
     (outers_held size opened locals [] [] taken taken' h f (λ d x le a. cc) (λ d x le a. cc) (λ d x le a. cc))
 
--- what is held stays so, and so does what is frozen
+-- held names stay held, and frozen arrays stay frozen
 abbrev pub Keeps : (taken taken' : Taken) → Type 0
 Keeps taken taken' = (d : ℕ) (x : Name) → holds false d x taken ≡ true → holds false d x taken' ≡ true
 
@@ -275,7 +275,7 @@ over_more size opened locals taken taken' n m h f =
       outers_more size opened locals taken taken' (λ d x le. h d x) (λ d x le. f d x),
     )
 
--- one more name of a kind
+-- the outer rows with a new name cover the outer rows without it
 pub outers_int : (size : Room) (opened : Opened) (locals : Locals) (x : Name) (taken : Taken) → CoversEach (outers size opened (with_int x locals) taken) (outers size opened locals taken)
 outers_int size [] locals x taken = tt
 outers_int size (c ∷ opened) locals x taken = (
@@ -286,7 +286,7 @@ outers_int size (c ∷ opened) locals x taken = (
   outers_int size opened locals x taken,
 )
 
--- one more array in a row
+-- a row of arrays with a new array covers the row without it
 pub array_declared : (size : Room) (depth : ℕ) (names : List Name) (x : Name) (taken : Taken) → Covers (array_row size depth (names ++ x ∷ []) taken) (array_row size depth names taken)
 array_declared size depth names x taken = array_covers size depth depth (names ++ x ∷ []) names taken taken (covers_declared size.arrays depth names x taken)
 
@@ -318,7 +318,7 @@ over_array size opened locals x taken n m = (
   outers_array size opened locals x taken,
 )
 
--- an array that is held may be empty, at its number
+-- the slot of a held array may be empty, at its number
 pub covers_array : (size : Room) (depth : ℕ) (names : List Name) (x : Name) (r : Row) (taken : Taken) → length names ≤ size.arrays
     → IsOwn size.marks (slot_of x names) → Covers (array_row size depth names taken) r → holds false depth x taken ≡ true → is_among x names ≡ true →
     Covers (array_row size depth names taken) (slice_set r (array_at size.marks (slot_of x names)) true)
@@ -327,11 +327,11 @@ covers_array size depth names x r taken le own h held declared =
     covers_raise (array_row size depth names taken) r (array_at size.marks s)
     (get_owned size.marks s (row size.arrays depth names taken) own ∙ row_at size.arrays depth names taken x le declared ∙ ap (λ b. Some b) held) h
 
--- the slots of a cut of an array, where these names are known
+-- the slots of a cut of an array, if these names are known
 abbrev pub halves_at : Locals → (array : Name) → Halves
 halves_at locals a = halves_of (slot_of a locals.arrays) (length locals.arrays) (suc (length locals.arrays))
 
--- a cut that is open: its array is a name that is taken, its parts are names that are known, and none of them is only read
+-- an open cut: its array is a held name, its parts are known names, and none of them is only read
 pub record CutAt (marks : Marks) (h : Halves) (locals : Locals) (taken : Taken) : Type 0 where
   pub name : Name
   pub declared : is_among name locals.arrays ≡ true
@@ -369,7 +369,7 @@ cuts_kept marks (Some c ∷ opened) locals locals' more taken taken' e keep h =
       cuts_kept marks opened locals locals' more taken taken' e keep h.1,
     )
 
--- a name that is free is full in all rows
+-- the slot of a free name is full in all rows
 pub slot_is_full : (size : Room) (opened : Opened) (locals : Locals) (taken : Taken) (x : Name) (n : ℕ) → length locals.ints ≤ size.ints
     → IsUsable locals.ints taken x → has_slot (shape_at size opened locals taken n) (slot_of x locals.ints) ≡ true
 slot_is_full size opened locals taken x n le u = both_true (is_full_in
@@ -382,7 +382,7 @@ slot_is_full size opened locals taken x n le u = both_true (is_full_in
         (full_in_all (empty_rows (outers size opened locals taken)) (slot_of x locals.ints))
         (row_free size.ints (depth_in opened) locals.ints taken x le u) (rest opened)
 
--- so is a slot behind the names
+-- a slot after the slots of the names is full in all rows
 pub next_is_full : (size : Room) (opened : Opened) (locals : Locals) (taken : Taken) (a n : ℕ) → length locals.ints ≤ a → a < size.ints → has_slot (shape_at size opened locals taken n) a ≡ true
 next_is_full size opened locals taken a n le below = both_true (is_full_in (slice_get (row size.ints (depth_in opened) locals.ints taken) a))
     (full_in_all (empty_rows (outers size opened locals taken)) a) (row_behind size.ints (depth_in opened) locals.ints taken a le below) (rest opened)
@@ -392,7 +392,7 @@ next_is_full size opened locals taken a n le below = both_true (is_full_in (slic
     rest (c ∷ opened) = both_true (is_full_in (slice_get (row size.ints (depth_in opened) locals.ints taken) a))
         (full_in_all (empty_rows (outers size opened locals taken)) a) (row_behind size.ints (depth_in opened) locals.ints taken a le below) (rest opened)
 
--- a slot that no open cut has
+-- no open cut has this slot
 abbrev pub NotCut : ℕ → Opened → Type 0
 NotCut i [] = Unit {0}
 NotCut i (None ∷ opened) = NotCut i opened
@@ -417,7 +417,7 @@ not_cut_behind marks [] locals taken i le h = tt
 not_cut_behind marks (None ∷ opened) locals taken i le h = not_cut_behind marks opened locals taken i le h
 not_cut_behind marks (Some c ∷ opened) locals taken i le h = ((λ e. omega (arith, le, e, slot_in h.0.name locals.arrays h.0.declared, h.0.slot)), not_cut_behind marks opened locals taken i le h.1)
 
--- no cut that is open is of an array that is only read
+-- no open cut is of an array that is only read
 abbrev pub OwnCuts : Marks → Opened → Type 0
 OwnCuts marks [] = Unit {0}
 OwnCuts marks (None ∷ opened) = OwnCuts marks opened
@@ -433,7 +433,7 @@ full_at : (size : Room) (depth : ℕ) (names : List Name) (taken : Taken) (s : �
     → is_full_in (slice_get (row size.arrays depth names taken) s) ≡ true → is_full_in (slice_get (array_row size depth names taken) (array_at size.marks s)) ≡ true
 full_at size depth names taken s own h = ap is_full_in (get_owned size.marks s (row size.arrays depth names taken) own) ∙ h
 
--- the rows of arrays round the innermost sync block
+-- a slot that is full in each row of arrays is full in the rows around the innermost sync block
 pub outside_full : (size : Room) (opened : Opened) (locals : Locals) (taken : Taken) (i : ℕ) → IsOwn size.marks i → OwnCuts size.marks opened
     → NotCut i opened → ((d : ℕ) → d ≤ length opened → is_full_in (slice_get (row size.arrays d locals.arrays taken) i) ≡ true) →
     full_in_all (gone_rows (outers size opened locals taken)) (array_at size.marks i) ≡ true
@@ -450,7 +450,7 @@ outside_full size (Some c ∷ opened) locals taken i own cuts apart h =
     ∙ full_at size (depth_in opened) locals.arrays taken i own (h (depth_in opened) (omega arith)))
     (outside_full size opened locals taken i own cuts.1 apart.1 (λ d le. h d (omega (arith, le))))
 
--- the rows of frozen arrays there
+-- a slot that is not frozen in each row is not frozen in the rows around the innermost sync block
 pub outside_thawed : (size : Room) (opened : Opened) (locals : Locals) (taken : Taken) (i : ℕ) → IsOwn size.marks i
     → ((d : ℕ) → d ≤ length opened → is_full_in (slice_get (row size.arrays d locals.arrays (frozen_of taken)) i) ≡ true) →
     full_in_all (frozen_rows (outers size opened locals taken)) (array_at size.marks i) ≡ true
@@ -504,7 +504,7 @@ next_array_is_thawed size opened locals taken i le below own =
     (full_at size (depth_in opened) locals.arrays (frozen_of taken) i own (row_behind size.arrays (depth_in opened) locals.arrays (frozen_of taken) i le below))
     (outside_thawed size opened locals taken i own (λ d le'. row_behind size.arrays d locals.arrays (frozen_of taken) i le below))
 
--- a slot behind the names is no part of a cut
+-- a slot after the slots of the names is not a part of a cut
 pub no_part : (size : Room) (opened : Opened) (locals now : Locals) (taken taken' : Taken) (i : ℕ) → length locals.arrays ≤ i → IsOwn size.marks i
     → CutsOpen size.marks opened locals taken → is_no_part (array_at size.marks i) (outers size opened now taken') ≡ true
 no_part size [] locals now taken taken' i le own h = refl

@@ -1,4 +1,4 @@
--- What a rule that no line breaks says, and lists whose items all have a property.
+-- The consequences of a rule that no line breaks, and lists whose elements all have a property.
 use Rattle.std.proofs.Common.{◌≡◌, suc, List, [], ◌∷◌, ◌++◌, Bool, true, false, if◌then◌else◌, Some, refl, sym, ap}
 use Rattle.std.specs.Prelude.{map, slice_get}
 use Rattle.std.proofs.lemmas.Slice.Eq.{bytes_eq-Decides}
@@ -6,10 +6,10 @@ use Rattle.cw_model.specs.Syntax.{Name, Function}
 use Rattle.cw_model.specs.Names.{same_name, is_among}
 use Rattle.cw_tree.specs.Resolved.{slot_of}
 use Rattle.cw_gen.proofs.Fine.{IsListed, is_function}
--- each item has a property
+-- each element has this property
 pub use Rattle.cw_facts.specs.Lists.{Each}
 
--- so have those of each part of a list
+-- each element of each part of a list has this property
 pub each_front : {A : Type 0} (P : A → Type 0) (xs ys : List A) → Each P (xs ++ ys) → Each P xs
 each_front P [] ys h = tt
 each_front P (x ∷ xs) ys h = (h.0, each_front P xs ys h.1)
@@ -18,7 +18,7 @@ pub each_rear : {A : Type 0} (P : A → Type 0) (xs ys : List A) → Each P (xs 
 each_rear P [] ys h = h
 each_rear P (x ∷ xs) ys h = each_rear P xs ys h.1
 
--- a name of a list is found at its place
+-- a name of a list is found at its index
 pub listed_there : (x : Name) (names : List Name) → is_among x names ≡ true → IsListed names x
 listed_there x [] h = cc
 listed_there x (y ∷ names) h = test (listed_there x names) (same_name x y) refl h
@@ -28,7 +28,7 @@ listed_there x (y ∷ names) h = test (listed_there x names) (same_name x y) ref
     test more true e h' = ap (λ n. Some n) (sym ((bytes_eq-Decides x y).0 e))
     test more false e h' = more h'
 
--- a function of this name is there
+-- a name among the names of functions is the name of a function
 pub function_there : (name : Name) (fs : List Function) → is_among name (map (λ f. f.name) fs) ≡ true → is_function name fs ≡ true
 function_there name [] h = cc
 function_there name (f ∷ fs) h = test (function_there name fs) (same_name name f.name) h

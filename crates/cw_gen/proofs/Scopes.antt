@@ -10,16 +10,16 @@ use Rattle.cw_tree.specs.lemmas.Names.{later_among}
 use Rattle.cw_loops.specs.Slotted.{slotted_stmt, slotted_block}
 use Rattle.cw_gen.specs.Emit.{stmt_returns, returns}
 
--- the locals that are known after the statements of a block
+-- the known locals after the statements of a block
 abbrev pub locals_after_all : Locals → Block → Locals
 locals_after_all locals End = locals
 locals_after_all locals (Then line s b) = locals_after_all (locals_after locals s) b
 
--- locals with more integers and arrays behind them
+-- locals with more integers and arrays appended
 abbrev pub extended : Locals → (ints arrays : List Name) → Locals
 extended locals ints arrays = record { ints = locals.ints ++ ints; arrays = locals.arrays ++ arrays }
 
--- what a block adds are its own names
+-- the names that a block adds are its own names
 pub record More (locals : Locals) (b : Block) : Type 0 where
   pub ints : List Name
   pub arrays : List Name
@@ -73,7 +73,7 @@ names_extend (Then line s b) locals =
     let all = names_extend b locals in
     record { ints = all.ints; arrays = all.arrays; same = all.same; own = all.own; own_arrays = all.own_arrays }
 
--- looking names up changes no return
+-- looking names up does not change whether a statement returns
 mutual
   stmt_same : (lists : Lists) (locals : Locals) (s : Stmt) → stmt_returns (slotted_stmt lists locals s) ≡ surely_returns s
   stmt_same lists locals (IfElse e b c) =

@@ -1,4 +1,4 @@
--- A function of generated code, and what its places find.
+-- A function of generated code, and the shapes of its places.
 use Rattle.std.proofs.Common.{◌≡◌, ℕ, zero, suc, ◌+◌, ◌<◌, ◌≤◌, List, [], ◌∷◌, ◌++◌, length, Bool, true, false, nat_lt, Option, Some, None, refl, ap, ◌∙◌, subst, arith}
 use Rattle.std.specs.Prelude.{slice_get}
 use Rattle.cw_facts.specs.Tests.{below}
@@ -18,17 +18,17 @@ use Rattle.cw_gen.proofs.Texts.{tables_in, TurnsClose}
 use Rattle.cw_gen.proofs.Rows.{Over, over_itself, over_after}
 use Rattle.cw_gen.proofs.Shapes.{Opened, shape_at, Shapes}
 
--- these shapes stand in a list from a place on
+-- the list has these shapes from a place on
 abbrev pub StandsAt : Shapes → ℕ → Shapes → Type 0
 StandsAt tab place [] = Unit {0}
 StandsAt tab place (s ∷ ss) = (slice_get tab place ≡ Some s) × StandsAt tab (place + 1) ss
 
--- the front of what stands stands there
+-- the list has the first of two parts at the place
 pub stands_front : (tab : Shapes) (place : ℕ) (a b : Shapes) → StandsAt tab place (a ++ b) → StandsAt tab place a
 stands_front tab place [] b h = tt
 stands_front tab place (s ∷ a) b h = (h.0, stands_front tab (place + 1) a b h.1)
 
--- so does what follows it, further on
+-- the list has the second of two parts after the first
 pub stands_back : (tab : Shapes) (place n : ℕ) (a b : Shapes) → length a ≡ n → StandsAt tab place (a ++ b) → StandsAt tab (place + n) b
 stands_back tab place n [] b e h = let at : place ≡ place + n = omega (arith, e) in subst (λ k. StandsAt tab k b) at h
 stands_back tab place zero (s ∷ a) b e h = absurd (omega (arith, e))
@@ -44,7 +44,7 @@ flat (Some o) = o
 abbrev pub table_of : Shapes → Table
 table_of tab = λ place. flat (slice_get tab place)
 
--- a place takes the shape that stands there
+-- a place accepts its own shape
 pub exact : (tab : Shapes) (place : ℕ) (shape : Shape) → slice_get tab place ≡ Some (Some shape) → FlowsInto (table_of tab) place shape
 exact tab place shape e = record {
   there = shape;
@@ -56,19 +56,20 @@ exact tab place shape e = record {
   covers_outer = (over_itself shape).3;
 }
 
--- a place that takes a shape takes one of which less is empty
+-- a place that accepts a shape accepts a shape with fewer empty slots
 pub takes_less : (table : Table) (place : ℕ) (few many : Shape) → FlowsInto table place many → many.operands ≡ few.operands → Over many few → FlowsInto table place few
 takes_less table place few many h e over =
     let all = over_after h.there many few (h.covers, h.covers_gone, h.covers_frozen, h.covers_outer) over in
     record { there = h.there; found = h.found; as_many = h.as_many ∙ e; covers = all.0; covers_gone = all.1; covers_frozen = all.2; covers_outer = all.3 }
 
--- where a return may stand: outside every block of the call, and as the function gives
+-- the position of an allowed return: outside of all blocks of the call, with or without a value as the function
+-- requires
 abbrev pub Returning : Returns → Opened → Bool → Type 0
 Returning Nowhere opened gives = Unit {0}
 Returning WithInt opened gives = (opened ≡ []) × (gives ≡ true)
 Returning Alone opened gives = (opened ≡ []) × (gives ≡ false)
 
--- a function of code and of its entry, with what its places are said to find
+-- a function in code with its entry, and the shapes of its places
 pub record Setting : Type 0 where
   pub code : Code
   pub fs : List Function
@@ -87,7 +88,7 @@ pub record Setting : Type 0 where
   pub within : (place : ℕ) (shape : Shape) → table_of tab place ≡ Some shape → (f.start ≤ place) × (place < f.end)
 
 module _ (setting : Setting) where
-  -- what its calls rely on
+  -- the tables that its calls refer to
   abbrev pub tables : Tables
   tables = tables_in setting.code
 
@@ -104,7 +105,7 @@ module _ (setting : Setting) where
   abbrev pub HasRoom : Locals → Type 0
   HasRoom locals = (length locals.ints ≤ size.ints) × (length locals.arrays ≤ size.arrays)
 
-  -- an instruction of a place that finds a shape, or that is not reached
+  -- an instruction fits at a place with a shape, or at a place that is not reached
   abbrev pub FitsAt : ℕ → Option Shape → Instr → Type 0
   FitsAt place None i = names_well setting.code setting.f place i ≡ true
   FitsAt place (Some shape) i = (names_well setting.code setting.f place i ≡ true) × (is_ready setting.code shape i ≡ true)
@@ -115,7 +116,7 @@ module _ (setting : Setting) where
   AllFit place (s ∷ ss) (i ∷ is) = FitsAt place s i × AllFit (place + 1) ss is
   AllFit place _ _ = ⊥
 
-  -- instructions that fit, one after another
+  -- instructions that fit, in sequence
   pub both_fit : (place : ℕ) (a b : Shapes) (x y : List Instr) → AllFit place a x → AllFit (place + length x) b y → AllFit place (a ++ b) (x ++ y)
   both_fit place [] b [] y h k = let e : place + 0 ≡ place = omega arith in subst (λ n. AllFit n b y) e k
   both_fit place [] b (i ∷ x) y h k = absurd h
@@ -124,7 +125,7 @@ module _ (setting : Setting) where
       let e : place + length (i ∷ x) ≡ place + 1 + length x = omega arith in
       (h.0, both_fit (place + 1) a b x y h.1 (subst (λ n. AllFit n b y) e k))
 
-  -- a place that takes a shape lies in the function
+  -- a place that accepts a shape is in the function
   pub lies : (place : ℕ) (shape : Shape) → FlowsInto table place shape → nat_lt place setting.f.end ≡ true
   lies place shape h = below place setting.f.end (setting.within place h.there h.found).1
 

@@ -1,4 +1,4 @@
--- What the places of generated code find.
+-- The shapes of the places of generated code.
 use Rattle.std.proofs.Common.{◌≡◌, ℕ, suc, ◌+◌, List, [], ◌∷◌, ◌++◌, length, Bool, true, false, if◌then◌else◌, Option, Some, None, refl, sym, ap, ◌∙◌, subst, arith, length-append}
 use Rattle.std.specs.Prelude.{map}
 use Rattle.cw_model.specs.Syntax.{wants_array, Name, Expr, Number, Variable, Element, Length, Negative, Not, Binary, Stmt, Declare, DeclareArray, Assign, AssignElement}
@@ -47,29 +47,29 @@ args_shapes made n [] es = []
 args_shapes made n (p ∷ ps) [] = []
 args_shapes made n (p ∷ ps) (e ∷ es) = arg_shapes (wants_array p) made n e ++ args_shapes made (after_arg (wants_array p) n) ps es
 
--- how many operands the arguments leave
+-- the number of operands after the arguments
 abbrev pub args_after : ℕ → List Param → List Expr → ℕ
 args_after n [] es = n
 args_after n (p ∷ ps) [] = n
 args_after n (p ∷ ps) (e ∷ es) = args_after (after_arg (wants_array p) n) ps es
 
--- a place behind a block that surely returns is not reached
+-- a place after a block that surely returns is not reached
 abbrev pub reached : Bool → Shape → Option Shape
 reached returns s = if returns then None else Some s
 
--- as a block ends
+-- the shape at the end of a block
 abbrev pub end_shape : List Function → (size : Room) (opened : Opened) → Locals → Taken → Block → Shape
 end_shape fs size opened locals taken b = shape_at size opened (locals_after_all locals b) (held_after_all fs (depth_in opened) b taken) 0
 
 abbrev pub valued_shapes : (ℕ → Shape) → Expr → Shapes
 valued_shapes made e = expr_shapes made 0 e ++ Some (made 1) ∷ []
 
--- the integers that a first call takes along
+-- the shapes of the loads of captured integers
 abbrev pub loads_shapes : (ℕ → Shape) → ℕ → List Name → Shapes
 loads_shapes made n [] = []
 loads_shapes made n (x ∷ xs) = Some (made n) ∷ loads_shapes made (n + 1) xs
 
--- how many operands they leave
+-- the number of operands after these loads
 abbrev pub loads_after : ℕ → List Name → ℕ
 loads_after n [] = n
 loads_after n (x ∷ xs) = loads_after (n + 1) xs
@@ -125,7 +125,7 @@ abbrev mutual
 last_one : {X Y : Type 0} (a : List X) (x : X) (b : List Y) (y : Y) → length a ≡ length b → length (a ++ x ∷ []) ≡ length (b ++ y ∷ [])
 last_one a x b y e = length-append a (x ∷ []) ∙ ap (λ k. k + 1) e ∙ sym (length-append b (y ∷ []))
 
--- there are as many as instructions
+-- the number of shapes is the number of instructions
 pub expr_as_many : (made : ℕ → Shape) (n : ℕ) (marks : Marks) (locals : Locals) (line : ℕ) (e : Expr) → length (expr_shapes made n e) ≡ length (expr_code marks locals line e)
 expr_as_many made n marks locals line (Number v) = refl
 expr_as_many made n marks locals line (Variable x) = refl
@@ -162,7 +162,7 @@ args_as_many made n marks locals taken line (p ∷ ps) (e ∷ es) fine =
     (arg_as_many made n marks locals taken line (p ∷ ps) (wants_array p) e (arg_kept p.kind marks locals taken e fine.0))
     (args_as_many made (after_arg (wants_array p) n) marks locals taken line ps es fine.1)
 
--- as many integers are taken along as are loaded
+-- the number of shapes of the loads is the number of their instructions
 pub loads_as_many : (made : ℕ → Shape) (n : ℕ) (locals : Locals) (xs : List Name) → length (loads_shapes made n xs) ≡ length (emitted_loads (map (λ x. slot_of x locals.ints) xs))
 loads_as_many made n locals [] = refl
 loads_as_many made n locals (x ∷ xs) = ap suc (loads_as_many made (n + 1) locals xs)

@@ -1,4 +1,4 @@
--- The code of statements with no block and no call in them.
+-- The code of statements without inner blocks and calls.
 use Rattle.std.proofs.Common.{◌≡◌, ℕ, ◌+◌, ◌≤◌, List, [], ◌∷◌, ◌++◌, length, Bool, true, false, if◌then◌else◌, Option, Some, sym, ap, ◌∙◌, arith, length-append, ℤ}
 use Rattle.std.specs.Prelude.{slice_get, slice_set}
 use Rattle.cw_facts.specs.Tests.{taken}
@@ -33,19 +33,19 @@ module _ (code : Code) (marks : Marks) (depth : ℕ) where
   abbrev at : List Around → ℕ → List ℤ → Store → Trace → State
   at around pc ops store t = here marks depth around pc ops store t
 
-  -- from a place on, with these names, the rest is what comes next
+  -- the continuation from a place on, with these names
   abbrev pub Onwards : List Around → Locals → Taken → ℕ → Outside → (size : Room) (left : ℕ) → (Completion → ℕ → Trace → RunOutcome) → Type 0
   Onwards around locals taken' pc outer size left next =
       (frame : Frame) (store : Store) (l : ℕ) (u : Trace) → Agrees locals taken' frame store outer → Fills marks store size → l ≤ left
       → steps code l (at around pc [] store u) ≡ next (Normal frame) l u
 
-  -- where the call returns, its caller goes on
+  -- the continuation of the caller after the call returns
   abbrev pub Backs : Returns → Room → List Around → (left : ℕ) → (Completion → ℕ → Trace → RunOutcome) → Type 0
   Backs returns size around left next =
       (v : Option ℤ) (frame : Frame) (arrays : Slots (List ℤ)) (l : ℕ) (u : Trace) → MayGive returns v → GivesBack marks size.given frame arrays
       → l ≤ left → go_on (back around v arrays u) l (λ s. steps code l s) ≡ next (ByReturn v frame) l u
 
-  -- an expression and a store
+  -- the code of an expression and a store executes both
   pub store_runs : (around : List Around) (locals locals' : Locals) (taken' : Taken) (e : Expr) (line pc a : ℕ) (size : Room) (store : Store)
       (outer : Outside) (frame : Frame) (made : ℤ → Frame) (t : Trace) (left : ℕ) (next : Completion → ℕ → Trace → RunOutcome) →
       HasAt code.instrs pc (expr_code marks locals line e ++ instr.Store a ∷ []) → ExprFine locals taken' e → Agrees locals taken' frame store outer → Fills marks store size →
@@ -66,7 +66,7 @@ module _ (code : Code) (marks : Marks) (depth : ℕ) where
       ∙ on (made v) (with_slot a (Some v) store) l' (ticked u) (made_agrees v) (fills_slot marks a (Some v) store size n) (omega arith)))
       ∙ sym (resume_then t (pay_for (evaluate e frame) line left) (λ v left'. then_do (pay 1 left') (λ _. going (made v))) next)
 
-  -- an expression and what is told of its value
+  -- the code of an expression and an instruction that records its value executes both
   pub tells_runs : (around : List Around) (locals : Locals) (taken' : Taken) (e : Expr) (line pc : ℕ) (size : Room) (i : Instr) (store : Store)
       (outer : Outside) (frame : Frame) (told : ℤ → Trace) (t : Trace) (left : ℕ) (next : Completion → ℕ → Trace → RunOutcome) →
       HasAt code.instrs pc (expr_code marks locals line e ++ i ∷ []) → ExprFine locals taken' e → Agrees locals taken' frame store outer → Fills marks store size →
@@ -91,14 +91,14 @@ module _ (code : Code) (marks : Marks) (depth : ℕ) where
       ∙ sym (resume_then u (pay 1 l) (λ _ l'. then_do (show (told v) l') (λ _. going frame)) next))
       ∙ sym (resume_then t (pay_for (evaluate e frame) line left) (λ v left'. then_do (pay 1 left') (λ _ l. then_do (show (told v) l) (λ _. going frame))) next)
 
-  -- an array in its slot
+  -- an array that is written to its slot
   written : (around : List Around) (pc a : ℕ) (xs : List ℤ) (store : Store) (t : Trace) → IsOwn marks a →
       On (record (at around pc [] store t) { arrays = slice_set (owned marks store.arrays) (array_at marks a) (Some xs) }) ≡ On (at around pc [] (with_array_slot a (Some xs) store) t)
   written around pc a xs store t own =
       ap (λ l. On (record (at around pc [] store t) { arrays = l })) (sym (set_owned marks a (Some xs) store.arrays own))
       ∙ ap (λ l. On (record (at around pc [] store t) { arrays = owned marks (slice_set store.arrays a (Some xs)); readers = l })) (sym (set_read marks a (Some xs) store.arrays own))
 
-  -- an expression, and an array made with its value
+  -- the code of an expression and an instruction that sets an array from its value executes both
   pub value_runs : (around : List Around) (locals locals' : Locals) (taken' : Taken) (e : Expr) (line pc a : ℕ) (ops : List ℤ) (size : Room)
       (i : Instr) (store : Store) (outer : Outside) (frame : Frame) (make : ℤ → List ℤ) (op : ℤ → Result) (made : ℤ → Frame) (t : Trace) (left : ℕ)
       (next : Completion → ℕ → Trace → RunOutcome) →
@@ -127,14 +127,14 @@ module _ (code : Code) (marks : Marks) (depth : ℕ) where
       ∙ sym (ap (λ o. resume t o next') (value_and_then (evaluate e frame) op line left))
       ∙ sym (resume_then t (pay_for (and_then (evaluate e frame) op) line left) (λ v. going (made v)) next)
 
-  -- one code of two ways on
+  -- two branches with the same continuation
   pub either : (around : List Around) (z : Bool) (far near : ℕ) (store : Store) (zero_way other_way : ℕ → Outcome Completion) (l : ℕ) (u : Trace) (next : Completion → ℕ → Trace → RunOutcome) →
       steps code l (at around far [] store u) ≡ resume u (zero_way l) next → steps code l (at around near [] store u) ≡ resume u (other_way l) next →
       steps code l (at around (if z then far else near) [] store u) ≡ resume u ((if z then zero_way else other_way) l) next
   either around true far near store zero_way other_way l u next h k = h
   either around false far near store zero_way other_way l u next h k = k
 
-  -- an expression and a test
+  -- the code of an expression and a test executes both
   pub test_runs : (around : List Around) (locals : Locals) (taken' : Taken) (e : Expr) (line pc n : ℕ) (store : Store) (outer : Outside)
       (frame : Frame) (go : ℤ → ℕ → Outcome Completion) (t : Trace) (left : ℕ) (next : Completion → ℕ → Trace → RunOutcome) →
       HasAt code.instrs pc (expr_code marks locals line e ++ instr.SkipIfZero n ∷ []) → ExprFine locals taken' e → Agrees locals taken' frame store outer →

@@ -1,5 +1,5 @@
--- What the function of a loop is given: the ends of a range with the integers that it takes along, and slices of arrays,
--- which stand in their arrays again when it has ended.
+-- The arguments of a loop's function: the ends of a range with the captured integers, and slices of arrays, which are
+-- part of their arrays again after the function has ended.
 use Rattle.std.proofs.Common.{◌≡◌, ℕ, suc, List, [], ◌∷◌, ◌++◌, length, Bool, true, false, not, if◌then◌else◌, cond, filter, Some, refl, sym, ap, ◌∙◌, arith, ℤ, ◌+ℤ◌, true≢false}
 use Rattle.std.specs.Prelude.{map, take, drop}
 use Rattle.std.specs.List.{list_all}
@@ -28,7 +28,7 @@ use Rattle.cw_gen.proofs.Codes.{Bound, bound_none, bound_int, bound_array}
 use Rattle.cw_gen.proofs.Passing.{slots_for, not_same, backs, put_backs, with_arrays}
 use Rattle.cw_gen.proofs.Calling.{Hands}
 
--- arrays alone are in order, and none of them is an integer
+-- parameters that are all arrays are in order, and none of them is an integer
 arrays_alone : (ps : List Param) → list_all (λ (q : Param). (wants_array q)) ps ≡ true → (ints_first ps ≡ true) × (length (locals_of ps).ints ≡ 0)
 arrays_alone [] h = (refl, refl)
 arrays_alone (p ∷ ps) h =
@@ -41,20 +41,20 @@ arrays_alone (p ∷ ps) h =
     test true e rest none = (rest, none)
     test false e rest none = cc
 
--- how many integers, and how many arrays, there are with one parameter more
+-- the numbers of integers and of arrays with one more parameter
 abbrev more_ints : List Param → Param → Bool → ℕ
 more_ints ps p b = length (map (λ (q : Param). q.name) (cond (not b) (p ∷ filter (λ q. not (wants_array q)) ps) (filter (λ q. not (wants_array q)) ps)))
 
 abbrev more_arrays : List Param → Param → Bool → ℕ
 more_arrays ps p b = length (map (λ (q : Param). q.name) (cond b (p ∷ filter (λ q. (wants_array q)) ps) (filter (λ q. (wants_array q)) ps)))
 
--- these parameters are bound by a loop's function
+-- a loop's function binds these parameters
 abbrev LoopBound : List Param → Type 0
 LoopBound ps =
     (vs : List ℤ) (xss : List (List ℤ)) (g : Frame) → ints_first ps ≡ true → length vs ≡ length (locals_of ps).ints
     → length xss ≡ length (locals_of ps).arrays → Bound ps vs xss g (loop_frame ps vs xss g)
 
--- the frame of a loop's function
+-- the frame of a loop's function binds its parameters
 pub bound_loop : (ps : List Param) (vs : List ℤ) (xss : List (List ℤ)) (g : Frame) → ints_first ps ≡ true → length vs ≡ length (locals_of ps).ints
     → length xss ≡ length (locals_of ps).arrays → Bound ps vs xss g (loop_frame ps vs xss g)
 bound_loop [] [] [] g order n m = bound_none g
@@ -84,17 +84,17 @@ bound_loop (p ∷ ps) vs xss g order n m = test (λ vs' xss' g' order' n' m'. bo
 abbrev pub sliced_back : Frame → (from : ℕ) → Frame → List Name → List (List ℤ)
 sliced_back frame from g over = map (λ a. with_slice (array_of frame a) from (array_of g a)) over
 
--- the slots of slices
+-- the slots of slices are the slots of their arrays
 pub part_slots : (from : ℕ) (frame : Frame) (slot : Name → ℕ) (over : List Name) → map slot_taken (parts_of from (map slot over) (map (λ a. array_of frame a) over)) ≡ map slot over
 part_slots from frame slot [] = refl
 part_slots from frame slot (a ∷ over) = ap (λ l. slot a ∷ l) (part_slots from frame slot over)
 
--- slices of arrays
+-- the slices of arrays
 pub slices_are : (from n : ℕ) (frame : Frame) (over : List Name) → map (λ xs. take n (drop from xs)) (map (λ a. array_of frame a) over) ≡ map (λ a. take n (drop from (array_of frame a))) over
 slices_are from n frame [] = refl
 slices_are from n frame (a ∷ over) = ap (λ l. take n (drop from (array_of frame a)) ∷ l) (slices_are from n frame over)
 
--- what the slots of a loop's function that ends hold stands in its arrays again
+-- the slices that a loop's function returns are part of their arrays again
 pub slices_found : (names over more : List Name) (from : ℕ) (frame g : Frame) (entries : Entries (List ℤ)) (rest : List (List ℤ))
     → holding.names_in entries ≡ over ++ more → differ over ≡ true → ((q : Name) → is_among q over ≡ true → array_of g q ≡ find [] q entries) →
     given_back (parts_of from (slots_for names over) (map (λ a. array_of frame a) over)) (full (values_in entries ++ rest)) ≡ Some (backs names over (sliced_back frame from g over))
@@ -112,7 +112,7 @@ slices_found names (q ∷ qs) more from frame g (e ∷ entries) rest named apart
     (λ z h. same z (later_among z q qs h) ∙ ap (λ b. if b then e.1 else find [] z entries) (ap (same_name z) head ∙ other_than z q qs other h)))
     ∙ ap (λ v. Some ((slot_of q names, with_slice whole from v) ∷ backs names qs (sliced_back frame from g qs))) (sym here)
 
--- what is put under another name leaves a name
+-- storing a value at another name keeps the value of a name
 find_other : {A : Type 0} (none : A) (b a : Name) (v : A) (es : Entries A) → same_name a b ≡ false → find none b (put a v es) ≡ find none b es
 find_other none b a v [] apart = refl
 find_other none b a v (e ∷ es) apart = test (find_other none b a v es apart) (same_name a e.0) refl (same_name b e.0) refl
@@ -124,7 +124,7 @@ find_other none b a v (e ∷ es) apart = test (find_other none b a v es apart) (
     test more false at true is = ap (λ q. if q then e.1 else find none b (put a v es)) is
     test more false at false is = ap (λ q. if q then e.1 else find none b (put a v es)) is ∙ more
 
--- another array leaves what slices become
+-- changing another array keeps the slices
 sliced_other : (frame g : Frame) (from : ℕ) (a : Name) (v : List ℤ) (over : List Name) → is_among a over ≡ false → sliced_back (set_array a v frame) from g over ≡ sliced_back frame from g over
 sliced_other frame g from a v [] apart = refl
 sliced_other frame g from a v (b ∷ over) apart =
@@ -132,7 +132,7 @@ sliced_other frame g from a v (b ∷ over) apart =
     ap (λ xs. with_slice xs from (array_of g b) ∷ sliced_back (set_array a v frame) from g over) (find_other [] b a v frame.arrays other.0)
     ∙ ap (λ l. with_slice (array_of frame b) from (array_of g b) ∷ l) (sliced_other frame g from a v over other.1)
 
--- slices go back one after another
+-- slices are written back in sequence
 pub slices_put : (over : List Name) (from : ℕ) (g frame : Frame) → differ over ≡ true → slices_back over from g frame ≡ with_arrays frame (put_backs over (sliced_back frame from g over) frame.arrays)
 slices_put [] from g frame apart = refl
 slices_put (a ∷ over) from g frame apart =
@@ -141,7 +141,7 @@ slices_put (a ∷ over) from g frame apart =
     slices_put over from g (set_array a v frame) (second_true (not (is_among a over)) (differ over) apart)
     ∙ ap (λ vs. with_arrays frame (put_backs over vs (put a v frame.arrays))) (sliced_other frame g from a v over other)
 
--- what a loop hands to its function: so many turns from a number on
+-- the values that a loop passes to its function: this number of iterations from `low` on
 unfoldable pub hands_of_loop : (code : Code) (fs : List Function) (lists : Lists) (marks : Marks) (locals : Locals) (taken' : Taken) (frame : Frame)
     (f : Function) (fn : Func) (captured over : List Name) (low turns : ℤ) →
     Compiled code fs lists f fn → TakesRange f captured over → AllWritable marks locals.arrays taken' over → differ over ≡ true → Hands marks locals taken' frame f fn

@@ -1,4 +1,4 @@
--- What the generator answers, from the code that was emitted and what is proved of it.
+-- The contract of the generator, derived from the generated code and the theorems about it.
 use Rattle.std.proofs.Common.{◌≡◌, ◌≤◌, ◌<◌, Bool, true, false, length, [], ◌∷◌, ◌++◌, List, Some, refl, sym, ap, ◌∙◌, subst, arith}
 use Rattle.std.specs.Prelude.{nat_le, map}
 use Rattle.std.proofs.lemmas.List.{length-map}
@@ -45,15 +45,15 @@ use Rattle.cw_gen.proofs.SourceSites.{same_sites, as_many_sites}
 use Rattle.cw_gen.proofs.Tags.{tags_are_told, tags_are_apart, head_is}
 use Rattle.cw_gen.proofs.Texts.{code_of, tables_in}
 
--- what the code of a lowered program relies on
+-- the conditions on the code of a lowered program
 abbrev pub Relied : Program → Type 0
 Relied program = ProgramFine (lowered program) (lowered_lists program) (tables_in (code_of program))
 
--- the code of a program is no longer than its jumps can tell
+-- all jumps of the code of a program fit in instructions
 abbrev pub IsShort : Program → Type 0
 IsShort program = length (code_of program).instrs ≤ most_jump
 
--- two limits, each of which counts at line 1
+-- if both limits are kept, no line is reported
 none_passed : (a b : Bool) → a ≡ true → b ≡ true → unless a 1 ++ unless b 1 ≡ []
 none_passed true true h k = refl
 none_passed true false h k = cc
@@ -69,7 +69,7 @@ second_passed a true h = cc
 second_passed true false h = least_line (1 ∷ []) 1 refl
 second_passed false false h = least_line (1 ∷ 1 ∷ []) 1 refl
 
--- a tree whose names are looked up right has as many sites as call statements
+-- a correctly resolved tree has a call site for each call statement of its program
 pub as_many_as_told : (tree : source.Tree) → is_resolved (resolved_of tree) ≡ true → (sites : List Site)
     → map site_view sites ≡ emitted_sites_of (resolved_of tree).functions → length sites ≡ call_count (program_of tree)
 as_many_as_told tree slots sites is =
@@ -84,14 +84,14 @@ module _ (least : WhilesAreLeast) (lowerable : OwnedIsLowerable) (answers : Lowe
   abbrev program : Program
   program = program_of tree
 
-  -- each name of the tree is looked up right
+  -- each name of the tree is looked up correctly
   same_tree : resolved_of tree ≡ resolved program
   same_tree = slots_are_right (resolved_of tree) slots
 
   owned_source : IsOwnedSource program
   owned_source = record { typed = typed; owned = owned; source_like = source_like }
 
-  -- there are as many sites as call statements
+  -- the number of sites is the number of call statements
   site_count : (sites : List Site) → map site_view sites ≡ emitted_sites_of (resolved_of tree).functions → length sites ≡ call_count program
   site_count = as_many_as_told tree slots
 
@@ -110,26 +110,26 @@ module _ (least : WhilesAreLeast) (lowerable : OwnedIsLowerable) (answers : Lowe
     keeps : IsWithinLimits program
     keeps = record { limits = limits; loops = few }
 
-    -- what the code relies on
+    -- the conditions on the code
     fine : Relied program
     fine =
         program_fine program owned_source numbered (functions_known program owned_source (lowerable program owned_source)) (functions_free program least owned_source (lowerable program owned_source))
         (all_pass program owned_source numbered few_calls (few_functions program keeps) (as_many_sites program))
 
-    -- the code is that of the program, each name looked up
+    -- the code is the code of the program with each name looked up
     code_is : code_view made ≡ code_of program
     code_is = is ∙ ap (emitted (resolved_of tree)) (lowers source_like) ∙ ap (λ t. emitted t (slotted_functions program)) same_tree
 
-    -- it is as long as the static size of the source
+    -- the number of instructions is the static size of the source
     size : length made.instrs.items ≡ static_size program
     size = ap (λ (c : Code). length c.instrs) code_is ∙ code_count program fine ∙ sizes program owned_source
 
-    -- it has more instructions than the limit
+    -- the number of instructions exceeds the limit
     pub too_long : MOST_INSTRUCTIONS < length made.instrs.items → IsLeastLine (program_faults program) 1
     too_long h = first_passed (nat_le (static_size program) MOST_INSTRUCTIONS) (nat_le (call_count program) MOST_CALL_STATEMENTS)
         (not_at_most (static_size program) MOST_INSTRUCTIONS (omega (arith, size, h)))
 
-    -- the code is what the generator promises
+    -- the code satisfies the contract of the generator
     pub generated : length made.instrs.items ≤ MOST_INSTRUCTIONS → Generates program (code_view made)
     generated h =
         let closes = turns_close program least in

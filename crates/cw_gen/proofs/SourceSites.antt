@@ -1,4 +1,4 @@
--- The call sites of code are the call statements of its source, and each stands at its number.
+-- The call sites of code are the call statements of its source, and each is at its number.
 use Rattle.std.proofs.Common.{◌≡◌, ℕ, suc, ◌+◌, ◌-◌, ◌<◌, List, [], ◌∷◌, ◌++◌, length, true, Some, refl, sym, ap, ◌∙◌, subst, arith, append_assoc, length-append}
 use Rattle.std.specs.Prelude.{slice_get, map, flat_map, nat_eq}
 use Rattle.std.proofs.Math.Seq.{get_or-append_seam}
@@ -16,7 +16,7 @@ use Rattle.cw_gen.proofs.Texts.{code_of}
 
 module _ (lists : Lists) where
   mutual
-    -- the call sites of a statement are its call statements, those in its loops too
+    -- the call sites of a statement are its call statements, including the call statements in its loops
     told_stmt : (locals : Locals) (line : ℕ) (s : Stmt) → map (λ q. q.told) (emitted_sites line (resolved_stmt lists locals s)) ≡ sites_in line s
     told_stmt locals line (Declare x e) = refl
     told_stmt locals line (DeclareArray x e) = refl
@@ -47,7 +47,7 @@ module _ (lists : Lists) where
         ∙ ap (λ l. l ++ map (λ q. q.told) (emitted_sites_in (resolved_block lists (locals_after locals s) b))) (told_stmt locals line s)
         ∙ ap (λ l. sites_in line s ++ l) (told_block (locals_after locals s) b)
 
-  -- those of functions
+  -- the call sites of functions
   told_of : (gs : List Function) → map (λ q. q.told) (emitted_sites_of (map (resolved_function lists) gs)) ≡ flat_map (λ f. sites_in_block f.body) gs
   told_of [] = refl
   told_of (g ∷ gs) =
@@ -57,21 +57,21 @@ module _ (lists : Lists) where
       ∙ ap (λ l. l ++ map (λ q. q.told) there) (told_block (locals_of g.params) g.body)
       ∙ ap (λ l. sites_in_block g.body ++ l) (told_of gs)
 
--- the sites of the code are those of the program
+-- the sites of the code are the sites of the program
 pub same_sites : (program : Program) → told_sites (code_of program) ≡ call_sites program
 same_sites program = told_of (lists_of program) program.functions
 
--- there are as many of them
+-- the number of sites is the number of call statements
 pub as_many_sites : (program : Program) → length (emitted_sites_of (resolved program).functions) ≡ length (call_sites program)
 as_many_sites program =
     sym (length-map (emitted_sites_of (resolved program).functions) (λ q. q.told)) ∙ ap length (same_sites program)
 
--- a site stands at its number
+-- a site is at its number
 pub record StandsAtItsNumber (sites : List CodeSite) (s : CodeSite) : Type 0 where
   pub positive : 0 < s.told.number
   pub there : slice_get sites (s.told.number - 1) ≡ Some s
 
--- numbered sites stand at their numbers
+-- numbered sites are at their numbers
 pub numbered_stand : (before now : List CodeSite) → are_numbered (length before) (map (λ s. s.told) now) ≡ true → Each (StandsAtItsNumber (before ++ now)) now
 numbered_stand before [] h = tt
 numbered_stand before (s ∷ now) h =
@@ -87,6 +87,6 @@ numbered_stand before (s ∷ now) h =
     let rest = subst (λ l. Each (StandsAtItsNumber l) now) (append_assoc before (s ∷ []) now) (numbered_stand (before ++ s ∷ []) now more) in
     (record { positive = omega (arith, number); there = subst (λ m. slice_get (before ++ s ∷ now) m ≡ Some s) place at }, rest)
 
--- the sites of a numbered program stand at their numbers
+-- the sites of a numbered program are at their numbers
 pub sites_stand : (program : Program) → are_numbered 0 (call_sites program) ≡ true → Each (StandsAtItsNumber (code_of program).sites) (emitted_sites_of (resolved program).functions)
 sites_stand program h = numbered_stand [] (emitted_sites_of (resolved program).functions) (ap (are_numbered 0) (same_sites program) ∙ h)

@@ -1,4 +1,4 @@
--- The code of each statement and of each block does what it does, where calls do.
+-- The code of each statement and of each block executes it, if calls execute their functions.
 use Rattle.std.proofs.Common.{◌≡◌, ℕ, suc, ◌+◌, ◌<◌, ◌≤◌, List, [], ◌∷◌, ◌++◌, length, false, if◌then◌else◌, nat_lt, Option, Some}
 use Rattle.std.proofs.Common.{None, refl, sym, ap, ◌∙◌, subst, arith, append_assoc, length-append, ℤ, pos}
 use Rattle.std.specs.Prelude.{slice_get, slice_set, replicate, option_map}
@@ -56,53 +56,53 @@ module _ (code : Code) (fs : List Function) (lists : Lists) (small : length code
   abbrev at : List Around → ℕ → List ℤ → Store → Trace → State
   at around pc ops store t = here marks depth around pc ops store t
 
-  -- a return with no value is one that may be
+  -- a return without a value is allowed
   returns_none : (returns : Returns) (locals : Locals) (taken' : Taken) → ReturnFine returns locals taken' None → MayGive returns None
   returns_none Nowhere locals taken' fine = absurd fine
   returns_none WithInt locals taken' fine = absurd fine
   returns_none Alone locals taken' fine = refl
 
-  -- so is one with a value
+  -- a return with a value is allowed
   returns_some : (returns : Returns) (locals : Locals) (taken' : Taken) (e : Expr) (v : ℤ) → ReturnFine returns locals taken' (Some e) → MayGive returns (Some v)
   returns_some Nowhere locals taken' e v fine = absurd fine
   returns_some WithInt locals taken' e v fine = refl
   returns_some Alone locals taken' e v fine = absurd fine
 
-  -- the expression of a return is fine where the return is
+  -- the expression of an allowed return satisfies the conditions
   returns_expr : (returns : Returns) (locals : Locals) (taken' : Taken) (e : Expr) → ReturnFine returns locals taken' (Some e) → ExprFine locals taken' e
   returns_expr Nowhere locals taken' e fine = absurd fine
   returns_expr WithInt locals taken' e fine = fine
   returns_expr Alone locals taken' e fine = absurd fine
 
-  -- a return stands in no block inside its call
+  -- a return is in no inner block of its call
   outermost : (returns : Returns) (locals : Locals) (taken' : Taken) (e : Option Expr) (outer : Outside) → ReturnFine returns locals taken' e → Outermost returns outer → outer ≡ []
   outermost Nowhere locals taken' e outer fine out = absurd fine
   outermost WithInt locals taken' e outer fine out = out
   outermost Alone locals taken' e outer fine out = out
 
-  -- a name that is listed is found
+  -- a listed name is found
   listed : (ks names : List Name) (x : Name) → ks ≡ names → IsListed names x → slice_get ks (slot_of x names) ≡ Some x
   listed ks names x e h = ap (λ l. slice_get l (slot_of x names)) e ∙ h
 
-  -- an instruction that tells of a value counts as any other
+  -- an instruction that records a value has the cost of any other instruction
   told_after : (u : Trace) (lines : List ℤ) (updates : List (Name × ℤ))
       → joined u (record { lines = lines; updates = updates; events = works 1 }) ≡ joined (ticked u) (record { lines = lines; updates = updates; events = [] })
   told_after u lines updates = sym (joined_joined u (shows (works 1)) (record { lines = lines; updates = updates; events = [] }))
 
-  -- what a call statement takes
+  -- the locals held after a call statement
   call_holds : (kind : CallKind) (site : ℕ) (target : Option Name) (name : Name) (es : List Expr) (level : ℕ) (taken' : Taken)
       → taken_on kind level target (ownership.given fs name es) (ownership.lent fs name es) taken' ≡ held_after fs level (Call kind site target name es) taken'
   call_holds Plain site target name es level taken' = refl
   call_holds Spawned site target name es level taken' = refl
 
-  -- what a call on one half takes
+  -- the locals held after a call on one half
   start_holds : (kind : CallKind) (name : Name) (es : List Expr) (level : ℕ) (taken' : Taken)
       → taken_on kind level None (ownership.given fs name es) [] taken' ≡ held_after fs level (Start kind name es) taken'
   start_holds Plain name es level taken' = refl
   start_holds Spawned name es level taken' = refl
 
   mutual
-    -- a statement
+    -- the code of a statement executes the statement
     pub stmt_runs : (around : List Around) (returns : Returns) (level : ℕ) (locals : Locals) (taken' : Taken) (s : Stmt) (line pc : ℕ) (size : Room)
         (store : Store) (outer : Outside) (frame : Frame) (t : Trace) (left : ℕ) (next : Completion → ℕ → Trace → RunOutcome) →
         level ≡ suc (length outer) → Outermost returns outer → left ≤ bound
@@ -361,7 +361,7 @@ module _ (code : Code) (fs : List Function) (lists : Lists) (small : length code
         ∙ sym (resume_then t (pay_for (evaluate e frame) line left) (λ v l. after (shows (Join ∷ [])) (then_do (pay 1 l) (λ _. gives (ByReturn (Some v) frame)))) next)
     stmt_runs around returns level locals taken' _ line pc size store outer frame t left next at_level out within has fine a n on backs = absurd fine
 
-    -- the statements of a block
+    -- the code of a block executes its statements
     pub block_runs : (around : List Around) (returns : Returns) (level : ℕ) (locals : Locals) (taken' : Taken) (b : Block) (pc : ℕ) (size : Room)
         (store : Store) (outer : Outside) (frame : Frame) (t : Trace) (left : ℕ) (next : Completion → ℕ → Trace → RunOutcome) →
         level ≡ suc (length outer) → Outermost returns outer → left ≤ bound

@@ -1,4 +1,4 @@
--- What one instruction does to a run: it pays, joins, traps, or goes on.
+-- The effect of one instruction on a run: it pays, joins, traps, or continues.
 use Rattle.std.proofs.Common.{◌≡◌, ℕ, zero, suc, ◌+◌, ◌-◌, ◌<◌, List, [], ◌∷◌, if◌then◌else◌, nat_lt, Some, refl, sym, ap, ◌∙◌, arith, ℤ}
 use Rattle.std.specs.Prelude.{slice_get}
 use Rattle.cw_facts.specs.Tests.{not_below}
@@ -15,18 +15,18 @@ use Rattle.cw_code.specs.lemmas.Runs.{joined_quiet}
 use Rattle.cw_gen.proofs.Traces.{resume, resume_then, paid_one}
 
 module _ (code : Code) where
-  -- one instruction
+  -- one step executes the instruction at the current place
   pub one : (s : State) (i : Instr) → slice_get code.instrs s.place ≡ Some i → (l : ℕ) → steps code (suc l) s ≡ go_on (act code s (Some i)) l (λ s'. steps code l s')
   one s i h l = ap (λ o. go_on (act code s o) l (λ s'. steps code l s')) h
 
-  -- an instruction that pays
+  -- an instruction that pays needs one unit of fuel
   pub pays : {A : Type 0} (a : A) (s : State) (u : Trace) (left : ℕ) (next : A → ℕ → Trace → RunOutcome) →
       ((l : ℕ) → l < left → steps code (suc l) s ≡ next a l (ticked u)) →
       steps code left s ≡ resume u (if nat_lt left 1 then Over else Done a (left - 1) (shows (works 1))) next
   pays a s u zero next h = refl
   pays a s u (suc l) next h = h l (omega arith) ∙ sym (ap (λ o. resume u o next) (paid_one a l (shows (works 1))))
 
-  -- an instruction that pays and is the last
+  -- an instruction that pays and has no continuation needs one unit of fuel
   pub pays_last : {A : Type 0} (a : A) (s : State) (u : Trace) (left : ℕ) (next : A → ℕ → Trace → RunOutcome) →
       ((l : ℕ) → l < left → steps code (suc l) s ≡ next a l (ticked u)) →
       steps code left s ≡ resume u (then_do (pay 1 left) (λ _. gives a)) next
@@ -34,7 +34,7 @@ module _ (code : Code) where
       pays tt s u left (λ _ l u'. resume u' (gives a l) next) (λ l below. h l below ∙ ap (next a l) (sym (joined_quiet (ticked u))))
       ∙ sym (resume_then u (pay 1 left) (λ _. gives a) next)
 
-  -- a join with its instruction
+  -- a join and its instruction
   pub syncs : {A : Type 0} (a : A) (s : State) (u : Trace) (left : ℕ) (next : A → ℕ → Trace → RunOutcome) →
       ((l : ℕ) → l < left → steps code (suc l) s ≡ next a l (synced u)) →
       steps code left s ≡ resume u (after (shows (Join ∷ [])) (then_do (pay 1 left) (λ _. gives a))) next
@@ -42,7 +42,7 @@ module _ (code : Code) where
   syncs a s u (suc l) next h =
       h l (omega arith) ∙ sym (ap (λ o. resume u (after (shows (Join ∷ [])) (then_do o (λ _. gives a))) next) (paid_one tt l (shows (works 1))))
 
-  -- an operator's instruction
+  -- the instruction of an operator computes its result or traps
   pub operates : (s : State) (line : ℕ) (rest : List ℤ) (r : Result) (i : Instr) (left : ℕ) (next : ℤ → ℕ → Trace → RunOutcome) →
       slice_get code.instrs s.place ≡ Some i → act code s (Some i) ≡ operated s line rest r →
       ((v : ℤ) (l : ℕ) → l < left → steps code l (record s { place = s.place + 1; operands = v ∷ rest; trace = ticked s.trace }) ≡ next v l (ticked s.trace)) →
@@ -59,7 +59,7 @@ module _ (code : Code) where
       over_int : Outcome ℤ
       over_int = Over
 
-  -- an instruction that traps, or goes on with a value
+  -- an instruction computes a value or traps
   pub does : (s : State) (line : ℕ) (r : Result) (i : Instr) (left : ℕ) (next : ℤ → ℕ → Trace → RunOutcome) (go : ℤ → Transition) →
       slice_get code.instrs s.place ≡ Some i → ((v : ℤ) → r ≡ Value v → act code s (Some i) ≡ go v) → ((trap' : Trap) → r ≡ Fails trap' → act code s (Some i) ≡ Stops trap' line s.trace.lines) →
       ((v : ℤ) (l : ℕ) → l < left → go_on (go v) l (λ s'. steps code l s') ≡ next v l (ticked s.trace)) →

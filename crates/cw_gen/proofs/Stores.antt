@@ -1,4 +1,4 @@
--- The slots of a call, and what its frame holds.
+-- The slots of a call, and the values of its frame.
 use Rattle.std.proofs.Common.{◌≡◌, ℕ, suc, ◌<◌, ◌≤◌, List, [], ◌∷◌, ◌++◌, length, Bool, true, false, Option, Some, ap, ◌∙◌, subst, arith, ℤ, pos}
 use Rattle.std.specs.Prelude.{slice_get, slice_set, map}
 use Rattle.std.proofs.lemmas.List.{length-map, length-set}
@@ -16,14 +16,14 @@ use Rattle.cw_gen.proofs.Takens.{holds}
 use Rattle.cw_gen.proofs.Names.{names_in, AgreesOf, is_later}
 use Rattle.cw_gen.proofs.Names as names
 
--- the slots of a call, and what waits for the join of its innermost sync block
+-- the slots of a call, and the results that wait for the join of its innermost sync block
 pub record Store : Type 0 where
   pub slots : Slots ℤ
   pub arrays : Slots (List ℤ)
   pub results : Results ℤ
   pub arrived : Results (List ℤ)
 
--- what waits for the join of a sync block round the innermost one; an array that is cut in it waits too
+-- the results that wait for the join of an enclosing sync block; an array that is cut in it waits too
 pub record Waits : Type 0 where
   pub ints : Results ℤ
   pub arrays : Results (List ℤ)
@@ -37,36 +37,36 @@ int_waits outer = map (λ w. w.ints) outer
 abbrev pub array_waits : Outside → List (Results (List ℤ))
 array_waits outer = map (λ w. w.arrays) outer
 
--- what waits in the innermost sync block
+-- the results that wait in the innermost sync block
 abbrev pub waits_of : Store → Waits
 waits_of store = record { ints = store.results; arrays = store.arrived }
 
--- a further sync block begins: nothing waits in it
+-- an inner sync block begins, in which no result waits
 abbrev pub inner_of : Store → Store
 inner_of store = record { slots = store.slots; arrays = store.arrays; results = []; arrived = [] }
 
--- what a join leaves, with what waits in the sync block that goes on
+-- the slots after a join, with the results that wait in the enclosing sync block
 abbrev pub joined_with : Store → Waits → Store
 joined_with store w = record { slots = settled store.results store.slots; arrays = settled store.arrived store.arrays; results = w.ints; arrived = w.arrays }
 
--- the frame is what the slots hold
+-- the slots represent the frame
 pub record Agrees (locals : Locals) (taken : Taken) (frame : Frame) (store : Store) (outer : Outside) : Type 0 where
   pub ints : AgreesOf false locals.ints taken frame.ints store.slots (store.results ∷ int_waits outer)
   pub arrays : AgreesOf true locals.arrays taken frame.arrays store.arrays (store.arrived ∷ array_waits outer)
   pub whole : frame.sliced ≡ []
 
--- there are as many slots as a call has, and no array that waits is only read
+-- there are the slots that the room of the call requires, and no array that waits is only read
 pub record Fills (marks : Marks) (store : Store) (room : Room) : Type 0 where
   pub ints : length store.slots ≡ room.ints
   pub arrays : length store.arrays ≡ room.arrays
   pub own : AllOwn marks store.arrived
 
--- an integer that is not taken
+-- the value of an integer that is not taken
 pub loads : (locals : Locals) (taken : Taken) (x : Name) (frame : Frame) (store : Store) (outer : Outside) → IsUsable locals.ints taken x
     → Agrees locals taken frame store outer → slice_get store.slots (slot_of x locals.ints) ≡ Some (Some (int_of frame x))
 loads locals taken x frame store outer u a = names.loads false (pos 0) locals.ints taken x frame.ints store.slots (store.results ∷ int_waits outer) u a.ints
 
--- an array that is not taken
+-- the value of an array that is not taken
 pub finds : (locals : Locals) (taken : Taken) (x : Name) (frame : Frame) (store : Store) (outer : Outside) → IsUsable locals.arrays taken x
     → Agrees locals taken frame store outer → slice_get store.arrays (slot_of x locals.arrays) ≡ Some (Some (array_of frame x))
 finds locals taken x frame store outer u a = names.loads true [] locals.arrays taken x frame.arrays store.arrays (store.arrived ∷ array_waits outer) u a.arrays
@@ -76,7 +76,7 @@ pub writes : (locals : Locals) (taken : Taken) (x : Name) (frame : Frame) (store
     → Agrees locals taken frame store outer → is_full (slice_get store.slots (slot_of x locals.ints)) ≡ true
 writes locals taken x frame store outer u a = ap is_full (loads locals taken x frame store outer u a)
 
--- so can the next one
+-- the next slot for an integer can be written
 pub new_is_there : (locals : Locals) (taken : Taken) (frame : Frame) (store : Store) (outer : Outside) → length locals.ints < length store.slots
     → Agrees locals taken frame store outer → is_full (slice_get store.slots (length locals.ints)) ≡ true
 new_is_there locals taken frame store outer within a =
@@ -127,7 +127,7 @@ pub declares_array : (locals : Locals) (taken : Taken) (x : Name) (v : List ℤ)
 declares_array locals taken x v frame store outer room a =
     record { ints = a.ints; arrays = names.declares true locals.arrays taken x v frame.arrays store.arrays (store.arrived ∷ array_waits outer) room a.arrays; whole = a.whole }
 
--- more is taken
+-- the slots still represent the frame if more names are held
 pub takes : (locals : Locals) (taken taken' : Taken) (frame : Frame) (store : Store) (outer : Outside)
     → ((cuts : Bool) (d : ℕ) (x : Name) → holds cuts d x taken ≡ true → holds cuts d x taken' ≡ true) → Agrees locals taken frame store outer →
     Agrees locals taken' frame store outer
@@ -137,7 +137,7 @@ takes locals taken taken' frame store outer more a = record {
   whole = a.whole;
 }
 
--- a join
+-- the slots still represent the frame after a join
 pub joins : (locals : Locals) (taken : Taken) (frame : Frame) (store : Store) (outer : Outside) → Agrees locals taken frame store outer →
     Agrees locals (freed (suc (length outer)) taken) frame (joined_with store (record { ints = []; arrays = [] })) outer
 joins locals taken frame store outer a = record {
@@ -148,7 +148,7 @@ joins locals taken frame store outer a = record {
   whole = a.whole;
 }
 
--- a further sync block begins
+-- the slots represent the frame at the start of an inner sync block
 pub enters : (locals : Locals) (taken : Taken) (frame : Frame) (store : Store) (outer : Outside) → Agrees locals taken frame store outer
     → Agrees locals taken frame (inner_of store) (waits_of store ∷ outer)
 enters locals taken frame store outer a = record {
@@ -157,7 +157,7 @@ enters locals taken frame store outer a = record {
   whole = a.whole;
 }
 
--- it joins and ends
+-- the slots represent the frame after an inner sync block
 pub exits : (locals : Locals) (taken : Taken) (frame : Frame) (store : Store) (w : Waits) (outer : Outside)
     → Agrees locals taken frame store (w ∷ outer) → Agrees locals (freed (suc (suc (length outer))) taken) frame (joined_with store w) outer
 exits locals taken frame store w outer a =
@@ -169,7 +169,7 @@ exits locals taken frame store w outer a =
       whole = a.whole;
     }
 
--- the names of a block are gone at its end
+-- the slots represent the frame after the scope of a block's names
 pub leaves_block : (locals : Locals) (more more_arrays own : List Name) (taken : Taken) (before frame : Frame) (store : Store) (outer : Outside)
     → names_in before.ints ≡ locals.ints → names_in before.arrays ≡ locals.arrays → before.sliced ≡ [] →
     ((x : Name) → is_among x more ≡ true → is_among x own ≡ true) → ((x : Name) → is_among x more_arrays ≡ true → is_among x own ≡ true)

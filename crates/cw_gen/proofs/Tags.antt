@@ -1,4 +1,5 @@
--- The tags of a program, by their first places: no two have one name, and they are those that reports tell. And the line of main's head.
+-- The distinct tags of a program, in the order of their first occurrences; reports have the same tags. The line of
+-- main's head.
 use Rattle.std.proofs.Common.{◌≡◌, ℕ, suc, List, [], ◌∷◌, ◌++◌, Bool, true, false, not, ◌&&◌, ◌||◌, if◌then◌else◌, refl, sym, ap, ◌∙◌, true≢false}
 use Rattle.std.proofs.lemmas.Slice.Eq.{bytes_eq-Decides}
 use Rattle.std.proofs.lemmas.List.{map-append}
@@ -15,7 +16,7 @@ use Rattle.cw_code.specs.Fits as fits
 use Rattle.cw_gen.specs.Emit.{head_line}
 use Rattle.cw_gen.proofs.Fine.{is_function}
 
--- a name that is known is no new one
+-- a known name is not a new name
 known_is_none : (xs known : List Name) (x : Name) → is_among x known ≡ true → fits.is_among x (new_names xs known) ≡ false
 known_is_none [] known x h = refl
 known_is_none (y ∷ xs) known x h = test (known_is_none xs known x h) (λ k. known_is_none xs (y ∷ known) x k) (is_among y known) refl
@@ -37,7 +38,7 @@ known_is_none (y ∷ xs) known x h = test (known_is_none xs known x h) (λ k. kn
     test rest more true e = rest
     test rest more false e = other more e (same_name x y) refl
 
--- new names differ
+-- new names are distinct
 new_are_apart : (xs known : List Name) → fits.are_apart (new_names xs known) ≡ true
 new_are_apart [] known = refl
 new_are_apart (x ∷ xs) known = test (new_are_apart xs known) (new_are_apart xs (x ∷ known)) (is_among x known)
@@ -49,7 +50,7 @@ new_are_apart (x ∷ xs) known = test (new_are_apart xs known) (new_are_apart xs
         ap (λ b. not b && fits.are_apart (new_names xs (x ∷ known))) (known_is_none xs (x ∷ known) x (ap (λ b. if b then true else is_among x known) ((bytes_eq-Decides x x).1 refl)))
         ∙ more
 
--- the names of first places are the new names
+-- the names of the first occurrences are the new names
 names_first : (ds : List (Name × ℕ)) (known : List Name) → map (λ d. d.0) (first_places ds known) ≡ new_names (map (λ d. d.0) ds) known
 names_first [] known = refl
 names_first (d ∷ ds) known = test (names_first ds known) (names_first ds (d.0 ∷ known)) (is_among d.0 known)
@@ -93,19 +94,19 @@ tags_of_all : (fs : List Function) → map (λ d. d.0) (flat_map (λ f. regions_
 tags_of_all [] = refl
 tags_of_all (f ∷ fs) = both (regions_in_block f.body) (flat_map (λ f. regions_in_block f.body) fs) _ _ (tags_are_in f.body) (tags_of_all fs)
 
--- the tags of a resolved program are those that reports tell
+-- the tags of a resolved program are the tags of reports
 pub tags_are_told : (program : Program) → tags_of program ≡ report.tags_of program
 tags_are_told program =
     names_first (flat_map (λ f. regions_in_block f.body) program.functions) []
     ∙ ap (λ l. new_names l []) (tags_of_all program.functions)
 
--- no two of them have one name
+-- tags are distinct
 pub tags_are_apart : (program : Program) → fits.are_apart (tags_of program) ≡ true
 tags_are_apart program =
     ap fits.are_apart (names_first (flat_map (λ f. regions_in_block f.body) program.functions) [])
     ∙ new_are_apart (map (λ d. d.0) (flat_map (λ f. regions_in_block f.body) program.functions)) []
 
--- the line of the head of a function that is there
+-- the line of the head of an existing function
 pub head_is : (lists : Lists) (fs : List Function) (name : Name) → is_function name fs ≡ true
     → head_line (slice_get (map (resolved_function lists) fs) (slot_of name (function_names fs))) ≡ (function_named name fs).line
 head_is lists [] name h = cc

@@ -1,4 +1,4 @@
--- Which names the spawns of one sync block hold.
+-- The names that the spawns of one sync block hold.
 use Rattle.std.proofs.Common.{◌≡◌, ◌≢◌, ℕ, zero, suc, ◌<◌, ◌==◌, List, [], ◌∷◌, ◌++◌, Bool, true, false, not, ◌&&◌, if◌then◌else◌, cond, refl}
 use Rattle.std.proofs.Common.{sym, ap, ◌∙◌, arith, filter, Contains, ◌⊎◌, inl, inr, ⊎_elim, zero-lt-suc, true≢false, get_or}
 use Rattle.std.specs.Prelude.{map}
@@ -13,18 +13,18 @@ use Rattle.cw_model.specs.Ownership.{Holder, SpawnIn, ReaderIn, CutOf, Taken, is
 use Rattle.cw_model.specs.Ownership.{taken_after_all, IsLeastClosed, Around, Declared, left_taken, declared_by, known_after, Closing, at_end, owner_faults, owner_faults_in}
 use Rattle.cw_model.specs.lemmas.Kept.{right_none}
 
--- whether a holder is a spawn of the sync block at a depth, or, where cuts count, a cut
+-- the holder is a spawn of the sync block at this depth, or a cut if `cuts` is set
 abbrev pub held_in : Bool → ℕ → Holder → Bool
 held_in cuts depth (SpawnIn d) = d == depth
 held_in cuts depth (ReaderIn d) = false
 held_in cuts depth CutOf = cuts
 
--- past the entry of another name
+-- skips the entry of another name
 past : {taken held : Bool} → (held ≡ false → taken ≡ false) → (b : Bool) → (if b then true else held) ≡ false → (if b then true else taken) ≡ false
 past more true h = cc
 past more false h = more h
 
--- what nothing holds is not taken
+-- a name that is not held is not taken
 pub loose_free : (x : Name) (taken : Taken) → is_held taken x ≡ false → is_taken taken x ≡ false
 loose_free x [] h = refl
 loose_free x ((y, ReaderIn d) ∷ taken) h = test (loose_free x taken) (same_name x y) h
@@ -39,11 +39,11 @@ module _ (cuts : Bool) where
   abbrev pub is_held_in : ℕ → Holder → Bool
   is_held_in depth k = held_in cuts depth k
 
-  -- a spawn of the sync block at this depth has the name, or, where cuts count, a cut
+  -- a spawn of the sync block at this depth, or a cut if `cuts` is set, holds the name in this entry
   abbrev pub has : ℕ → Name → (Name × Holder) → Bool
   has depth x t = same_name x t.0 && is_held_in depth t.1
 
-  -- some spawn of that block has it
+  -- some entry holds the name
   abbrev pub holds : ℕ → Name → Taken → Bool
   holds depth x [] = false
   holds depth x (t ∷ taken) = if has depth x t then true else holds depth x taken
@@ -90,7 +90,7 @@ module _ (cuts : Bool) where
       cases true e = absurd (true≢false (sym (held_is_taken depth x taken e) ∙ h))
       cases false e = refl
 
-  -- a join of one sync block leaves what another holds
+  -- a join of one sync block keeps the names that another one holds
   pub held_past : (depth other : ℕ) (x : Name) (taken : Taken) → other ≢ depth → holds other x taken ≡ true → holds other x (freed depth taken) ≡ true
   held_past depth other x [] apart h = cc
   held_past depth other x (t ∷ taken) apart h = test (held_past depth other x taken apart) (is_spawn_in depth t.1) (has other x t) refl refl h
@@ -114,7 +114,7 @@ module _ (cuts : Bool) where
   pub same_among : (x y : Name) (names : List Name) → same_name x y ≡ true → is_among y names ≡ true → is_among x names ≡ true
   same_among x y names e h = ap (λ z. is_among z names) ((bytes_eq-Decides x y).0 e) ∙ h
 
-  -- a name that is not one of these stays held as these end
+  -- removing other names keeps a name held
   pub held_without : (depth : ℕ) (x : Name) (own : List Name) (taken : Taken) → is_among x own ≡ false → holds depth x taken ≡ true → holds depth x (without own taken) ≡ true
   held_without depth x own [] apart h = cc
   held_without depth x own (t ∷ taken) apart h = test (held_without depth x own taken apart) (is_among t.0 own) (has depth x t) refl refl h
@@ -165,13 +165,13 @@ module _ (cuts : Bool) where
           ∙ ap (λ b. if b && is_held_in depth k then true else holds depth x taken) ((bytes_eq-Decides x x).1 refl)
           ∙ ap (λ b. if b then true else holds depth x taken) is
 
-  -- what a turn leaves held was held before it
+  -- names that an iteration leaves held were held before it
   pub held_by_turns : (turn : Taken → Taken) (before after : Taken) → IsLeastClosed turn before after → (d : ℕ) (x : Name) → holds d x (turn after) ≡ true → holds d x after ≡ true
   held_by_turns turn before after least d x h =
       let c = contains_held d x (turn after) h in
       held_contained d x c.0 c.1 after (least.closed (x, c.0) c.2)
 
-  -- the end of a cut leaves what is held of another name
+  -- the end of a cut keeps other held names
   pub held_past_cut : (depth : ℕ) (a x : Name) (taken : Taken) → same_name a x ≡ false → holds depth x taken ≡ true → holds depth x (cut_ended a taken) ≡ true
   held_past_cut depth a x [] apart h = cc
   held_past_cut depth a x (t ∷ taken) apart h = test (held_past_cut depth a x taken apart) (is_cut_of a t) (has depth x t) refl refl h
@@ -190,7 +190,7 @@ module _ (cuts : Bool) where
       test more false true e e' h' = ap (λ c. if c then true else holds depth x (cut_ended a taken)) e'
       test more false false e e' h' = ap (λ c. if c then true else holds depth x (cut_ended a taken)) e' ∙ more h'
 
--- a spawn that is held stays so as a cut ends
+-- the end of a cut keeps the names that spawns hold
 pub spawn_past_cut : (depth : ℕ) (a x : Name) (taken : Taken) → holds false depth x taken ≡ true → holds false depth x (cut_ended a taken) ≡ true
 spawn_past_cut depth a x [] h = cc
 spawn_past_cut depth a x (t ∷ taken) h = test (spawn_past_cut depth a x taken) (is_cut_of a t) (has false depth x t) refl refl h
@@ -216,7 +216,7 @@ more_left : (b : Bool) (line : ℕ) (more : List ℕ) → unless b line ++ more 
 more_left true line more h = h
 more_left false line more h = cc
 
--- the names that a block declared so far are not held
+-- the names that a block has declared so far are not held
 left_free : (declared : Declared) (taken : Taken) (x : Name) → left_taken declared taken ≡ [] → is_among x (map (λ d. d.0) declared) ≡ true → is_held taken x ≡ false
 left_free [] taken x h among = cc
 left_free (d ∷ declared) taken x h among = test (left_free declared taken x (more_left (not (is_held taken d.0)) d.1 (left_taken declared taken) h)) (same_name x d.0) refl among
@@ -229,7 +229,7 @@ left_free (d ∷ declared) taken x h among = test (left_free declared taken x (m
     test more true e h' = ap (is_held taken) ((bytes_eq-Decides x d.0).0 e) ∙ free
     test more false e h' = more h'
 
--- at the end of a block none of the names that it declared is held
+-- at the end of a block no name that it declared is held
 pub ends_free : (fs : List Function) (around : Around) (known : List Name) (depth : ℕ) (closing : Closing) (taken : Taken) (declared : Declared)
     (b : Block) → owner_faults_in fs around known depth closing taken declared b ≡ [] → (x : Name) →
     is_among x (map (λ d. d.0) declared) ≡ true ⊎ is_among x (own_names b) ≡ true → is_held (at_end closing depth (taken_after_all fs depth b taken)) x ≡ false
@@ -254,7 +254,7 @@ ends_free fs around known depth closing taken declared (Then line s b) h x among
     moved (DeclareArray y e) a = one y a
     moved _ a = a
 
--- two tests on the items of a list, in either order
+-- two filters commute
 filters_swap : {X : Type 0} (p q : X → Bool) (xs : List X) → filter p (filter q xs) ≡ filter q (filter p xs)
 filters_swap p q [] = refl
 filters_swap {X} p q (x ∷ xs) = test (filters_swap p q xs) (p x) (q x) refl refl
@@ -266,6 +266,6 @@ filters_swap {X} p q (x ∷ xs) = test (filters_swap p q xs) (p x) (q x) refl re
     test more false true e e' = ap (λ z. cond z (x ∷ filter p (filter q xs)) (filter p (filter q xs))) e ∙ more
     test more false false e e' = more
 
--- the names of a block end before or after the join at its end
+-- the scope of a block's names may end before or after the join at its end
 pub freed_without : (depth : ℕ) (own : List Name) (taken : Taken) → without own (freed depth taken) ≡ freed depth (without own taken)
 freed_without depth own taken = filters_swap _ _ taken

@@ -1,4 +1,5 @@
--- The code of each part of a lowered program, its names looked up; and that functions have their code where their entries say.
+-- The code of each part of a lowered program with its names looked up, and functions whose code is where their entries
+-- say.
 use Rattle.std.specs.Prelude.{◌≡◌, ℕ, ◌+◌, ◌≤◌, true, if◌then◌else◌, List, [], ◌++◌, length, map, filter, Some, slice_get}
 use Rattle.cw_model.specs.Syntax.{Name, Expr, While, Stmt, Block, Param, Function, Program, takes_array}
 use Rattle.cw_model.specs.Names.{differ}
@@ -16,7 +17,7 @@ use Rattle.cw_gen.specs.Marks.{Marks, readers_in}
 use Rattle.cw_gen.proofs.Fine.{Room, BlockFine, is_function, marks_for}
 use Rattle.cw_gen.proofs.Places.{HasAt}
 
--- the code of an expression where these locals are known
+-- the code of an expression with these locals
 abbrev pub expr_code : Marks → Locals → (line : ℕ) → Expr → List Instr
 expr_code marks locals line e = emitted_expr marks line (slotted_expr locals e)
 
@@ -37,11 +38,11 @@ function_code first lists f =
 abbrev pub taken_params : List Param → List Name
 taken_params ps = map (λ p. p.name) (filter (λ p. takes_array p) ps)
 
--- what the returns of a function give
+-- the kind of return that a function requires
 abbrev pub returns_of : Function → Returns
 returns_of f = if f.gives_int then WithInt else Alone
 
--- what the calls of code rely on
+-- the tables that the calls of code refer to
 abbrev pub tables_in : Code → Tables
 tables_in code = record { passed = code.passed; lent = code.lent; sites = code.sites }
 
@@ -50,7 +51,7 @@ abbrev pub room_of_func : Function → Func → Room
 room_of_func f fn = record { ints = fn.slots; arrays = fn.arrays + fn.readers; given = (locals_of f.params).arrays; marks = marks_for f.params }
 
 module _ (code : Code) (fs : List Function) (lists : Lists) where
-  -- a function whose code stands where its entry says
+  -- the code of a function is where its entry says
   pub record Compiled (f : Function) (fn : Func) : Type 0 where
     pub params : fn.params ≡ length (locals_of f.params).ints
     pub array_params : fn.array_params ≡ length (taken_params f.params)
@@ -64,16 +65,16 @@ module _ (code : Code) (fs : List Function) (lists : Lists) where
     pub fine : BlockFine fs lists (tables_in code) (marks_for f.params) (room_of_func f fn) (returns_of f) 1 (locals_of f.params) [] f.body
     pub returns : f.gives_int ≡ true → block_returns f.body ≡ true
 
-  -- each function that is called has its code
+  -- each called function has its code
   pub record Table : Type 0 where
     pub entry : (name : Name) → is_function name fs ≡ true →
         (fn : Func) × (slice_get code.funcs (slot_of name lists.functions) ≡ Some fn) × Compiled (function_named name fs) fn
 
--- the code of a program: that of its lowered functions, each name looked up
+-- the code of a program: the code of its lowered functions with each name looked up
 abbrev pub code_of : Program → Code
 code_of program = emitted (resolved program) (slotted_functions program)
 
--- after a `while` the least set is held that holds what was held before it and what a turn leaves of it
+-- after a `while`, the least set is held that contains what was held before it and what an iteration leaves of the set
 abbrev pub TurnsClose : List Function → Type 0
 TurnsClose fs =
     (level : ℕ) (e : Expr) (b : Block) (before : Taken) → has_no_half_in b ≡ true →

@@ -1,4 +1,4 @@
--- Functions whose names are known and free, and whose slots, lists and sites are told, are what their code relies on.
+-- Functions with known and free names, slots, lists and sites satisfy the conditions on their code.
 use Rattle.std.proofs.Common.{◌≡◌, ℕ, ◌+◌, List, [], ◌∷◌, Bool, true, false, not, ◌||◌, if◌then◌else◌, Option, Some, None, refl, ap, subst}
 use Rattle.std.specs.List.{list_any}
 use Rattle.cw_model.specs.Syntax.{is_array_kind, is_written_kind, Name, Expr, Number, Variable, Element, Length, Negative, Not, Binary, Stmt, Declare, DeclareArray, Assign}
@@ -168,7 +168,7 @@ module _ (fs : List Function) (lists : Lists) (callees_are : lists.callees ≡ f
       block_fine returns depth (locals_after locals s) (held_after fs depth s taken) b known.1 free.1 own.1 passes.1 there.1 listed.1,
     )
 
--- a function
+-- the function satisfies the conditions
 function_fine : (fs : List Function) (lists : Lists) → lists.callees ≡ fs → (tables : Tables) (f : Function) → FunctionKnown fs f
     → BlockFree fs 1 [] f.body → OwnBlock fs (marks_for f.params) (locals_of f.params) f.body
     → PassesBlock lists tables (marks_for f.params) (locals_of f.params) f.body → HasRooms lists f → ListedBlock lists tables f.body → FunctionFine fs lists tables f
@@ -181,7 +181,7 @@ function_fine fs lists callees_are tables f known free own passes there listed =
   returns = known.returns;
 }
 
--- functions in a row
+-- the functions satisfy the conditions
 pub functions_fine : (fs : List Function) (lists : Lists) → lists.callees ≡ fs → (tables : Tables) (gs : List Function) → AllFunctionsKnown fs gs
     → AllFree fs gs → AllOwnNames fs gs → AllPass lists tables gs → AllHaveRooms lists gs → AllListed lists tables gs → FunctionsFine fs lists tables gs
 functions_fine fs lists callees_are tables [] known free own passes there listed = tt

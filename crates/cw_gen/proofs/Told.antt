@@ -1,4 +1,4 @@
--- What the code of a lowered program tells of its text: rooms, lists of array slots, sites, reducers and tags.
+-- The agreement of the code of a lowered program with its text: rooms, lists of array slots, sites, reducers and tags.
 use Rattle.std.specs.Prelude.{suc, ◌<◌, ◌≤◌, List, [], ◌∷◌, length, map}
 use Rattle.cw_model.specs.Syntax.{Stmt, Declare, DeclareArray, Reduce, Call, Start, Begin, If, IfElse, While, Scope, Cut, Region, Block, End, Then, Function}
 use Rattle.cw_tree.specs.Resolved.{Lists, params_of, Locals, slot_of, with_array, locals_after, locals_of}
@@ -24,12 +24,12 @@ abbrev mutual
   PassesStmt lists tables marks locals (Region tag b) = PassesBlock lists tables marks locals b
   PassesStmt lists tables marks locals _ = Unit {0}
 
-  -- each call of a block
+  -- each call of a block has its list of array slots
   pub PassesBlock : Lists → Tables → Marks → Locals → Block → Type 0
   PassesBlock lists tables marks locals End = Unit {0}
   PassesBlock lists tables marks locals (Then line s b) = PassesStmt lists tables marks locals s × PassesBlock lists tables marks (locals_after locals s) b
 
--- each call of each function
+-- each call of each function has its list of array slots
 abbrev pub AllPass : Lists → Tables → List Function → Type 0
 AllPass lists tables [] = Unit {0}
 AllPass lists tables (f ∷ fs) = PassesBlock lists tables (marks_for f.params) (locals_of f.params) f.body × AllPass lists tables fs
@@ -47,7 +47,7 @@ abbrev mutual
   RoomStmt room locals (Region tag b) = RoomBlock room locals b
   RoomStmt room locals _ = Unit {0}
 
-  -- for each that a block declares
+  -- there is a slot for each name that a block declares
   pub RoomBlock : Room → Locals → Block → Type 0
   RoomBlock room locals End = Unit {0}
   RoomBlock room locals (Then line s b) = RoomStmt room locals s × RoomBlock room (locals_after locals s) b
@@ -63,7 +63,7 @@ AllHaveRooms lists [] = Unit {0}
 AllHaveRooms lists (f ∷ fs) = HasRooms lists f × AllHaveRooms lists fs
 
 abbrev mutual
-  -- the reducers, the tags and the sites that a statement names are there
+  -- the reducers, the tags and the sites that a statement refers to exist
   pub ListedStmt : Lists → Tables → Stmt → Type 0
   ListedStmt lists tables (Reduce how s e) = IsListed lists.reducers s
   ListedStmt lists tables (Call kind site target f es) = HasSite tables.sites kind site (slot_of f lists.functions)
@@ -75,12 +75,12 @@ abbrev mutual
   ListedStmt lists tables (Region tag b) = IsListed lists.tags tag × ListedBlock lists tables b
   ListedStmt lists tables _ = Unit {0}
 
-  -- those that a block names
+  -- the reducers, the tags and the sites that a block refers to exist
   pub ListedBlock : Lists → Tables → Block → Type 0
   ListedBlock lists tables End = Unit {0}
   ListedBlock lists tables (Then line s b) = ListedStmt lists tables s × ListedBlock lists tables b
 
--- those that functions name
+-- the reducers, the tags and the sites that functions refer to exist
 abbrev pub AllListed : Lists → Tables → List Function → Type 0
 AllListed lists tables [] = Unit {0}
 AllListed lists tables (f ∷ fs) = ListedBlock lists tables f.body × AllListed lists tables fs

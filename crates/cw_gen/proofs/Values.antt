@@ -1,4 +1,4 @@
--- The code of an expression gives its value, and that of arguments the frame of a call.
+-- The code of an expression computes its value, and the code of arguments computes the frame of a call.
 use Rattle.std.proofs.Common.{◌≡◌, ℕ, suc, ◌+◌, ◌≤◌, List, [], ◌∷◌, ◌++◌, length, Bool, true, false, if◌then◌else◌, refl, sym, ap, ◌∙◌, subst, arith, length-append, ℤ, pos}
 use Rattle.std.specs.Prelude.{map, neg_ℤ, slice_get, Some}
 use Rattle.std.proofs.Common.{not, cond, filter}
@@ -37,7 +37,7 @@ module _ (code : Code) (marks : Marks) (depth : ℕ) where
   abbrev at : List Around → ℕ → List ℤ → Store → Trace → State
   at around pc ops store t = here marks depth around pc ops store t
 
-  -- the length of an array and an element of it, whether its slot is only read
+  -- the length of an array and an element of it, whether or not its slot is only read
   length_acts : (s : ℕ) (xs : List ℤ) (around : List Around) (pc : ℕ) (ops : List ℤ) (store : Store) (t : Trace) → slice_get store.arrays s ≡ Some (Some xs) →
       act code (at around pc ops store t) (Some (length_at (place_of marks s))) ≡ onto (at around pc (pos (length xs) ∷ ops) store t)
   length_acts s xs around pc ops store t is = test (is_read marks s) refl
@@ -66,7 +66,7 @@ module _ (code : Code) (marks : Marks) (depth : ℕ) where
       test true e = ap w (place_read marks s e) ∙ ap (λ o. on_slot o go) (get_read marks s store.arrays xs e is)
       test false e = ap w (place_own marks s e) ∙ ap (λ o. on_slot o go) (get_owned marks s store.arrays e ∙ is)
 
-  -- the code of an expression gives its value, or traps as it does
+  -- the code of an expression computes its value, or traps as the expression does
   pub expr_runs : (around : List Around) (locals : Locals) (taken' : Taken) (e : Expr) (line pc : ℕ) (ops : List ℤ) (store : Store) (outer : Outside)
       (frame : Frame) (t : Trace) (left : ℕ) (next : ℤ → ℕ → Trace → RunOutcome) →
       HasAt code.instrs pc (expr_code marks locals line e) → ExprFine locals taken' e → Agrees locals taken' frame store outer →
@@ -139,7 +139,7 @@ module _ (code : Code) (marks : Marks) (depth : ℕ) where
       ∙ sym (resume_then t (pay_for (evaluate d frame) line left) (λ v l. then_do (pay_for (evaluate e frame) line l) (λ w l'. pay_for (done_at 1 (apply operator v w)) line l')) next)
       ∙ sym (ap (λ o. resume t o next) (value_also (evaluate d frame) (evaluate e frame) (apply operator) line left))
 
-  -- what arguments do, from any place
+  -- the code of arguments executes them, from any place
   abbrev ArgsRun : (around : List Around) (locals : Locals) (ps : List Param) (es : List Expr) (line : ℕ) (store : Store) (frame : Frame) → Type 0
   ArgsRun around locals ps es line store frame =
       (pc : ℕ) (ops : List ℤ) (given : Frame) (t : Trace) (left : ℕ) (next : Frame → ℕ → Trace → RunOutcome) → HasAt code.instrs pc (args_code marks locals line ps es) →
@@ -147,7 +147,7 @@ module _ (code : Code) (marks : Marks) (depth : ℕ) where
       steps code l (at around (pc + length (args_code marks locals line ps es)) (reverse_aux vs ops) store u) ≡ next after_it l u) →
       steps code left (at around pc ops store t) ≡ resume t (arguments ps es frame line given left) next
 
-  -- the code of arguments gives the frame of a call, its integers among the operands
+  -- the code of arguments computes the frame of a call, whose integers are operands
   pub args_run : (around : List Around) (locals : Locals) (taken' : Taken) (ps : List Param) (es : List Expr) (line pc : ℕ) (ops : List ℤ)
       (store : Store) (outer : Outside) (frame given : Frame) (t : Trace) (left : ℕ) (next : Frame → ℕ → Trace → RunOutcome) →
       HasAt code.instrs pc (args_code marks locals line ps es) → ArgsFine marks locals taken' ps es → Agrees locals taken' frame store outer →

@@ -1,4 +1,4 @@
--- What statements of the tree are in the definitions.
+-- The abstraction of statements of the tree.
 use Rattle.std.proofs.Common.{◌≡◌, ℕ, Box, Vec, Global}
 use Rattle.cw_loops.specs.declared.tree.Expr.{Expr}
 use Rattle.cw_loops.specs.declared.tree.Cut.{Cut}

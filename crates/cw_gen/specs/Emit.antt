@@ -1,4 +1,4 @@
--- The code of a program whose loops are lowered and whose names are looked up.
+-- The code of a program with lowered loops and resolved names.
 use Rattle.std.specs.Prelude.{ℕ, suc, ◌+◌, ◌-◌, ◌*◌, ◌^◌, Bool, true, false, ◌&&◌, if◌then◌else◌, List, [], ◌∷◌}
 use Rattle.std.specs.Prelude.{◌++◌, length, map, min, max, replicate, Option, Some, None, slice_get}
 use Rattle.std.specs.Prelude.{slice_set}
@@ -28,19 +28,17 @@ use Rattle.cw_code.specs.Code.{CodeSite, Code}
 use Rattle.cw_gen.specs.Marks.{Marks, marks_of, place_of, array_at}
 use Rattle.cw_gen.specs.Marks.{count_ints, count_arrays, count_taken, count_readers}
 
--- the greatest distance of a jump
+-- the maximum distance of a jump
 abbrev pub most_jump : ℕ
 most_jump = 2 ^ 32 - 1
 
--- a number as an instruction tells it; no program within the limits has a greater one
+-- a number as an instruction holds it, at most the maximum; within the limits no program exceeds the maximum
 abbrev pub distance : ℕ → ℕ
 distance n = min n most_jump
 
--- the lists of array slots: the first one, which is no call's, is empty; then each call site has one, at its number;
--- and
--- from the number `first` on each function has three: that of its first call where it is a loop's, and those of its
--- calls
--- on the left and on the right half
+-- the numbers of the lists of array slots: list 0 belongs to no call and is empty; the list of a call site has the
+-- number of the site; from the number `first` on, each function has three lists, which a loop's function uses for its
+-- first call and for its calls on the left and on the right half
 abbrev pub whole_list : (first callee : ℕ) → ℕ
 whole_list first callee = distance (first + 3 * callee)
 
@@ -48,7 +46,7 @@ abbrev pub half_list : (first : ℕ) → CallKind → (callee : ℕ) → ℕ
 half_list first Spawned callee = distance (first + 3 * callee + 1)
 half_list first Plain callee = distance (first + 3 * callee + 2)
 
--- an element of an array, and its length
+-- the instructions that load an element and the length of an array
 abbrev pub element_at : Loan → (line : ℕ) → Instr
 element_at (loan.Array a) line = instr.Element a line
 element_at (loan.Reader r) line = instr.ReadElement r line
@@ -57,7 +55,7 @@ abbrev pub length_at : Loan → Instr
 length_at (loan.Array a) = instr.Length a
 length_at (loan.Reader r) = instr.ReadLength r
 
--- the instructions of an expression in a line, operands from left to right, where these array slots are only read
+-- the instructions of an expression, with operands from left to right; `marks` gives the read-only array slots
 abbrev pub emitted_expr : Marks → (line : ℕ) → Expr → List Instr
 emitted_expr marks line (Number n) = instr.Push n ∷ []
 emitted_expr marks line (Variable u) = instr.Load u ∷ []
@@ -74,12 +72,12 @@ emitted_arg marks line (Int e) = emitted_expr marks line e
 emitted_arg marks line (Array u) = []
 emitted_arg marks line (Shared u) = []
 
--- arguments from left to right
+-- the instructions of arguments, from left to right
 abbrev pub emitted_args : Marks → (line : ℕ) → List Argument → List Instr
 emitted_args marks line [] = []
 emitted_args marks line (e ∷ es) = emitted_arg marks line e ++ emitted_args marks line es
 
--- the integers in these slots
+-- instructions that load the integers in these slots
 abbrev pub emitted_loads : List ℕ → List Instr
 emitted_loads slots = map (λ u. instr.Load u) slots
 
@@ -96,12 +94,12 @@ lent_in marks (Int e ∷ es) = lent_in marks es
 lent_in marks (Array u ∷ es) = lent_in marks es
 lent_in marks (Shared u ∷ es) = place_of marks u ∷ lent_in marks es
 
--- what the instruction of a call carries; its lists of array slots and of loans are those at the number of its site
+-- the operand of a call instruction; its lists of array slots and of loans have the number of its site
 abbrev pub callee_of : (line site : ℕ) → Option ℕ → (callee : ℕ) → Callee
 callee_of line site target callee =
     record { function = callee; site = site; line = line; target = target; passed = site; lent = site }
 
--- what the first call of a loop's function carries, and what a call on one half
+-- the operands of the first call of a loop's function and of a call on one half
 abbrev pub whole_of : (first callee : ℕ) → Inner
 whole_of first callee = record { function = callee; passed = whole_list first callee }
 
@@ -115,37 +113,37 @@ halves_of array left right = record { array = array; left = left; right = right 
 abbrev pub halves_at : Marks → (array left right : ℕ) → Halves
 halves_at marks array left right = halves_of (array_at marks array) (array_at marks left) (array_at marks right)
 
--- code that is passed over where the last operand is 0
+-- code that is skipped if the last operand is 0
 abbrev pub emitted_over : List Instr → List Instr
 emitted_over body = instr.SkipIfZero (distance (length body)) ∷ body
 
--- the jump over the second branch; where the first surely returns no run comes to it
+-- the distance of the jump over the second branch; if the first branch surely returns, no run executes the jump
 abbrev pub past : Bool → ℕ → ℕ
 past returns n = distance (if returns then 0 else n)
 
--- the code of one branch with a jump over the other, and that of the other
+-- the code of one branch with a jump over the other, and then the code of the other branch
 abbrev pub emitted_branches : Bool → (one other : List Instr) → List Instr
 emitted_branches returns one other = emitted_over (one ++ instr.Skip (past returns (length other)) ∷ []) ++ other
 
--- code after a test of so many instructions, to which it goes back
+-- code after a test of `test` instructions, to which it jumps back
 abbrev pub emitted_turn : (test : ℕ) → (body : List Instr) → List Instr
 emitted_turn test body = emitted_over (body ++ instr.GoBack (distance (test + 1 + length body)) ∷ [])
 
--- a sync block
+-- the code of a sync block
 abbrev pub emitted_inside : BlockKind → List Instr → List Instr
 emitted_inside kind body = instr.Open kind ∷ (body ++ instr.Close ∷ [])
 
--- a cut, the block that has its parts, and its end
+-- the code of a cut: the cut, the block in which its parts are known, and its end
 abbrev pub emitted_cut : (line : ℕ) → Halves → List Instr → List Instr
 emitted_cut line h body = instr.Cut h line ∷ (body ++ instr.EndCut ∷ [])
 
--- the first call of a loop's function: the ends of its range, the integers that it takes along, and its instruction
+-- the code of the first call of a loop's function: the ends of its range, the captured integers, and its instruction
 abbrev pub emitted_begin : (first : ℕ) → Marks → (line callee : ℕ) → (from to : Expr) → (captured : List ℕ) → List Instr
 emitted_begin first marks line callee from to captured =
     emitted_expr marks line from
     ++ (emitted_expr marks line to ++ (emitted_loads captured ++ instr.Start (whole_of first callee) line ∷ []))
 
--- the instructions of a statement of a line with no block in it and no return; an index comes before its value
+-- the instructions of a statement in a line that has no inner block and is no return; an index precedes its value
 abbrev pub emitted_alone : (first : ℕ) → Marks → (line : ℕ) → Stmt → List Instr
 emitted_alone first marks line (Declare u e) = emitted_expr marks line e ++ instr.Store u ∷ []
 emitted_alone first marks line (DeclareArray u e) =
@@ -163,7 +161,7 @@ emitted_alone first marks line (Begin f from to captured over) = emitted_begin f
 emitted_alone first marks line Sync = instr.Sync ∷ []
 emitted_alone first marks line _ = []
 
--- a return
+-- the instructions of a return
 abbrev pub emitted_return : Marks → (line : ℕ) → Option Expr → List Instr
 emitted_return marks line None = instr.Return ∷ []
 emitted_return marks line (Some e) = emitted_expr marks line e ++ instr.ReturnValue ∷ []
@@ -175,14 +173,14 @@ abbrev mutual
   stmt_returns (IfElse e b c) = returns b && returns c
   stmt_returns _ = false
 
-  -- whether the last statement of a block does
+  -- whether the last statement of a block surely returns
   pub returns : Block → Bool
   returns End = false
   returns (Then line s End) = stmt_returns s
   returns (Then line s b) = returns b
 
 abbrev mutual
-  -- the instructions of a statement of a line
+  -- the instructions of a statement in a line
   pub emitted_stmt : (first : ℕ) → Marks → (line : ℕ) → Stmt → List Instr
   emitted_stmt first marks line (If e b) = emitted_expr marks line e ++ emitted_over (emitted_block first marks b)
   emitted_stmt first marks line (IfElse e b c) =
@@ -202,7 +200,7 @@ abbrev mutual
   emitted_block first marks End = []
   emitted_block first marks (Then line s b) = emitted_stmt first marks line s ++ emitted_block first marks b
 
--- a function that gives no integer ends with a return
+-- the end of a function: a return, unless the function returns an integer
 abbrev pub emitted_end : (gives_int : Bool) → List Instr
 emitted_end gives_int = if gives_int then [] else instr.Return ∷ []
 
@@ -210,13 +208,13 @@ emitted_end gives_int = if gives_int then [] else instr.Return ∷ []
 abbrev pub emitted_function : (first : ℕ) → Function → List Instr
 emitted_function first f = emitted_block first (marks_of f.params) f.body ++ emitted_end f.gives_int
 
--- the instructions of all functions in a row
+-- the instructions of all functions in order
 abbrev pub emitted_instrs : (first : ℕ) → List Function → List Instr
 emitted_instrs first [] = []
 emitted_instrs first (f ∷ fs) = emitted_function first f ++ emitted_instrs first fs
 
 abbrev mutual
-  -- how many slots of integers there are, with those that a statement declares
+  -- the number of integer slots after a statement, if there were `n` before
   pub ints_in : ℕ → Stmt → ℕ
   ints_in n (Declare u e) = max n (suc u)
   ints_in n (If e b) = ints_in_block n b
@@ -232,7 +230,7 @@ abbrev mutual
   ints_in_block n (Then line s b) = ints_in_block (ints_in n s) b
 
 abbrev mutual
-  -- the same of arrays, and of the parts of cuts
+  -- the number of array slots after a statement, including the parts of cuts, if there were `n` before
   pub arrays_in : ℕ → Stmt → ℕ
   arrays_in n (DeclareArray u e) = max n (suc u)
   arrays_in n (If e b) = arrays_in_block n b
@@ -247,7 +245,7 @@ abbrev mutual
   arrays_in_block n End = n
   arrays_in_block n (Then line s b) = arrays_in_block (arrays_in n s) b
 
--- what the code keeps of a function that begins at a place
+-- the table entry of a function whose code begins at `start`
 abbrev pub emitted_func : (first start : ℕ) → Function → Func
 emitted_func first start f =
     record {
@@ -261,19 +259,19 @@ emitted_func first start f =
       readers = count_readers f.params;
     }
 
--- functions one after another, from a place on
+-- the table entries of functions in order, the first of which begins at `start`
 abbrev pub emitted_funcs : (first start : ℕ) → List Function → List Func
 emitted_funcs first start [] = []
 emitted_funcs first start (f ∷ fs) =
     emitted_func first start f ∷ emitted_funcs first (start + length (emitted_function first f)) fs
 
--- the call site of a call of a line
+-- the call site of a call in a line
 abbrev pub site_of : (line : ℕ) → CallKind → (site : ℕ) → Listed → CodeSite
 site_of line kind site f =
     record { told = record { number = site; kind = Of kind; line = line; callee = f.name }; function = f.index }
 
 abbrev mutual
-  -- the call sites in a statement of a line of the source, by place
+  -- the call sites of a source statement in a line, by position
   pub emitted_sites : (line : ℕ) → source.Stmt → List CodeSite
   emitted_sites line (source.Call kind site target f es) = site_of line kind site f ∷ []
   emitted_sites line (source.If e b) = emitted_sites_in b
@@ -285,7 +283,7 @@ abbrev mutual
   emitted_sites line (source.Region tag b) = emitted_sites_in b
   emitted_sites line _ = []
 
-  -- the same of a block
+  -- the call sites of a source block, by position
   pub emitted_sites_in : source.Block → List CodeSite
   emitted_sites_in source.End = []
   emitted_sites_in (source.Then line s b) = emitted_sites line s ++ emitted_sites_in b
@@ -295,18 +293,18 @@ abbrev pub emitted_sites_of : List source.Function → List CodeSite
 emitted_sites_of [] = []
 emitted_sites_of (f ∷ fs) = emitted_sites_in f.body ++ emitted_sites_of fs
 
--- what the instructions of calls rely on: the lists of array slots and of loans, and the call sites
+-- the tables that call instructions refer to: the lists of array slots and of loans, and the call sites
 pub record Tables : Type 0 where
   pub passed : List (List ℕ)
   pub lent : List (List Loan)
   pub sites : List CodeSite
 
--- the number of the first list of a function, behind the lists of the call sites
+-- the number of the first list of a function, after the lists of the call sites
 abbrev pub first_list : List CodeSite → ℕ
 first_list sites = suc (length sites)
 
 abbrev mutual
-  -- the list of each call in a statement is put at its number
+  -- stores the list of each call in a statement at its number
   pub put_lists : (first : ℕ) → Marks → Stmt → List (List ℕ) → List (List ℕ)
   put_lists first marks (Call kind site target f es) lists = slice_set lists site (passed_in marks es)
   put_lists first marks (Start kind f es) lists = slice_set lists (half_list first kind f) (passed_in marks es)
@@ -320,26 +318,26 @@ abbrev mutual
   put_lists first marks (Region tag b) lists = put_lists_in first marks b lists
   put_lists first marks _ lists = lists
 
-  -- of each statement of a block
+  -- stores the lists of a block
   pub put_lists_in : (first : ℕ) → Marks → Block → List (List ℕ) → List (List ℕ)
   put_lists_in first marks End lists = lists
   put_lists_in first marks (Then line s b) lists = put_lists_in first marks b (put_lists first marks s lists)
 
--- of each function
+-- stores the lists of functions
 abbrev pub put_lists_of : (first : ℕ) → List Function → List (List ℕ) → List (List ℕ)
 put_lists_of first [] lists = lists
 put_lists_of first (f ∷ fs) lists = put_lists_of first fs (put_lists_in first (marks_of f.params) f.body lists)
 
--- one list for no call, one for each site, and three for each function, all of them empty
+-- empty lists: one for no call, one for each site, and three for each function
 abbrev pub no_lists : (first functions : ℕ) → List (List ℕ)
 no_lists first functions = replicate (first + 3 * functions) []
 
--- the lists of functions
+-- the lists of array slots of functions
 abbrev pub emitted_lists : (first : ℕ) → List Function → List (List ℕ)
 emitted_lists first functions = put_lists_of first functions (no_lists first (length functions))
 
 abbrev mutual
-  -- the loans of each call in a statement are put at its number
+  -- stores the loans of each call in a statement at its number
   pub put_loans : Marks → Stmt → List (List Loan) → List (List Loan)
   put_loans marks (Call kind site target f es) lists = slice_set lists site (lent_in marks es)
   put_loans marks (If e b) lists = put_loans_in marks b lists
@@ -350,34 +348,34 @@ abbrev mutual
   put_loans marks (Region tag b) lists = put_loans_in marks b lists
   put_loans marks _ lists = lists
 
-  -- of each statement of a block
+  -- stores the loans of a block
   pub put_loans_in : Marks → Block → List (List Loan) → List (List Loan)
   put_loans_in marks End lists = lists
   put_loans_in marks (Then line s b) lists = put_loans_in marks b (put_loans marks s lists)
 
--- of each function
+-- stores the loans of functions
 abbrev pub put_loans_of : List Function → List (List Loan) → List (List Loan)
 put_loans_of [] lists = lists
 put_loans_of (f ∷ fs) lists = put_loans_of fs (put_loans_in (marks_of f.params) f.body lists)
 
--- one list for no call, and one for each site
+-- the loans of functions: one list for no call, and one for each site
 abbrev pub emitted_loans : (first : ℕ) → List Function → List (List Loan)
 emitted_loans first functions = put_loans_of functions (replicate first [])
 
--- the line of a function's head, where the function is there
+-- the line of a function's head, or 0 if there is no function
 abbrev pub head_line : Option source.Function → ℕ
 head_line None = 0
 head_line (Some f) = f.line
 
--- a reducer as the code keeps it: without its line
+-- a reducer in the code, without its line
 abbrev pub coded_reducer : model.Reducer → Reducer
 coded_reducer r = record { name = r.name; how = r.how }
 
 abbrev pub coded_reducers : List model.Reducer → List Reducer
 coded_reducers reducers = map coded_reducer reducers
 
--- the whole code of a program: sites, reducers and tags are those of its source, and all else is that of its functions,
--- in which no loop is left
+-- the complete code of a program: it has the sites, reducers and tags of the source, and all else is generated from its
+-- functions, which have no loops
 abbrev pub emitted : Resolved → List Function → Code
 emitted tree functions =
     let sites = emitted_sites_of tree.functions in

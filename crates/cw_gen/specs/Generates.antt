@@ -1,4 +1,4 @@
--- What the generator answers.
+-- The contract of the code generator.
 use Rattle.std.specs.Prelude.{◌≡◌, ℕ, ℤ, true, List, [], length, Some, Result, MatchResult}
 use Rattle.std.specs.List.{list_all}
 use Rattle.cw_model.specs.Ints as ints
@@ -19,15 +19,13 @@ use Rattle.cw_code.specs.Run.{code_serial}
 use Rattle.cw_code.specs.Fits.{main_params, Fits}
 use Rattle.cw_gen.specs.Emit.{coded_reducers}
 
--- how many arguments the main of a program takes
+-- the number of arguments of the main of a program
 abbrev pub main_count : Program → ℕ
 main_count program = length (function_named main_name program.functions).params
 
--- on all arguments of 64 bits and within all limits the code gives the serial answer of the program, tree included; it
--- fits, it
--- takes the arguments of the program's main, it carries the program's call statements, the line of main's head,
--- reducers and tags, and the
--- program is small enough
+-- on all 64-bit arguments and within all limits, the code has the serial answer of the program, including its tree; it
+-- is well formed, has the arguments of the program's main, the program's call statements, the line of main's head,
+-- reducers and tags, and the program is small enough
 pub record Generates (program : Program) (code : Code) : Type 0 where
   pub serial : (args : List ℤ) → list_all ints.fits args ≡ true → length args ≡ main_count program → (n : ℕ) →
       code_serial code args n ≡ Some (serial_answer program args n)
@@ -39,16 +37,16 @@ pub record Generates (program : Program) (code : Code) : Type 0 where
   pub tags : code.tags ≡ tags_of program
   pub small : program_faults program ≡ []
 
--- why there is no code: the program is too large, or memory ran out
+-- the reason why there is no code: the program is too large, or memory ran out
 abbrev pub IsRefusal : Program → Fault → Type 0
 IsRefusal program (fault.Size place) = IsLeastLine (program_faults program) place.line
 IsRefusal program fault.Memory = Unit {0}
 IsRefusal program _ = ⊥
 
--- the program that a lowered program was made from
+-- the source of a lowered program
 abbrev pub source_of : Core → Program
 source_of core = program_of core.source.typed.tree
 
--- the answer is the code of the program, or why there is none
+-- the result is the code of the program, or a reason for its rejection
 abbrev pub Answers : Program → Result made_code.Code Fault → Type 0
 Answers program r = MatchResult r (λ code. Generates program (code_view code)) (IsRefusal program)

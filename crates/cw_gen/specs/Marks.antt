@@ -1,4 +1,4 @@
--- Which array slots of a function are readers of its code: arrays that a call was lent, those of `const` parameters.
+-- The array slots of a function that are readers in its code: arrays that a call was lent, for `const` parameters.
 use Rattle.std.specs.Prelude.{ℕ, zero, suc, ◌==◌, Bool, true, false, List, [], ◌∷◌, length, map, filter}
 use Rattle.std.specs.Prelude.{if◌then◌else◌}
 use Rattle.cw_model.specs.declared.syntax.NameKind.{NameKind}
@@ -7,32 +7,32 @@ use Rattle.cw_model.specs.Syntax.{is_array_kind, is_const_kind, is_written_kind}
 use Rattle.cw_code.specs.declared.code.Loan.{Loan}
 use Rattle.cw_code.specs.declared.code.Loan.TheVariants as loan
 
--- of the first array slots of a function, in order, whether each is only read; all behind them are written
+-- for each of the first array slots of a function, in order, whether it is only read; all later slots are writable
 abbrev pub Marks : Type 0
 Marks = List Bool
 
--- how many slots are only read
+-- the number of slots that are only read
 abbrev pub readers_in : Marks → ℕ
 readers_in [] = 0
 readers_in (true ∷ marks) = suc (readers_in marks)
 readers_in (false ∷ marks) = readers_in marks
 
--- no mark where no slot is only read
+-- the empty list if no slot is only read, otherwise the marks
 abbrev pub unless_none : Marks → Marks
 unless_none marks = if readers_in marks == 0 then [] else marks
 
--- those of the arrays among parameters of these kinds
+-- the marks of the arrays among parameters of these kinds
 abbrev pub marks_in : List NameKind → Marks
 marks_in [] = []
 marks_in (Integer ∷ kinds) = marks_in kinds
 marks_in (Array ∷ kinds) = false ∷ marks_in kinds
 marks_in (Const ∷ kinds) = true ∷ marks_in kinds
 
--- those of a function with parameters of these kinds
+-- the marks of a function with parameters of these kinds
 abbrev pub marks_of : List NameKind → Marks
 marks_of kinds = unless_none (marks_in kinds)
 
--- the first slot, and one behind a slot that is only read or not: readers have numbers of their own
+-- the place of the first slot, and the place of a slot after one more slot; readers and arrays are numbered separately
 abbrev pub first_place : Bool → Loan
 first_place true = loan.Reader 0
 first_place false = loan.Array 0
@@ -43,13 +43,13 @@ behind_place true (loan.Reader r) = loan.Reader (suc r)
 behind_place false (loan.Array a) = loan.Array (suc a)
 behind_place false (loan.Reader r) = loan.Reader r
 
--- what an array slot is in the code
+-- the place of an array slot in the code
 abbrev pub place_of : Marks → ℕ → Loan
 place_of [] s = loan.Array s
 place_of (m ∷ marks) zero = first_place m
 place_of (m ∷ marks) (suc s) = behind_place m (place_of marks s)
 
--- its number there
+-- the number of a place in the code
 abbrev pub number_of : Loan → ℕ
 number_of (loan.Array a) = a
 number_of (loan.Reader r) = r
@@ -57,13 +57,13 @@ number_of (loan.Reader r) = r
 abbrev pub array_at : Marks → ℕ → ℕ
 array_at marks s = number_of (place_of marks s)
 
--- the places of the slots that have a mark, where so many slots and readers are before them
+-- the places of the marked slots, after this number of arrays and readers
 abbrev pub places_from : (arrays readers : ℕ) → Marks → List Loan
 places_from a r [] = []
 places_from a r (true ∷ marks) = loan.Reader r ∷ places_from a (suc r) marks
 places_from a r (false ∷ marks) = loan.Array a ∷ places_from (suc a) r marks
 
--- the marks that such places tell
+-- the marks of these places
 abbrev pub is_reader_place : Loan → Bool
 is_reader_place (loan.Array a) = false
 is_reader_place (loan.Reader r) = true
@@ -71,7 +71,7 @@ is_reader_place (loan.Reader r) = true
 abbrev pub marks_told : List Loan → Marks
 marks_told places = map is_reader_place places
 
--- how many parameters are integers, arrays, arrays that are taken, and arrays that are only read
+-- the number of parameters of a kind: integers, arrays, arrays that are taken, and arrays that are only read
 abbrev pub count_such : (NameKind → Bool) → List NameKind → ℕ
 count_such such kinds = length (filter such kinds)
 

@@ -1,4 +1,4 @@
--- Parts of the code of functions, as they are written one after another.
+-- The parts of the code of functions, in the order in which the generator writes them.
 use Rattle.std.specs.Prelude.{◌≡◌, ℕ, ◌+◌, ◌-◌, ◌*◌, pos, max, Bool, false, List, [], ◌∷◌, ◌++◌, length, map, Option}
 use Rattle.std.specs.Prelude.{option_map, slice_set, Result, OnOk}
 use Rattle.std.specs.Global.{Vec}
@@ -45,37 +45,37 @@ use Rattle.cw_gen.specs.Emit.{emitted_alone, emitted_arg, emitted_inside, emitte
 use Rattle.cw_gen.specs.Emit.{emitted_loans, emitted_over, emitted_return, emitted_sites_of, emitted_stmt, emitted_turn}
 use Rattle.cw_gen.specs.Emit.{put_lists, put_loans, put_loans_in}
 
--- these stand behind what stood there before, where memory did not run out
+-- the elements are appended if the result is `Ok`
 abbrev pub Adds : {A R E : Type 0} → (old new : Vec A) → List A → Result R E → Type 0
 Adds old new more r = OnOk r (new.items ≡ old.items ++ more)
 
--- lists of the code as those of the definitions, and bodies as blocks
+-- the abstraction of lists, and of bodies as blocks
 abbrev pub lists_of : {A : Type 0} → List (Vec A) → List (List A)
 lists_of lists = map (λ slots. slots.items) lists
 
 abbrev pub blocks_of : List (Vec Line) → List Block
 blocks_of bodies = map (λ b. block_of b.items) bodies
 
--- the lists are those before with this change, where memory did not run out
+-- the lists are changed in this way if the result is `Ok`
 abbrev pub Puts : {A R E : Type 0} → (old new : Vec (Vec A)) → (List (List A) → List (List A)) → Result R E → Type 0
 Puts old new change r = OnOk r (lists_of new.items ≡ change (lists_of old.items))
 
--- call sites as those of the definitions
+-- the abstraction of call sites
 abbrev pub seen_sites : List Site → List CodeSite
 seen_sites sites = map site_view sites
 
--- these call sites stand behind those before, where memory did not run out
+-- the call sites are appended if the result is `Ok`
 abbrev pub AddsSites : {R E : Type 0} → (old new : Vec Site) → List CodeSite → Result R E → Type 0
 AddsSites old new more r = OnOk r (seen_sites new.items ≡ seen_sites old.items ++ more)
 
--- the call sites of functions of the source, and the site of one call of a line
+-- the call sites of source functions, and the site of one call in a line
 abbrev pub sites_of : List code.Function → List CodeSite
 sites_of functions = emitted_sites_of (map function_of functions)
 
 abbrev pub call_site : (line : ℕ) → code_call.Call → CodeSite
 call_site line c = site_of line c.kind c.site (listed_of c.callee)
 
--- reducers as the code keeps them
+-- the abstraction of the reducers of the code
 abbrev pub kept_reducers : List Reducer → List code_reducer.Reducer
 kept_reducers reducers = coded_reducers (map reducer_of reducers)
 
@@ -90,18 +90,18 @@ slots_passed marks arguments = passed_in marks (map argument_of arguments)
 abbrev pub loans_passed : Marks → List Argument → List Loan
 loans_passed marks arguments = lent_in marks (map argument_of arguments)
 
--- a place filled with a test that leads behind all that stands, and with a jump there
+-- fills a reserved instruction with a test, or with a jump, to the end of the code
 abbrev pub landed : (place : ℕ) → List Instr → List Instr
 landed place instrs = slice_set instrs place (instr.SkipIfZero (distance (length instrs - place - 1)))
 
 abbrev pub landed_past : (returns : Bool) → (place : ℕ) → List Instr → List Instr
 landed_past returns place instrs = slice_set instrs place (instr.Skip (past returns (length instrs - place - 1)))
 
--- functions of the source with their bodies
+-- source functions with their bodies
 abbrev pub functions_with : List code.Function → List (Vec Line) → List Function
 functions_with functions bodies = with_bodies (map function_of functions) (blocks_of bodies)
 
--- a function of the source with its body
+-- a source function with its body
 abbrev pub function_with : code.Function → List Line → Function
 function_with f body =
     record {
@@ -110,40 +110,38 @@ function_with f body =
       body = block_of body;
     }
 
--- the instructions of functions of the source with their bodies, and of one
+-- the instructions of source functions with their bodies, and of one function
 abbrev pub code_with : (first : ℕ) → List code.Function → List (Vec Line) → List Instr
 code_with first functions bodies = emitted_instrs first (functions_with functions bodies)
 
 abbrev pub code_of : (first : ℕ) → code.Function → List Line → List Instr
 code_of first f body = emitted_function first (function_with f body)
 
--- what the code keeps of functions whose instructions come behind these stands behind what stood there before, where
--- memory
--- did not run out
+-- the table entries of functions whose instructions follow `instrs` are appended if the result is `Ok`
 abbrev pub AddsFuncs : {R E : Type 0} → (first : ℕ) → Vec Instr → (old new : Vec Func) → List code.Function →
     List (Vec Line) → Result R E → Type 0
 AddsFuncs first instrs old new functions bodies r =
     Adds old new (emitted_funcs first (length instrs.items) (functions_with functions bodies)) r
 
--- what the code keeps of one function whose instructions come behind these
+-- the table entry of one function whose instructions follow `instrs`
 abbrev pub func_of : (first : ℕ) → Vec Instr → code.Function → List Line → Func
 func_of first instrs f body = emitted_func first (length instrs.items) (function_with f body)
 
--- the functions of loops written out, the first of them with this index, and that of one
+-- the functions of loops written out, the first with this index, and the function of one loop
 abbrev pub texts_of : (index : ℕ) → List lowered.Loop → List Function
 texts_of index loops = loop_texts index (map loop_of loops)
 
 abbrev pub text_of : (index : ℕ) → lowered.Loop → Function
 text_of index l = loop_text index (loop_of l)
 
--- the instructions of the functions of loops, and what the code keeps of them where these come before
+-- the instructions of the functions of loops, and their table entries after `instrs`
 abbrev pub loop_code : (first index : ℕ) → List lowered.Loop → List Instr
 loop_code first index loops = emitted_instrs first (texts_of index loops)
 
 abbrev pub loop_funcs : (first : ℕ) → Vec Instr → (index : ℕ) → List lowered.Loop → List Func
 loop_funcs first instrs index loops = emitted_funcs first (length instrs.items) (texts_of index loops)
 
--- the instructions of all functions of a lowered tree, what the code keeps of them, and their lists of array slots
+-- the instructions of all functions of a lowered tree, their table entries, and their lists of array slots
 abbrev pub all_code : (first : ℕ) → source.Tree → Tree → List Instr
 all_code first tree made = emitted_instrs first (functions_of tree made)
 
@@ -153,15 +151,15 @@ all_funcs first tree made = emitted_funcs first 0 (functions_of tree made)
 abbrev pub all_lists : (first : ℕ) → source.Tree → Tree → List (List ℕ)
 all_lists first tree made = emitted_lists first (functions_of tree made)
 
--- their lists of loans
+-- the lists of loans of all functions of a lowered tree
 abbrev pub all_loans : (first : ℕ) → source.Tree → Tree → List (List Loan)
 all_loans first tree made = emitted_loans first (functions_of tree made)
 
--- the whole code of a program whose loops are lowered
+-- the complete code of a program with lowered loops
 abbrev pub code_of_core : Core → Code
 code_of_core core = emitted (resolved_of core.source.typed.tree) (functions_of core.source.typed.tree core.tree)
 
--- the instructions of arguments, and of an expression with an instruction on its value
+-- the instructions of arguments, and of an expression followed by an instruction that uses its value
 abbrev pub written_args : Marks → (line : ℕ) → List Argument → List Instr
 written_args marks line es = emitted_args marks line (map argument_of es)
 
@@ -174,7 +172,7 @@ written_arg marks line e = emitted_arg marks line (argument_of e)
 abbrev pub written_valued : Marks → (line : ℕ) → Expr → Instr → List Instr
 written_valued marks line e i = emitted_expr marks line (expr_of e) ++ i ∷ []
 
--- the instructions of a block, of a statement of a line, and of a return
+-- the instructions of a block, of a statement in a line, and of a return
 abbrev pub written_block : (first : ℕ) → Marks → List Line → List Instr
 written_block first marks lines = emitted_block first marks (block_of lines)
 
@@ -190,7 +188,7 @@ written_stmt first marks line s = emitted_stmt first marks line (stmt_of s)
 abbrev pub written_return : Marks → (line : ℕ) → Option Expr → List Instr
 written_return marks line e = emitted_return marks line (option_map expr_of e)
 
--- a sync block, and a block that goes back to its test, which starts at a place of these instructions
+-- the instructions of a sync block, and of a block that jumps back to its test, which begins at `start`
 abbrev pub written_inside : BlockKind → (first : ℕ) → Marks → List Line → List Instr
 written_inside kind first marks lines = emitted_inside kind (written_block first marks lines)
 
@@ -198,7 +196,7 @@ abbrev pub written_turn : (start : ℕ) → Vec Instr → (first : ℕ) → Mark
 written_turn start instrs first marks lines =
     emitted_turn (length instrs.items - start) (written_block first marks lines)
 
--- a call of a line, the beginning of a loop, and a cut with its block
+-- the instructions of a call in a line, of the beginning of a loop, and of a cut with its block
 abbrev pub written_call : Marks → (line : ℕ) → Call → List Instr
 written_call marks line c =
     emitted_args marks line (map argument_of c.arguments.items)
@@ -212,41 +210,41 @@ abbrev pub written_cut : (first : ℕ) → Marks → (line : ℕ) → Cut → Li
 written_cut first marks line c body =
     emitted_cut line (halves_at marks c.array c.left c.right) (emitted_block first marks (block_of body))
 
--- the test of a loop's function: whether its range is a leaf
+-- the test of a loop's function whether its range is a leaf
 abbrev pub written_test : Loop → List Instr
 written_test l = emitted_expr [] l.line (Binary AtMost range (Number (pos l.grain)))
 
--- one turn of a leaf, and the variable's next value
+-- one iteration of a leaf, with the increment of the variable
 abbrev pub turn_text : Loop → Block
 turn_text l =
     let x = turn_slot l.captured in
     Then l.line (Scope l.body) (on_line l.line (Assign x (Binary Plus (Variable x) (Number (pos 1)))))
 
--- the turns of a leaf, whose test starts at a place of these instructions
+-- the iterations of a leaf, whose test begins at `start`
 abbrev pub leaf_turn : (start : ℕ) → Vec Instr → (first : ℕ) → lowered.Loop → List Instr
 leaf_turn start instrs first l =
     emitted_turn (length instrs.items - start) (emitted_block first [] (turn_text (loop_of l)))
 
--- a leaf, and a node
+-- the code of a leaf, and of a node
 abbrev pub written_leaf : (first : ℕ) → Loop → List Instr
 written_leaf first l = emitted_block first [] (leaf l)
 
 abbrev pub written_node : (first index : ℕ) → Loop → List Instr
 written_node first index l = emitted_block first [] (node index l)
 
--- the variable's next value, into its slot
+-- the increment of the variable
 abbrev pub written_step : Loop → List Instr
 written_step l =
     instr.Load (turn_slot l.captured) ∷ instr.Push (pos 1) ∷ instr.Binary Plus l.line
     ∷ instr.Store (turn_slot l.captured) ∷ []
 
--- the middle of the range, into its slot
+-- the computation of the middle of the range
 abbrev pub written_middle : Loop → List Instr
 written_middle l =
     instr.Load low ∷ instr.Load high ∷ instr.Load low ∷ instr.Binary Minus l.line ∷ instr.Push (pos 2)
     ∷ instr.Binary Divide l.line ∷ instr.Binary Plus l.line ∷ instr.Store (turn_slot l.captured) ∷ []
 
--- the cuts of arrays in the middle, each inside the one before it
+-- the cuts of arrays at the middle, each inside the previous one
 abbrev pub written_cuts : Loop → (arrays : List ℕ) → List Instr
 written_cuts l [] = []
 written_cuts l (n ∷ arrays) =
@@ -262,12 +260,12 @@ abbrev pub written_ends : (arrays : List ℕ) → List Instr
 written_ends [] = []
 written_ends (n ∷ arrays) = instr.EndCut ∷ written_ends arrays
 
--- a call on one half, which takes so many integers along
+-- a call on one half, with this number of captured integers
 abbrev pub written_half : CallKind → Inner → (from to captured : ℕ) → List Instr
 written_half kind callee from to captured =
     instr.Load from ∷ instr.Load to ∷ (emitted_loads (numbers 2 captured) ++ instr.Recur kind callee ∷ [])
 
--- what the code keeps of a loop's function that has its instructions between two places
+-- the table entry of a loop's function, whose instructions are between `start` and `end`
 abbrev pub written_func : (start end : ℕ) → Loop → Func
 written_func start end l = record {
   start = start;
@@ -280,14 +278,14 @@ written_func start end l = record {
   readers = 0;
 }
 
--- the lists of functions of the source with their bodies, each put at its number, and their loans
+-- stores the lists of source functions with their bodies, and their loans
 abbrev pub put_lists_with : (first : ℕ) → List code.Function → List (Vec Line) → List (List ℕ) → List (List ℕ)
 put_lists_with first functions bodies lists = put_lists_of first (functions_with functions bodies) lists
 
 abbrev pub put_loans_with : List code.Function → List (Vec Line) → List (List Loan) → List (List Loan)
 put_loans_with functions bodies lists = put_loans_of (functions_with functions bodies) lists
 
--- the lists of a statement, of a block and of the function of a loop, each put at its number, and the loans of a block
+-- stores the lists of a statement, of a block and of a loop's function, and the loans of a block
 abbrev pub put_stmt : (first : ℕ) → Marks → Stmt → List (List ℕ) → List (List ℕ)
 put_stmt first marks s lists = put_lists first marks (stmt_of s) lists
 
@@ -303,7 +301,7 @@ put_lent marks s lists = put_loans marks (stmt_of s) lists
 abbrev pub put_all_lent : Marks → List Line → List (List Loan) → List (List Loan)
 put_all_lent marks lines lists = put_loans_in marks (block_of lines) lists
 
--- the slots of the left part of each array of a loop over so many, and of the right part
+-- the slots of the left and of the right part of each array of a loop over this number of arrays
 abbrev pub left_slots : (over : ℕ) → List ℕ
 left_slots over = map (left_slot over) (numbers 0 over)
 

@@ -1,4 +1,4 @@
-//! Where the array slots of a function went in its code.
+//! The numbers of the array slots of a function in its code.
 
 ghost use Rattle.std.specs.Prelude.{◌≡◌, []};
 ghost use Rattle.cw_gen.specs.Marks as spec;
@@ -7,14 +7,15 @@ use cw_code::code::Loan;
 use std::alloc::Global;
 use std::marker::Model;
 
-/// What the first array slots of a function are in its code: those of its `const` parameters are readers.
+/// Holds the numbers of the first array slots of a function in its code: the slots of its `const` parameters are
+/// readers.
 #[derive(Drop)]
 pub(crate) struct Places {
     pub(crate) table: Vec<Loan>,
     pub(crate) readers: u32,
-    // Arrays and readers are each counted from 0.
+    // Arrays and readers are counted separately, from 0.
     pub(crate) ghost counted: { table.items ≡ spec.places_from 0 0 (spec.marks_told table.items) },
-    // As many of them are readers.
+    // The number of readers among the slots.
     pub(crate) ghost many: { readers ≡ spec.readers_in (spec.marks_told table.items) },
 }
 
@@ -27,7 +28,7 @@ impl Model for Places {
 }
 
 impl Places {
-    /// Those of a function that reads no array alone.
+    /// Returns the table of a function without `const` parameters.
     pub(crate) fn none(alloc: Global) -> Places
         ensures { result ≡ [] }
     {
@@ -37,7 +38,7 @@ impl Places {
         }
     }
 
-    /// What an array slot is.
+    /// Returns the array or reader that an array slot is in the code.
     pub(crate) fn place(&self, slot: u32) -> Loan
         ensures { result ≡ spec.place_of self.now slot }
     {
@@ -49,7 +50,7 @@ impl Places {
         }
     }
 
-    /// The number of an array slot.
+    /// Returns the number of an array slot in the code.
     pub(crate) fn array(&self, slot: u32) -> u32
         ensures { result ≡ spec.array_at self.now slot }
     {

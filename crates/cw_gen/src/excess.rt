@@ -1,4 +1,4 @@
-//! Why a program has no code: which limit it passes.
+//! The limit that a program without code exceeds.
 
 ghost use Rattle.std.specs.Prelude.{◌≡◌, ◌<◌, ◌≤◌, IfOk};
 ghost use Rattle.cw_gen.specs.Excess.{IsExcess};
@@ -9,18 +9,22 @@ use cw_loops::Core;
 use cw_model::limits::MOST_CALL_STATEMENTS;
 use std::alloc::{AllocError, Global};
 
-/// What there is too much of in a program that `generate` refuses for its size.
+/// Represents the limit that a program exceeds if `generate` rejects it for its size.
 #[derive(Clone, Copy)]
 pub enum Excess {
-    /// So many call statements.
+    /// The number of call statements, which is given.
     CallStatements(usize),
-    /// Instructions; the call statements are no more than may be.
+    /// The number of instructions; the number of call statements keeps its limit.
     Instructions,
 }
 
-/// What there is too much of in a program that `generate` refuses for its size: call statements, with their count, exactly
-/// where there are more than 65,535 of them; else it is instructions, of which nothing is counted here. `AllocError` where
-/// memory runs out.
+/// Returns the limit that a program exceeds if `generate` rejects it for its size: `CallStatements` with their number
+/// exactly if there are more than 65,535 call statements, otherwise `Instructions`, which this function does not
+/// count.
+///
+/// # Errors
+///
+/// Returns an error if memory runs out.
 pub fn excess_of(alloc: Global, core: &Core) -> Result<Excess, AllocError>
     ensures { IfOk result (IsExcess (source_of core.now)) }
 {

@@ -1,4 +1,4 @@
-//! From expressions and arguments to instructions.
+//! Generates the code of expressions and arguments.
 
 ghost use Rattle.std.specs.Prelude.{◌≡◌};
 ghost use Rattle.cw_gen.specs.Emit as spec;
@@ -10,7 +10,11 @@ use cw_code::code::{Instr, Loan, UnaryOperator};
 use cw_loops::tree::{Argument, Expr};
 use std::alloc::AllocError;
 
-/// The code of an expression of this line, operands from left to right.
+/// Appends the code of an expression in this line, with operands from left to right.
+///
+/// # Errors
+///
+/// Returns an error if memory runs out.
 pub(crate) fn expression(
     instrs: &mut Vec<Instr>,
     places: &Places,
@@ -43,7 +47,7 @@ pub(crate) fn expression(
     }
 }
 
-// An element of an array, at the last operand.
+// Returns the instruction that loads an element of an array; the last operand is the index.
 fn element_at(place: Loan, line: u32) -> Instr
     ensures { result ≡ spec.element_at place line }
 {
@@ -53,7 +57,7 @@ fn element_at(place: Loan, line: u32) -> Instr
     }
 }
 
-// The length of an array.
+// Returns the instruction that loads the length of an array.
 fn length_at(place: Loan) -> Instr
     ensures { result ≡ spec.length_at place }
 {
@@ -63,7 +67,11 @@ fn length_at(place: Loan) -> Instr
     }
 }
 
-/// An expression, and an instruction on its value.
+/// Appends the code of an expression, and an instruction that uses its value.
+///
+/// # Errors
+///
+/// Returns an error if memory runs out.
 pub(crate) fn valued(
     instrs: &mut Vec<Instr>,
     places: &Places,
@@ -77,7 +85,7 @@ pub(crate) fn valued(
     put(instrs, instr)
 }
 
-// The code of an argument. An array has none.
+// Appends the code of an argument; an array has no code.
 fn argument(
     instrs: &mut Vec<Instr>,
     places: &Places,
@@ -92,7 +100,11 @@ fn argument(
     }
 }
 
-/// The code of arguments, from left to right.
+/// Appends the code of arguments, from left to right.
+///
+/// # Errors
+///
+/// Returns an error if memory runs out.
 pub(crate) fn arguments(
     instrs: &mut Vec<Instr>,
     places: &Places,
@@ -107,7 +119,11 @@ pub(crate) fn arguments(
     Ok(())
 }
 
-/// The integers in slots, one after another.
+/// Appends instructions that load the integers in these slots.
+///
+/// # Errors
+///
+/// Returns an error if memory runs out.
 pub(crate) fn loads(instrs: &mut Vec<Instr>, slots: &[u32]) -> Result<(), AllocError>
     ensures { Adds instrs.old instrs.new (spec.emitted_loads slots.now) result }
 {

@@ -1,4 +1,5 @@
-//! The code of the functions of a tree: those of the source first, and then those of the loops.
+//! Generates the code of the functions of a tree: the functions of the source first, and then the functions of the
+//! loops.
 
 ghost use Rattle.std.specs.Prelude.{◌+◌, ◌<◌, ◌^◌, [], ◌∷◌, length, map};
 ghost use Rattle.cw_gen.specs.Written.{Adds, AddsFuncs, code_of, code_with, func_of};
@@ -19,7 +20,11 @@ use cw_loops::tree::{Line, Loop};
 use cw_tree::resolved::Function;
 use std::alloc::{AllocError, Global};
 
-/// The code of the functions of the source, each with its body.
+/// Appends the code of the functions of the source, each with its body.
+///
+/// # Errors
+///
+/// Returns an error if memory runs out.
 pub(crate) fn functions_with(
     alloc: Global,
     instrs: &mut Vec<Instr>,
@@ -37,7 +42,11 @@ pub(crate) fn functions_with(
     Ok(())
 }
 
-/// The code of the functions of loops. The first of them has this index.
+/// Appends the code of the functions of loops; the first of them has this index.
+///
+/// # Errors
+///
+/// Returns an error if memory runs out.
 pub(crate) fn loop_functions(
     alloc: Global,
     instrs: &mut Vec<Instr>,
@@ -62,7 +71,7 @@ pub(crate) fn loop_functions(
     Ok(())
 }
 
-// The code of a function of the source with its body. One that gives no integer ends with a return.
+// Appends the code of a function of the source with its body. A function that returns no integer ends with a return.
 fn function_with(
     alloc: Global,
     instrs: &mut Vec<Instr>,

@@ -1,4 +1,4 @@
-//! The code of an accepted program.
+//! Generates the code of an accepted program.
 
 ghost use Rattle.std.specs.Prelude.{◌≡◌, true};
 ghost use Rattle.cw_loops.specs.SourceLike.{is_source_like};
@@ -15,15 +15,18 @@ use cw_model::limits::{MOST_CALL_STATEMENTS, MOST_INSTRUCTIONS};
 use cw_text::{Fault, Place};
 use std::alloc::Global;
 
-/// The code of a program whose loops are lowered: on all arguments of 64 bits and within all limits it gives the serial
-/// answer of the source, it never gets stuck, and it has the source's call sites, reducers and tags, by place. A call names
-/// the list of array slots at the number of its site, a call of a loop's function one of the three of that function.
+/// Generates the code of a program with lowered loops. On all 64-bit arguments and within all limits, the code has
+/// the serial answer of the source, and it never gets stuck. It has the source's call sites, reducers and tags, by
+/// position. A call refers to the list of array slots at the number of its site; a call of a loop's function refers
+/// to one of the three lists of that function.
 ///
-/// The source has the names and the numbers of a text, and its call statements are numbered from 1 by place, as the parser
-/// numbers them.
+/// The source must have names and numbers of a text, and its call statements must be numbered from 1 by position, as
+/// the parser numbers them.
 ///
-/// The error is `Size`, at line 1, exactly where the static size passes 1,048,576 or the count of call statements
-/// passes 65,535, and `Memory` where memory runs out.
+/// # Errors
+///
+/// Returns `Size`, at line 1, exactly if the static size exceeds 1,048,576 or the number of call statements exceeds
+/// 65,535, and `Memory` if memory runs out.
 pub fn generate(alloc: Global, core: &Core) -> Result<Code, Fault>
     requires source_like { is_source_like (source_of core.now) ≡ true }
     requires numbered { are_numbered 0 (call_sites (source_of core.now)) ≡ true }

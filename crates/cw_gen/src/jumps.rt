@@ -1,4 +1,5 @@
-//! Jumps whose distance is known only once the code that they pass over stands.
+//! Appends instructions and jumps. The distance of a forward jump is known only after the code that it skips is
+//! complete.
 
 ghost use Rattle.std.specs.Prelude.{◌≡◌, ◌<◌, [], ◌∷◌, length, IfOk};
 ghost use Rattle.cw_code.specs.declared.code.Instr.TheVariants as instr;
@@ -8,10 +9,14 @@ ghost use Rattle.cw_gen.specs.Written.{Adds, landed, landed_past};
 use cw_code::code::Instr;
 use std::alloc::AllocError;
 
-/// The greatest distance of a jump.
+/// The maximum distance of a jump.
 const MOST_JUMP: usize = 4_294_967_295;
 
-/// One more instruction.
+/// Appends an instruction.
+///
+/// # Errors
+///
+/// Returns an error if memory runs out.
 pub(crate) fn put(instrs: &mut Vec<Instr>, instr: Instr) -> Result<(), AllocError>
     ensures { Adds instrs.old instrs.new (instr ∷ []) result }
 {
@@ -19,7 +24,11 @@ pub(crate) fn put(instrs: &mut Vec<Instr>, instr: Instr) -> Result<(), AllocErro
     Ok(())
 }
 
-/// More instructions, in their order.
+/// Appends instructions in order.
+///
+/// # Errors
+///
+/// Returns an error if memory runs out.
 pub(crate) fn row(instrs: &mut Vec<Instr>, more: &[Instr]) -> Result<(), AllocError>
     ensures { Adds instrs.old instrs.new more.now result }
 {
@@ -27,7 +36,11 @@ pub(crate) fn row(instrs: &mut Vec<Instr>, more: &[Instr]) -> Result<(), AllocEr
     Ok(())
 }
 
-/// A place for a jump, by its index.
+/// Reserves an instruction for a jump, and returns its index.
+///
+/// # Errors
+///
+/// Returns an error if memory runs out.
 pub(crate) fn hole(instrs: &mut Vec<Instr>) -> Result<usize, AllocError>
     ensures instrs { Adds instrs.old instrs.new (instr.Skip 0 ∷ []) result }
     ensures place { IfOk result (λ place. place ≡ length instrs.old.items) }
@@ -37,7 +50,7 @@ pub(crate) fn hole(instrs: &mut Vec<Instr>) -> Result<usize, AllocError>
     Ok(place)
 }
 
-/// Fills a place with a test that leads behind all that stands, where the last operand is 0.
+/// Fills a reserved instruction with a test that jumps to the end of the code if the last operand is 0.
 pub(crate) fn land(instrs: &mut Vec<Instr>, place: usize)
     requires { place < length instrs.old.items }
     ensures { instrs.new.items ≡ landed place instrs.old.items }
@@ -46,7 +59,8 @@ pub(crate) fn land(instrs: &mut Vec<Instr>, place: usize)
     instrs[place] = Instr::SkipIfZero(n);
 }
 
-/// Fills a place with a jump behind all that stands, unless what comes before it surely returns.
+/// Fills a reserved instruction with a jump to the end of the code; the distance is 0 if the code before it surely
+/// returns.
 pub(crate) fn land_past(instrs: &mut Vec<Instr>, place: usize, returns: bool)
     requires { place < length instrs.old.items }
     ensures { instrs.new.items ≡ landed_past returns place instrs.old.items }
@@ -55,7 +69,7 @@ pub(crate) fn land_past(instrs: &mut Vec<Instr>, place: usize, returns: bool)
     instrs[place] = Instr::Skip(n);
 }
 
-/// A distance as an instruction tells it.
+/// Returns a distance as an instruction holds it, at most the maximum.
 pub(crate) fn distance(n: usize) -> u32
     ensures { result ≡ spec.distance n }
 {

@@ -1,4 +1,4 @@
-//! The code of the turns of a loop, one after another.
+//! Generates the code of the iterations of a loop.
 
 ghost use Rattle.std.specs.Prelude.{◌≡◌, ◌≤◌, [], length};
 ghost use Rattle.cw_gen.specs.Written as written;
@@ -14,7 +14,11 @@ use cw_loops::tree::Loop;
 use cw_model::syntax::Operator;
 use std::alloc::AllocError;
 
-/// The code of a leaf: its variable goes from the lower end of the range up to the upper one.
+/// Appends the code of a leaf: its variable goes from the lower end of the range to the upper end.
+///
+/// # Errors
+///
+/// Returns an error if memory runs out.
 pub(crate) fn leaf(
     instrs: &mut Vec<Instr>,
     first: usize,
@@ -34,7 +38,7 @@ pub(crate) fn leaf(
     Ok(())
 }
 
-// The code of one turn, which goes back to its test, and that starts at this place.
+// Appends the code of one iteration, which jumps back to its test; the test begins at `start`.
 fn turn(
     instrs: &mut Vec<Instr>,
     first: usize,
@@ -56,7 +60,7 @@ fn turn(
     Ok(())
 }
 
-// The variable's next value.
+// Appends the code that increments the variable.
 fn step(instrs: &mut Vec<Instr>, l: &Loop) -> Result<(), AllocError>
     requires { IsSmallLoop (view.loop_of l.now) }
     ensures { Adds instrs.old instrs.new (written.written_step (view.loop_of l.now)) result }

@@ -1,4 +1,4 @@
-//! The code of a program.
+//! The code generator.
 #![tactic(auto)]
 
 mod array_places;

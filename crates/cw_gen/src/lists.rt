@@ -1,8 +1,8 @@
-//! The lists of array slots whose arrays a call takes.
+//! The lists of the array slots whose arrays a call takes.
 //!
-//! The list of number 0 is no call's and empty. A call site has the one at its number. From the number `first` on each
-//! function has three: those of its first call, of its calls on left halves, and of its calls on right halves, where it
-//! is a loop's.
+//! The list with number 0 belongs to no call and is empty. The list of a call site has the number of the site. From
+//! the number `first` on, each function has three lists; for the function of a loop they are the list of its first
+//! call, of its calls on left halves, and of its calls on right halves.
 
 ghost use Rattle.std.specs.Prelude.{◌≡◌, ◌+◌, ◌<◌, ◌^◌, [], length, map, replicate, slice_set, IfOk};
 ghost use Rattle.cw_gen.specs.Emit as spec;
@@ -20,14 +20,14 @@ use cw_model::syntax::CallKind;
 use cw_tree::resolved::Function;
 use std::alloc::{AllocError, Global};
 
-/// The number of the list of the first call of a loop's function.
+/// Returns the number of the list of the first call of a loop's function.
 pub(crate) fn whole_list(first: usize, callee: u32) -> u32
     ensures { result ≡ spec.whole_list first callee }
 {
     distance(first.saturating_add(callee as usize * 3))
 }
 
-/// The number of the list of its calls on one half.
+/// Returns the number of the list of a loop function's calls on one half.
 pub(crate) fn half_list(first: usize, kind: CallKind, callee: u32) -> u32
     ensures { result ≡ spec.half_list first kind callee }
 {
@@ -38,7 +38,11 @@ pub(crate) fn half_list(first: usize, kind: CallKind, callee: u32) -> u32
     }
 }
 
-/// So many empty lists.
+/// Returns this number of empty lists.
+///
+/// # Errors
+///
+/// Returns an error if memory runs out.
 pub(crate) fn no_lists<T: Drop>(alloc: Global, count: usize) -> Result<Vec<Vec<T>>, AllocError>
     ensures { IfOk result (λ lists. lists_of lists.items ≡ replicate count []) }
 {
@@ -49,7 +53,7 @@ pub(crate) fn no_lists<T: Drop>(alloc: Global, count: usize) -> Result<Vec<Vec<T
     Ok(lists)
 }
 
-/// Puts a list at its number. One past the end is left out.
+/// Stores a list at its number. Ignores a number past the end.
 pub(crate) fn put_list<T: Drop>(lists: &mut Vec<Vec<T>>, number: u32, slots: Vec<T>)
     ensures { lists_of lists.new.items ≡ slice_set (lists_of lists.old.items) number slots.items }
 {
@@ -59,7 +63,11 @@ pub(crate) fn put_list<T: Drop>(lists: &mut Vec<Vec<T>>, number: u32, slots: Vec
     }
 }
 
-/// Puts the lists of functions of the source, each with its body, at their numbers.
+/// Stores the lists of the source functions, each with its body.
+///
+/// # Errors
+///
+/// Returns an error if memory runs out.
 pub(crate) fn lists_of_bodies(
     alloc: Global,
     first: usize,
@@ -76,7 +84,11 @@ pub(crate) fn lists_of_bodies(
     Ok(())
 }
 
-/// Puts the lists of the functions of loops at their numbers. The first of them has this index.
+/// Stores the lists of the functions of loops; the first of them has this index.
+///
+/// # Errors
+///
+/// Returns an error if memory runs out.
 pub(crate) fn lists_of_loops(
     alloc: Global,
     first: usize,
@@ -97,7 +109,7 @@ pub(crate) fn lists_of_loops(
     Ok(())
 }
 
-// Puts the lists of a loop's body and of its calls on both halves at their numbers.
+// Stores the lists of a loop's body and of its calls on both halves.
 fn lists_of_loop(
     alloc: Global,
     first: usize,
@@ -118,7 +130,7 @@ fn lists_of_loop(
     Ok(())
 }
 
-// The slots of the left part of each array of a loop.
+// Returns the slots of the left part of each array of a loop.
 fn lefts(alloc: Global, l: &Loop) -> Result<Vec<u32>, AllocError>
     requires { IsSmallLoop (view.loop_of l.now) }
     ensures { IfOk result (λ slots. slots.items ≡ left_slots l.now.over) }
@@ -130,7 +142,7 @@ fn lefts(alloc: Global, l: &Loop) -> Result<Vec<u32>, AllocError>
     Ok(slots)
 }
 
-// The slots of the right part of each array of a loop.
+// Returns the slots of the right part of each array of a loop.
 fn rights(alloc: Global, l: &Loop) -> Result<Vec<u32>, AllocError>
     requires { IsSmallLoop (view.loop_of l.now) }
     ensures { IfOk result (λ slots. slots.items ≡ right_slots l.now.over) }
@@ -142,7 +154,7 @@ fn rights(alloc: Global, l: &Loop) -> Result<Vec<u32>, AllocError>
     Ok(slots)
 }
 
-// Puts the lists of a block at their numbers.
+// Stores the lists of a block.
 #[cycle(lists)]
 fn lists_in(
     alloc: Global,
@@ -159,7 +171,7 @@ fn lists_in(
     Ok(())
 }
 
-// Puts the lists of a statement at their numbers.
+// Stores the lists of a statement.
 #[cycle(lists)]
 fn lists_at(
     alloc: Global,
@@ -200,7 +212,7 @@ fn lists_at(
     }
 }
 
-// The numbers of array slots.
+// Returns the numbers of array slots in the code.
 fn numbers_in(alloc: Global, places: &Places, slots: &[u32]) -> Result<Vec<u32>, AllocError>
     ensures { IfOk result (λ numbers. numbers.items ≡ map (array_at places.now) slots.now) }
 {
@@ -211,7 +223,7 @@ fn numbers_in(alloc: Global, places: &Places, slots: &[u32]) -> Result<Vec<u32>,
     Ok(numbers)
 }
 
-// The slots of the arrays among arguments that are given away.
+// Returns the slots of the arrays among arguments that are given away.
 fn slots_in(alloc: Global, places: &Places, arguments: &[Argument]) -> Result<Vec<u32>, AllocError>
     ensures { IfOk result (λ slots. slots.items ≡ slots_passed places.now arguments.now) }
 {

@@ -1,6 +1,6 @@
-//! The lists of what calls are lent.
+//! The lists of the arrays that calls are lent.
 //!
-//! As among the lists of array slots, that of number 0 is no call's, and a call site has the one at its number.
+//! The list with number 0 belongs to no call, and the list of a call site has the number of the site.
 
 ghost use Rattle.std.specs.Prelude.{◌≡◌, IfOk};
 ghost use Rattle.cw_gen.specs.Emit as spec;
@@ -14,7 +14,11 @@ use cw_loops::tree::{Argument, Line, Loop, Stmt};
 use cw_tree::resolved::Function;
 use std::alloc::{AllocError, Global};
 
-/// Puts the loans of functions of the source, each with its body, at their numbers.
+/// Stores the loans of the source functions, each with its body.
+///
+/// # Errors
+///
+/// Returns an error if memory runs out.
 pub(crate) fn loans_of_bodies(
     alloc: Global,
     functions: &[Function],
@@ -30,7 +34,11 @@ pub(crate) fn loans_of_bodies(
     Ok(())
 }
 
-/// Puts the loans of the functions of loops at their numbers. They are the same whatever index the first of them has.
+/// Stores the loans of the functions of loops. They do not depend on the index of the first function.
+///
+/// # Errors
+///
+/// Returns an error if memory runs out.
 pub(crate) fn loans_of_loops(
     alloc: Global,
     loops: &[Loop],
@@ -45,7 +53,7 @@ pub(crate) fn loans_of_loops(
     Ok(())
 }
 
-// Puts the loans of a block at their numbers.
+// Stores the loans of a block.
 #[cycle(loans)]
 fn loans_in(
     alloc: Global,
@@ -61,7 +69,7 @@ fn loans_in(
     Ok(())
 }
 
-// Puts the loans of a statement at their numbers.
+// Stores the loans of a statement.
 #[cycle(loans)]
 fn loans_at(
     alloc: Global,
@@ -97,7 +105,7 @@ fn loans_at(
     }
 }
 
-// The loans of the arrays among arguments that are only read.
+// Returns the loans of the arrays among arguments that are only read.
 fn loans_of(alloc: Global, places: &Places, arguments: &[Argument]) -> Result<Vec<Loan>, AllocError>
     ensures { IfOk result (λ loans. loans.items ≡ loans_passed places.now arguments.now) }
 {

@@ -1,4 +1,4 @@
-//! The code of the function of a loop, written out from its numbers and its body.
+//! Generates the code of the function of a loop from its numbers and its body.
 
 ghost use Rattle.std.specs.Prelude.{◌≡◌, []};
 ghost use Rattle.cw_gen.specs.Emit as spec;
@@ -19,7 +19,11 @@ use cw_loops::tree::Loop;
 use cw_model::syntax::{CallKind, Operator};
 use std::alloc::AllocError;
 
-/// The code of the function of a loop, which has this index.
+/// Appends the code of the function of a loop; `index` is the index of the function.
+///
+/// # Errors
+///
+/// Returns an error if memory runs out.
 pub(crate) fn loop_function(
     instrs: &mut Vec<Instr>,
     first: usize,
@@ -42,7 +46,7 @@ pub(crate) fn loop_function(
     Ok(())
 }
 
-/// What the code keeps of the function of a loop, which has its instructions between these places.
+/// Returns the table entry of the function of a loop, whose instructions are between `start` and `end`.
 pub(crate) fn loop_func(start: usize, end: usize, l: &Loop) -> Func
     requires { IsSmallLoop (view.loop_of l.now) }
     ensures { result ≡ written.written_func start end (view.loop_of l.now) }
@@ -63,7 +67,7 @@ pub(crate) fn loop_func(start: usize, end: usize, l: &Loop) -> Func
     }
 }
 
-// Whether the range is a leaf.
+// Appends the test whether the range is a leaf.
 fn test(instrs: &mut Vec<Instr>, l: &Loop) -> Result<(), AllocError>
     requires { IsSmallLoop (view.loop_of l.now) }
     ensures { Adds instrs.old instrs.new (written.written_test (view.loop_of l.now)) result }
@@ -82,7 +86,7 @@ fn test(instrs: &mut Vec<Instr>, l: &Loop) -> Result<(), AllocError>
     )
 }
 
-// A node: its middle, a cut of each array there, and a call on each half.
+// Appends the code of a node: its middle, a cut of each array at the middle, and a call on each half.
 fn node(instrs: &mut Vec<Instr>, first: usize, index: u32, l: &Loop) -> Result<(), AllocError>
     requires { IsSmallLoop (view.loop_of l.now) }
     ensures { Adds instrs.old instrs.new (written_node first index (view.loop_of l.now)) result }
@@ -98,7 +102,7 @@ fn node(instrs: &mut Vec<Instr>, first: usize, index: u32, l: &Loop) -> Result<(
     Ok(())
 }
 
-// The middle of the range, into its slot.
+// Appends the code that stores the middle of the range in its slot.
 fn split(instrs: &mut Vec<Instr>, l: &Loop) -> Result<(), AllocError>
     requires { IsSmallLoop (view.loop_of l.now) }
     ensures { Adds instrs.old instrs.new (written.written_middle (view.loop_of l.now)) result }
@@ -122,7 +126,7 @@ fn split(instrs: &mut Vec<Instr>, l: &Loop) -> Result<(), AllocError>
     )
 }
 
-// Each array is cut in the middle.
+// Appends the cuts of the arrays at the middle.
 fn cuts(instrs: &mut Vec<Instr>, l: &Loop) -> Result<(), AllocError>
     requires { IsSmallLoop (view.loop_of l.now) }
     ensures { Adds instrs.old instrs.new (cuts_of l.now) result }
@@ -142,7 +146,7 @@ fn cuts(instrs: &mut Vec<Instr>, l: &Loop) -> Result<(), AllocError>
     Ok(())
 }
 
-// The end of each cut.
+// Appends the end of each cut.
 fn ends(instrs: &mut Vec<Instr>, over: u32) -> Result<(), AllocError>
     ensures { Adds instrs.old instrs.new (written.written_ends (numbers 0 over)) result }
 {
@@ -152,7 +156,7 @@ fn ends(instrs: &mut Vec<Instr>, over: u32) -> Result<(), AllocError>
     Ok(())
 }
 
-// What a call on one half names.
+// Returns the operand of the instruction that calls the function on one half.
 fn half_of(first: usize, kind: CallKind, index: u32) -> Inner
     ensures { result ≡ spec.half_of first kind index }
 {
@@ -162,7 +166,7 @@ fn half_of(first: usize, kind: CallKind, index: u32) -> Inner
     }
 }
 
-// A call on the range between two ends, which takes along what the loop does.
+// Appends a call on the range between two ends, with the captured integers of the loop.
 fn half(
     instrs: &mut Vec<Instr>,
     kind: CallKind,
@@ -180,7 +184,7 @@ fn half(
     Ok(())
 }
 
-// The integers that the loop takes along.
+// Appends instructions that load the captured integers of the loop.
 fn captured(instrs: &mut Vec<Instr>, l: &Loop) -> Result<(), AllocError>
     requires { IsSmallLoop (view.loop_of l.now) }
     ensures { Adds instrs.old instrs.new (spec.emitted_loads (numbers 2 l.now.captured)) result }

@@ -1,4 +1,4 @@
-//! Which array slots of a function are readers of its code.
+//! Which array slots of a function are readers in its code.
 
 ghost use Rattle.std.specs.Prelude.{◌≡◌, ◌+◌, IfOk};
 ghost use Rattle.cw_gen.specs.Marks as spec;
@@ -10,7 +10,11 @@ use cw_model::syntax::NameKind;
 use cw_tree::resolved::Param;
 use std::alloc::{AllocError, Global};
 
-/// What the array slots of a function with these parameters are in its code.
+/// Returns the numbers of the array slots of a function with these parameters.
+///
+/// # Errors
+///
+/// Returns an error if memory runs out.
 pub(crate) fn places_of(alloc: Global, params: &[Param]) -> Result<Places, AllocError>
     ensures { IfOk result (λ places. places ≡ spec.marks_of (kinds_of params.now)) }
 {
@@ -36,7 +40,7 @@ pub(crate) fn places_of(alloc: Global, params: &[Param]) -> Result<Places, Alloc
     Ok(Places { table, readers })
 }
 
-// The next number; an error where there is none.
+// Returns the next number; an error on overflow.
 fn next(number: u32) -> Result<u32, AllocError>
     ensures { IfOk result (λ next. next ≡ number + 1) }
 {

@@ -11,7 +11,11 @@ use cw_code::code::Site;
 use cw_tree::resolved::{Call, Function, Line, Stmt};
 use std::alloc::{AllocError, Global};
 
-/// The call sites of functions, in source order.
+/// Returns the call sites of functions, in source order.
+///
+/// # Errors
+///
+/// Returns an error if memory runs out.
 pub(crate) fn sites_of(alloc: Global, functions: &[Function]) -> Result<Vec<Site>, AllocError>
     ensures { IfOk result (λ sites. seen_sites sites.items ≡ written.sites_of functions.now) }
 {
@@ -22,7 +26,7 @@ pub(crate) fn sites_of(alloc: Global, functions: &[Function]) -> Result<Vec<Site
     Ok(sites)
 }
 
-// The call sites of a block, in source order.
+// Appends the call sites of a block, in source order.
 #[cycle(sites)]
 fn sites_in(alloc: Global, sites: &mut Vec<Site>, lines: &[Line]) -> Result<(), AllocError>
     ensures { AddsSites sites.old sites.new (spec.emitted_sites_in (block_of lines.now)) result }
@@ -33,7 +37,7 @@ fn sites_in(alloc: Global, sites: &mut Vec<Site>, lines: &[Line]) -> Result<(), 
     Ok(())
 }
 
-// The call sites of a statement of this line, in source order.
+// Appends the call sites of a statement in this line, in source order.
 #[cycle(sites)]
 fn sites_at(alloc: Global, sites: &mut Vec<Site>, line: u32, stmt: &Stmt) -> Result<(), AllocError>
     ensures { AddsSites sites.old sites.new (spec.emitted_sites line (stmt_of stmt.now)) result }
@@ -63,7 +67,7 @@ fn sites_at(alloc: Global, sites: &mut Vec<Site>, line: u32, stmt: &Stmt) -> Res
     }
 }
 
-// The call site of a call of this line, with the name that it calls.
+// Returns the call site of a call in this line, with the name of its callee.
 fn site_of(alloc: Global, line: u32, c: &Call) -> Result<Site, AllocError>
     ensures { IfOk result (λ made. code.site_view made ≡ call_site line c.now) }
 {

@@ -1,4 +1,4 @@
-//! How many slots of each kind a function has.
+//! The numbers of slots of a function.
 
 ghost use Rattle.std.specs.Prelude.{◌≡◌, suc, max};
 ghost use Rattle.cw_gen.specs.Emit as spec;
@@ -10,7 +10,7 @@ use cw_loops::tree::{Line, Stmt};
 use cw_model::syntax::NameKind;
 use cw_tree::resolved::Param;
 
-/// How many parameters are integers.
+/// Returns the number of integer parameters.
 pub(crate) fn count_ints(params: &[Param]) -> usize
     ensures { result ≡ marks.count_ints (kinds_of params.now) }
 {
@@ -23,7 +23,7 @@ pub(crate) fn count_ints(params: &[Param]) -> usize
     count
 }
 
-/// How many parameters are arrays.
+/// Returns the number of array parameters.
 pub(crate) fn count_arrays(params: &[Param]) -> usize
     ensures { result ≡ marks.count_arrays (kinds_of params.now) }
 {
@@ -37,7 +37,7 @@ pub(crate) fn count_arrays(params: &[Param]) -> usize
     count
 }
 
-/// How many parameters are arrays that a call takes.
+/// Returns the number of array parameters that a call takes.
 pub(crate) fn count_taken(params: &[Param]) -> usize
     ensures { result ≡ marks.count_taken (kinds_of params.now) }
 {
@@ -50,7 +50,7 @@ pub(crate) fn count_taken(params: &[Param]) -> usize
     count
 }
 
-/// How many parameters are arrays that a call is lent.
+/// Returns the number of array parameters that a call is lent.
 pub(crate) fn count_readers(params: &[Param]) -> usize
     ensures { result ≡ marks.count_readers (kinds_of params.now) }
 {
@@ -63,7 +63,7 @@ pub(crate) fn count_readers(params: &[Param]) -> usize
     count
 }
 
-// So many slots, or those up to this one.
+// Returns the number of slots, increased if this slot is not among them.
 fn with_slot(count: usize, slot: u32) -> usize
     ensures { result ≡ max count (suc slot) }
 {
@@ -71,7 +71,7 @@ fn with_slot(count: usize, slot: u32) -> usize
     if count < next { next } else { count }
 }
 
-/// How many slots of integers there are, where so many are before a block.
+/// Returns the number of integer slots after a block, if there were `count` before.
 #[cycle(ints)]
 pub(crate) fn ints_in_block(count: usize, lines: &[Line]) -> usize
     ensures { result ≡ spec.ints_in_block count (view.block_of lines.now) }
@@ -83,7 +83,7 @@ pub(crate) fn ints_in_block(count: usize, lines: &[Line]) -> usize
     n
 }
 
-// The same of a statement.
+// Returns the number of integer slots after a statement, if there were `n` before.
 #[cycle(ints)]
 fn ints_in(n: usize, stmt: &Stmt) -> usize
     ensures { result ≡ spec.ints_in n (view.stmt_of stmt.now) }
@@ -107,7 +107,7 @@ fn ints_in(n: usize, stmt: &Stmt) -> usize
     }
 }
 
-/// How many array slots there are, where so many are before a block.
+/// Returns the number of array slots after a block, if there were `count` before.
 #[cycle(arrays)]
 pub(crate) fn arrays_in_block(count: usize, lines: &[Line]) -> usize
     ensures { result ≡ spec.arrays_in_block count (view.block_of lines.now) }
@@ -119,7 +119,7 @@ pub(crate) fn arrays_in_block(count: usize, lines: &[Line]) -> usize
     n
 }
 
-// The same of a statement.
+// Returns the number of array slots after a statement, if there were `n` before.
 #[cycle(arrays)]
 fn arrays_in(n: usize, stmt: &Stmt) -> usize
     ensures { result ≡ spec.arrays_in n (view.stmt_of stmt.now) }

@@ -1,6 +1,6 @@
-//! From statements to instructions.
+//! Generates the code of statements.
 //!
-//! `first` is the number of the first list of array slots that is a function's.
+//! `first` is the number of the first list of array slots that belongs to a function.
 
 ghost use Rattle.std.specs.Prelude.{◌≡◌, ◌≤◌, length, IfOk};
 ghost use Rattle.cw_gen.specs.Emit as spec;
@@ -17,7 +17,11 @@ use cw_code::code::{BlockKind, Callee, Halves, Inner, Instr};
 use cw_loops::tree::{Begin, Call, Cut, Expr, Line, Stmt};
 use std::alloc::AllocError;
 
-/// The code of statements in order, and whether the last of them surely returns.
+/// Appends the code of statements in order, and returns whether the last of them surely returns.
+///
+/// # Errors
+///
+/// Returns an error if memory runs out.
 #[cycle(emit)]
 pub(crate) fn block(
     instrs: &mut Vec<Instr>,
@@ -35,7 +39,7 @@ pub(crate) fn block(
     Ok(returns)
 }
 
-// The code of a statement of this line, and whether it surely returns.
+// Appends the code of a statement in this line, and returns whether it surely returns.
 #[cycle(emit)]
 fn statement(
     instrs: &mut Vec<Instr>,
@@ -102,7 +106,7 @@ fn statement(
     }
 }
 
-// The code of a statement of this line with no block in it and no return.
+// Appends the code of a statement in this line that has no inner block and is no return.
 fn alone(
     instrs: &mut Vec<Instr>,
     first: usize,
@@ -147,7 +151,7 @@ fn alone(
     }
 }
 
-// The code of a return, with its value if it has one.
+// Appends the code of a return, with its value if it has one.
 fn returned(
     instrs: &mut Vec<Instr>,
     places: &Places,
@@ -162,7 +166,7 @@ fn returned(
     }
 }
 
-// A call: its arguments from left to right, and then its instruction.
+// Appends the code of a call: its arguments from left to right, and then its instruction.
 fn call(instrs: &mut Vec<Instr>, places: &Places, line: u32, c: &Call) -> Result<(), AllocError>
     ensures { Adds instrs.old instrs.new (written_call places.now line c.now) result }
 {
@@ -178,7 +182,8 @@ fn call(instrs: &mut Vec<Instr>, places: &Places, line: u32, c: &Call) -> Result
     put(instrs, Instr::Call(c.kind, callee))
 }
 
-// The first call of a loop's function: the ends of its range, what it takes along, and then its instruction.
+// Appends the first call of a loop's function: the ends of its range, the captured integers, and then its
+// instruction.
 fn begin(
     instrs: &mut Vec<Instr>,
     first: usize,
@@ -198,7 +203,7 @@ fn begin(
     put(instrs, Instr::Start(whole, line))
 }
 
-// A block that is passed over where the last operand is 0.
+// Appends the code of a block that is skipped if the last operand is 0.
 #[cycle(emit)]
 fn passed_over(
     instrs: &mut Vec<Instr>,
@@ -214,7 +219,11 @@ fn passed_over(
     Ok(())
 }
 
-/// A sync block.
+/// Appends the code of a sync block.
+///
+/// # Errors
+///
+/// Returns an error if memory runs out.
 #[cycle(emit)]
 pub(crate) fn inside(
     instrs: &mut Vec<Instr>,
@@ -230,7 +239,7 @@ pub(crate) fn inside(
     put(instrs, Instr::Close)
 }
 
-// A cut at the last operand, the block that has its parts, and its end.
+// Appends the code of a cut: the cut at the last operand, the block in which its parts are known, and its end.
 #[cycle(emit)]
 fn cut(
     instrs: &mut Vec<Instr>,
@@ -254,7 +263,7 @@ fn cut(
     Ok(())
 }
 
-// A block that goes back to its test, which starts at this place.
+// Appends the code of a block that jumps back to its test; the test begins at `start`.
 #[cycle(emit)]
 fn turn(
     instrs: &mut Vec<Instr>,

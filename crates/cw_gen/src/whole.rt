@@ -1,4 +1,4 @@
-//! The code of a whole tree.
+//! Generates the code of a whole tree.
 
 ghost use Rattle.std.specs.Prelude.{◌≡◌, ◌+◌, ◌≤◌, [], length, map, slice_get, IfOk, OnOk};
 ghost use Rattle.cw_code.specs.Code as code;
@@ -18,7 +18,11 @@ use cw_model::syntax::Name;
 use cw_tree::resolved::{self, Function, Tree};
 use std::alloc::{AllocError, Global};
 
-/// The code of a tree whose loops are lowered, with the call sites of its source.
+/// Returns the code of a tree with lowered loops, with the call sites of its source.
+///
+/// # Errors
+///
+/// Returns an error if memory runs out.
 pub(crate) fn emit(alloc: Global, core: &Core, sites: Vec<Site>) -> Result<Code, AllocError>
     requires small { IsSmallTree core.now.source.typed.tree core.now.tree }
     requires sites { seen_sites sites.items ≡ sites_of core.now.source.typed.tree.functions.items }
@@ -47,7 +51,7 @@ pub(crate) fn emit(alloc: Global, core: &Core, sites: Vec<Site>) -> Result<Code,
     })
 }
 
-// The code of all functions of a tree.
+// Appends the code of all functions of a tree.
 fn functions(
     alloc: Global,
     instrs: &mut Vec<Instr>,
@@ -75,7 +79,7 @@ fn functions(
     Ok(())
 }
 
-// The lists of array slots of all functions of a tree.
+// Returns the lists of array slots of all functions of a tree.
 fn lists(
     alloc: Global,
     first: usize,
@@ -95,7 +99,7 @@ fn lists(
     Ok(lists)
 }
 
-// The loans of all functions of a tree.
+// Returns the loans of all functions of a tree.
 fn loans(
     alloc: Global,
     first: usize,
@@ -111,7 +115,7 @@ fn loans(
     Ok(lists)
 }
 
-// The line of the head of a function; 0 where there is none.
+// Returns the line of the head of a function, or 0 if there is no such function.
 fn head_line(functions: &[Function], function: u32) -> u32
     ensures { result ≡ spec.head_line (slice_get (map view.function_of functions.now) function) }
 {
@@ -123,7 +127,7 @@ fn head_line(functions: &[Function], function: u32) -> u32
     }
 }
 
-// Reducers with their names and how they reduce.
+// Returns the reducers with their names and reductions.
 fn reducers_of(alloc: Global, reducers: &[resolved::Reducer]) -> Result<Vec<Reducer>, AllocError>
     ensures { IfOk result (λ kept. kept.items ≡ kept_reducers reducers.now) }
 {
@@ -135,7 +139,7 @@ fn reducers_of(alloc: Global, reducers: &[resolved::Reducer]) -> Result<Vec<Redu
     Ok(kept)
 }
 
-// The names of tags.
+// Returns the names of the tags.
 fn tags_of(alloc: Global, tags: &[Name]) -> Result<Vec<Name>, AllocError>
     ensures { IfOk result (λ names. names.items ≡ tags.now) }
 {

@@ -1,4 +1,4 @@
--- The codes of a tree cut it into as many strands as the words say.
+-- The codes of a tree divide it into the stated number of strands.
 use Rattle.std.proofs.Common.{◌≡◌, ◌+◌, ◌*◌, true, false, [], ◌∷◌, ◌++◌, arith}
 use Rattle.cw_model.specs.Trees.{Tree, Leaf, Seq, Par, Marked, Invocation, Execution}
 use Rattle.cw_greedy.specs.declared.code.Code.TheVariants.{Ended, Joined, Called}

@@ -1,4 +1,4 @@
--- The ready strands before one, in serial order.
+-- The ready strands before one strand, in serial order.
 use Rattle.std.proofs.Common.{◌≡◌, ℕ, zero, suc, ◌+◌, arith, refl, sym, ap, subst, inl, inr, List, [], ◌∷◌, ◌++◌}
 use Rattle.std.specs.Prelude.{map}
 use Rattle.std.proofs.lemmas.List.{length-append, length-map}
@@ -10,7 +10,7 @@ use Rattle.cw_greedy.proofs.Edges.{weight_at_most, moves, ready_in_first, ready_
 use Rattle.cw_greedy.proofs.Edges.{ready_in_rest, ready_of_rest, ready_in_marked, ready_of_marked}
 use Rattle.cw_greedy.proofs.Steps.{by_done}
 
--- places in a first part, and then places in a second part
+-- places of the first part, then places of the second part
 abbrev both : List Place → List Place → List Place
 both ps qs = map First ps ++ map Second qs
 
@@ -38,7 +38,7 @@ in_order [] [] h k = tt
 in_order [] (x ∷ qs) h k = (from_both (IsEarlier (Second x)) [] qs (λ p i. absurd i) k.0, in_order [] qs h k.1)
 in_order (x ∷ ps) qs h k = (from_both (IsEarlier (First x)) ps qs h.0 (λ q i. tt), in_order ps qs h.1 k)
 
--- what the two parts of a whole have, the whole has
+-- the places with a property in both parts are the places with the property in the whole
 exactly_both : (P Q R : Place → Type 0) (n m : ℕ) → AreExactly P n → AreExactly Q m → (R Here → ⊥) → ((p : Place) → P p → R (First p)) → ((p : Place) → R (First p) → P p) →
     ((q : Place) → Q q → R (Second q)) → ((q : Place) → R (Second q) → Q q) → AreExactly R (n + m)
 exactly_both P Q R n m h k not of_p in_p of_q in_q =
@@ -114,7 +114,7 @@ all_ready (Par child rest) =
 all_ready (Marked mark t) =
     exactly_same (IsReady t) (IsReady (Marked mark t)) (ready t) (all_ready t) (λ p r. ready_of_marked mark t p r) (λ p r. ready_in_marked mark t p r)
 
--- those before one
+-- all ready strands before one
 before : (t : Tree) (p : Place) → IsLeaf t p → AreExactly (IsReadyBefore t p) (ready_before t p)
 before (Leaf k) Here h = exactly_none (IsReadyBefore (Leaf k) Here) (λ q r. not q r.1)
   where

@@ -1,4 +1,4 @@
--- What the loop of the algorithm keeps.
+-- The invariant of the algorithm's loop.
 use Rattle.std.proofs.Common.{ℕ, ◌≤◌, arith, ap, ◌∙◌}
 use Rattle.cw_greedy.specs.Greedy.{greedy_length}
 use Rattle.cw_greedy.specs.Jumping.{Going, to_do, run, Released}

@@ -1,4 +1,4 @@
--- What the record of a run's strands stands for.
+-- The meaning of the record of a run's strands.
 use Rattle.std.specs.Prelude.{ℕ, zero, suc, ◌+◌, ◌≡◌, List, [], ◌∷◌, Ok, Err}
 use Rattle.cw_model.specs.Trees.{Tree}
 use Rattle.cw_greedy.specs.declared.code.Code.{Code}
@@ -6,13 +6,13 @@ use Rattle.cw_greedy.specs.declared.code.Code.TheVariants.{Instructions, Spawned
 use Rattle.cw_greedy.specs.Recorded.{Recorded}
 use Rattle.cw_greedy.specs.Blocks.{AsChild, codes_of}
 
--- so many instructions before some codes
+-- puts instructions before codes
 abbrev pub instructions_before : ℕ → List Code → List Code
 instructions_before zero codes = codes
 instructions_before (suc n) (Instructions m ∷ codes) = Instructions (suc n + m) ∷ codes
 instructions_before (suc n) codes = Instructions (suc n) ∷ codes
 
--- neighbouring instructions as one, and none where there are none
+-- merges adjacent instructions, and removes empty ones
 abbrev pub merged : List Code → List Code
 merged [] = []
 merged (Instructions n ∷ codes) = instructions_before n (merged codes)
@@ -21,7 +21,7 @@ merged (Ended ∷ codes) = Ended ∷ merged codes
 merged (Joined ∷ codes) = Joined ∷ merged codes
 merged (Called ∷ codes) = Called ∷ merged codes
 
--- a run with this strand tree is recorded so, however its instructions are counted together
+-- the codes are the record of a run with this strand tree, for every division of instructions into codes
 abbrev pub IsRecordOf : Tree → Recorded → Type 0
 IsRecordOf t (Err n) = ⊥
 IsRecordOf t (Ok codes) = merged codes ≡ merged (codes_of AsChild t)

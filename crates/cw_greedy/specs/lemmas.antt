@@ -1,2 +1,2 @@
--- Lemmas on boards as lists, which the proofs of crates above cite.
+-- Lemmas about boards as lists, for the proofs of the crates above.
 pub mod Slots

@@ -1,4 +1,4 @@
-//! Lists of chunks of entries, whose chunks change hands.
+//! Lists of chunks of entries. A join moves chunks.
 
 ghost use Rattle.std.specs.Prelude.{◌≡◌, ◌++◌, [], IfOk, OnOk};
 ghost use Rattle.cw_greedy.specs.Entries.{codes_kept, codes_of_chunks};
@@ -8,11 +8,14 @@ use std::alloc::AllocError;
 use std::collections::VecDeque;
 use std::mem;
 
-// The entries of a full chunk, which takes 65,536 bytes.
+// The number of entries of a full chunk, which takes 65,536 bytes.
 const CHUNK: usize = 4_096;
 
-/// Makes room for an entry behind the others: a full chunk is closed, and the next one has all its room from the start.
-/// The error is want of memory, after which the entries are as they were.
+/// Makes room for one more entry: closes a full chunk, and allocates the next one in full.
+///
+/// # Errors
+///
+/// Returns an `AllocError` if memory runs out. The entries are then unchanged.
 pub(crate) fn make_room(
     chunks: &mut VecDeque<Vec<Entry>>,
     last: &mut Vec<Entry>,
@@ -27,7 +30,7 @@ pub(crate) fn make_room(
     Ok(())
 }
 
-// The chunk that is written goes behind the closed ones, and an empty one is in its place.
+// Appends the current chunk to the closed chunks, and replaces it by an empty one.
 fn close(
     chunks: &mut VecDeque<Vec<Entry>>,
     last: &mut Vec<Entry>,
@@ -43,8 +46,11 @@ fn close(
     Ok(())
 }
 
-/// The closed chunks, and the one that is written behind them, unless it is empty. The error is want of memory, after
-/// which none is kept.
+/// Returns the closed chunks followed by the current one, unless that is empty.
+///
+/// # Errors
+///
+/// Returns an `AllocError` if memory runs out. No chunk is kept then.
 pub(crate) fn all_closed(
     chunks: VecDeque<Vec<Entry>>,
     last: Vec<Entry>,
@@ -59,8 +65,11 @@ pub(crate) fn all_closed(
     Ok(chunks)
 }
 
-/// The chunks of one list and then of another: the shorter list goes into the longer one. The error is want of memory,
-/// after which none is kept.
+/// Returns the chunks of both lists, in order. The shorter list is moved into the longer one.
+///
+/// # Errors
+///
+/// Returns an `AllocError` if memory runs out. No chunk is kept then.
 pub(crate) fn one_behind(
     first: VecDeque<Vec<Entry>>,
     more: VecDeque<Vec<Entry>>,
@@ -77,7 +86,7 @@ pub(crate) fn one_behind(
     Ok(more)
 }
 
-// The chunks of the first list go in front of the others.
+// Moves the chunks of the first list before the others.
 fn put_before(
     first: &mut VecDeque<Vec<Entry>>,
     more: &mut VecDeque<Vec<Entry>>,

@@ -1,25 +1,25 @@
-//! What a run records of its strands, as it is stored: each cut with the instructions before it.
+//! The stored form of the record of a run's strands: each cut with the instructions before it.
 
-/// What cuts a strand off.
+/// The event that ends a strand.
 #[derive(Debug, Clone, Copy, Drop)]
 pub enum Cut {
-    /// Nothing: the strand goes on.
+    /// No event: the strand continues.
     Nothing,
-    /// A spawned child begins; whether it is the first of its sync block.
+    /// A spawned child begins. The flag is true for the first child of its sync block.
     Spawned(bool),
-    /// That child has ended, and the rest of its sync block begins.
+    /// The spawned child ended, and the continuation of its sync block begins.
     Ended,
     /// All children of the sync block are joined.
     Joined,
-    /// A call of a call statement begins or has returned.
+    /// A call of a call statement begins or returned.
     Called,
 }
 
-/// So many instructions one after another, and the cut behind them. Takes 16 bytes.
+/// A number of instructions and the cut after them. Takes 16 bytes.
 #[derive(Debug, Clone, Copy, Drop)]
 pub struct Entry {
-    /// The instructions since the entry before.
+    /// The number of instructions since the previous entry.
     pub before: u64,
-    /// What comes behind them.
+    /// The cut after them.
     pub cut: Cut,
 }

@@ -1,4 +1,4 @@
-//! The laws of the definitions: each function has one as its contract, and does nothing.
+//! The laws of the definitions. Each function states a law as its contract, and does nothing.
 
 ghost use Rattle.std.specs.Prelude.{ℕ, ◌≤◌, ◌≡◌};
 ghost use Rattle.cw_model.specs.Trees.{Tree};
@@ -14,71 +14,75 @@ ghost use Rattle.cw_greedy.specs.Jumping.{CanBeCounted, Going, JumpsAreGreedy};
 ghost use Rattle.cw_greedy.specs.Slots.{ShowsBoard};
 ghost use Rattle.cw_greedy.specs.Rounds.{RoundsKeep};
 
-/// A greedy schedule is no shorter than the work for each processor and than the span, and no longer than both.
+/// States that the length of a greedy schedule is at least the work per processor and at least the span, and at most
+/// their sum.
 pub fn greedy_is_bounded()
     ensures { (p : ℕ) (t : Tree) → 1 ≤ p → GreedyIsBounded p t }
 {}
 
-/// On more processors than a run has spawns no ready strand waits, and the schedule is as long as the span.
+/// States that with more processors than spawns no ready strand waits, and the length of the schedule is the span.
 pub fn nobody_waits()
     ensures { NobodyWaits }
 {}
 
-/// As long as each strand that runs has an instruction left, steps may be taken at once.
+/// States that steps may be combined into one jump as long as each executing strand has an instruction left.
 pub fn steps_at_once()
     ensures { StepsAtOnce }
 {}
 
-/// Trees that differ only in how series are grouped, how strands are cut, and where strands of no instructions stand,
-/// have greedy schedules of the same length.
+/// States that trees that differ only in the grouping of series, the division into strands, and the positions of
+/// empty strands have greedy schedules of the same length.
 pub fn regrouped_trees_take_as_long()
     ensures { (p : ℕ) (t u : Tree) → Regrouped t u → greedy_length p t ≡ greedy_length p u }
 {}
 
-/// The moves of the algorithm, in any order, take as many steps as the greedy schedule.
+/// States that the number of steps of the algorithm's moves, in any order, is the length of the greedy schedule.
 pub fn jumps_are_greedy()
     ensures { JumpsAreGreedy }
 {}
 
-/// A step lets the first ready strands in serial order do one instruction each, and no other strand. A strand is ready if
-/// some of its instructions are left and all strands with an edge of the dag into it are done. It is among the first if
-/// fewer than `processors` ready strands come before it in serial order.
+/// States that in a step the first ready strands in serial order execute one instruction each, and no other strand
+/// does. A strand is ready if some of its instructions are left and all strands with an edge of the dag into it are
+/// done. It is among the first if fewer than `processors` ready strands come before it in serial order.
 pub fn steps_go_by_edges()
     ensures { (processors : ℕ) (t : Tree) (p : Place) → IsLeaf t p → StepsByEdges processors t p }
 {}
 
-/// The same of the strand tree of a run, seen as a block.
+/// States that the number of steps of the algorithm's moves on the block of a strand tree is the length of the tree's
+/// greedy schedule.
 pub fn trees_go_by_jumps()
     ensures { TreesByJumps }
 {}
 
-/// However the events of a sync block are cut, the codes of the pieces are those of the whole.
+/// States that the codes of the pieces of a sync block's events, concatenated, are the codes of the whole, for every
+/// division.
 pub fn records_join()
     ensures { RecordsJoin }
 {}
 
-/// A run that has joined has as many strands by its record as by its tree.
+/// States that after all joins, the record of a run and the run's tree have the same number of strands.
 pub fn records_count_strands()
     ensures { RecordsCount }
 {}
 
-/// A run has one strand, two more for each call of a call statement, two for each spawn and one for each join before
-/// which something was spawned.
+/// States that a run has one strand, two more for each call of a call statement, two more for each spawn, and one
+/// more for each join that follows a spawn.
 pub fn strands_are_counted()
     ensures { StrandsAreCounted }
 {}
 
-/// A jump needs no more of a state than the list of its strands, with what is left of the ready ones.
+/// States that a jump needs only the list of a state's strands, with the instructions left of the ready ones.
 pub fn lists_show_boards()
     ensures { (g : Going) → ShowsBoard g }
 {}
 
-/// The moves of the algorithm come to an end.
+/// States that the algorithm terminates.
 pub fn jumps_end()
     ensures { CanBeCounted }
 {}
 
-/// What the loop of the algorithm keeps, as its board shows it: the steps so far, and those that the state still takes.
+/// States the invariant of the algorithm's loop on its board: the number of steps so far, plus the number of steps
+/// from the current state on.
 pub fn rounds_keep_the_length()
     ensures { (p : ℕ) → 1 ≤ p → RoundsKeep p }
 {}

@@ -1,4 +1,4 @@
-//! What a piece of a run keeps of its strand dag, to be joined with the pieces beside it.
+//! The record of the strands of a piece of a run, which can be joined with the records of adjacent pieces.
 
 ghost use Rattle.std.specs.Prelude.{◌≡◌, ◌<◌, ◌≤◌, ◌++◌, ◌∷◌, [], Ok, Err, IfOk, OnErr, OnOk, IsOk, IsTrue, ◌↔◌};
 ghost use Rattle.cw_greedy.specs.Entries.{code_of_cut, codes_kept, codes_of_chunks, codes_of_entry, entry};
@@ -14,16 +14,15 @@ use std::alloc::{AllocError, Global};
 use std::collections::VecDeque;
 use std::marker::Model;
 
-/// The strands of a piece of a run as entries in serial order, or how many they are, where they are too many. Entries
-/// stand in chunks: where two pieces are joined, chunks change hands, and no entry is copied.
+/// The strands of a piece of a run, as entries in serial order, or their number if there are too many. The entries
+/// are in chunks: a join of two pieces moves chunks and copies no entry.
 #[derive(Debug, Drop)]
 pub struct Piece {
-    // Those that are closed, in serial order; none is empty.
+    // The closed chunks, in serial order; none is empty.
     chunks: VecDeque<Vec<Entry>>,
-    // The one that is written.
+    // The chunk that is being filled.
     last: Vec<Entry>,
-    // The strands that begin in the piece, of which entries are kept where they are few enough; 2^64 - 1 where they are
-    // as many or more.
+    // The number of strands that begin in the piece, at most 2^64 - 1. Entries are kept only below the maximum.
     cuts: u64,
     ghost counted: { cuts < MOST_STRANDS → cuts
         ≡ Rattle.cw_greedy.specs.Recorded.cuts (codes_kept chunks.items last.items) },
@@ -39,7 +38,7 @@ impl Model for Piece {
 }
 
 impl Piece {
-    /// No strands. Takes no memory.
+    /// Returns a record without strands. Allocates no memory.
     pub fn new(alloc: Global) -> Piece
         ensures { result ≡ Ok [] }
     {
@@ -50,7 +49,7 @@ impl Piece {
         }
     }
 
-    // So many strands, which are too many. Takes no memory.
+    // Returns a record of too many strands. Allocates no memory.
     fn too_many(alloc: Global, cuts: u64) -> Piece
         requires { MOST_STRANDS ≤ cuts }
         ensures { result ≡ Err (capped cuts) }
@@ -62,15 +61,18 @@ impl Piece {
         }
     }
 
-    // Whether nothing is kept.
+    // Returns whether the record is empty.
     fn is_empty(&self) -> bool
         ensures { IsTrue result → self.now ≡ Ok [] }
     {
         self.cuts == 0 && self.chunks.is_empty() && self.last.is_empty()
     }
 
-    /// So many instructions more, and a cut behind them. Where the strands are too many they are counted on, and nothing
-    /// else is kept. The error is want of memory, after which all is kept but these.
+    /// Appends a number of instructions and the cut after them. If there are too many strands, it only counts them.
+    ///
+    /// # Errors
+    ///
+    /// Returns an `AllocError` if memory runs out. The record is then unchanged.
     pub fn note(&mut self, before: u64, cut: Cut) -> Result<(), AllocError>
         ensures noted { OnOk result
             (self.new ≡ followed self.old (Ok (codes_of_entry (entry before cut)))) }
@@ -87,8 +89,11 @@ impl Piece {
         Ok(())
     }
 
-    /// The strands of a whole run, of which all pieces are joined. The error is want of memory, after which nothing is
-    /// kept.
+    /// Returns the strands of a whole run, for the record of all its pieces.
+    ///
+    /// # Errors
+    ///
+    /// Returns an `AllocError` if memory runs out. Nothing of the record is kept then.
     pub fn finish(self) -> Result<Strands, AllocError>
         ensures { IfOk result (λ strands. strands ≡ self) }
     {
@@ -100,7 +105,7 @@ impl Piece {
     }
 }
 
-// The strands that begin with a cut.
+// Returns the number of strands that begin with a cut.
 fn cut_by(cut: Cut) -> u64
     ensures value { result ≡ cuts (code_of_cut cut) }
     ensures small { result ≤ 1 }

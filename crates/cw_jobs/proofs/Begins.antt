@@ -1,4 +1,4 @@
--- The job of a whole run begins well.
+-- The job of a whole run begins in a good state.
 use Rattle.std.proofs.Common.{◌≡◌, inl, ⊎_elim, ℕ, zero, suc, ◌+◌, ◌-◌, ◌<◌, ◌≤◌, ℤ, pos, true, Option, Some, None, List, [], ◌∷◌, ◌++◌, length, refl, sym, ap, ◌∙◌, subst, arith}
 use Rattle.std.specs.Prelude.{replicate, slice_get}
 use Rattle.std.proofs.lemmas.List.{length-map, length-replicate}
@@ -21,7 +21,7 @@ use Rattle.cw_slices.specs.Placed.{Placed, IsOwn}
 use Rattle.cw_jobs.specs.Calls.{cell, placed, Keeps, HasArrays, HasReaders, HoldsCall}
 use Rattle.cw_jobs.specs.Jobs.{Ok, OwnsSlots, IsJob, IsSound, is_asked, IsRootOf, IsFirst, code_of}
 
--- there is a main
+-- there is a `main`
 pub record Main (v : Verified) : Type 0 where
   pub func : Func
   pub found : slice_get (code_view v.code).funcs v.code.main ≡ Some func
@@ -36,14 +36,14 @@ main_of v ok = at (slice_get (code_view v.code).funcs v.code.main) refl
 pub main_there : (v : Verified) → Ok v → v.code.main < length v.code.funcs.items
 main_there v ok = let main = main_of v ok in slice_get_within (code_view v.code).funcs v.code.main main.func main.found
 
--- the function that was found is main
+-- the function that was found is `main`
 pub main_same : (v : Verified) (f g : Func) → slice_get (code_view v.code).funcs v.code.main ≡ Some f → slice_get (code_view v.code).funcs v.code.main ≡ Some g → f ≡ g
 main_same v f g e h = same_Some f g (sym e ∙ h)
 
 pub params_same : (v : Verified) (f : Func) → slice_get (code_view v.code).funcs v.code.main ≡ Some f → main_params (code_view v.code) ≡ f.params
 params_same v f e = ap params_of e
 
--- what was asked for is in range
+-- the request is in range
 pub record InRange (params count n : ℕ) (burden : Burden) : Type 0 where
   pub count_is : count ≡ params
   pub least : 1 ≤ n
@@ -53,7 +53,7 @@ pub record InRange (params count n : ℕ) (burden : Burden) : Type 0 where
 pub in_range : (params count n : ℕ) (burden : Burden) → is_asked params count n burden ≡ true → InRange params count n burden
 in_range params count n burden h = record { count_is = grind (arith, nat_tests, h); least = grind (arith, nat_tests, h); most = grind (arith, nat_tests, h); light = grind (arith, nat_tests, h) }
 
--- a list holds itself
+-- a list of full slots holds its own values
 keeps_full : (cells : List ℤ) (a : ℕ) (v : ℤ) → slice_get (full cells) a ≡ Some (Some v) → cell cells a ≡ v
 keeps_full [] a v e = cc
 keeps_full (x ∷ cells) zero v e = same_Some x v (same_Some (Some x) (Some v) e)
@@ -92,7 +92,7 @@ module _ (v : Verified) (f : Func) (args : List ℤ) (r : Rest) (ok : Ok v) (fou
   owned : OwnsSlots v ok f.start r.slices.items (arrays_of f [])
   owned a lt = inl (first.empty a (omega (arith, lt, many_arrays))).1
 
-  -- there is no slice but those of the slots
+  -- the only slices are the slices of slots
   nowhere_own : (slices : List Placed) (a : ℕ) → length slices ≤ a → IsOwn (placed slices a)
   nowhere_own [] a le = refl
   nowhere_own (p ∷ slices) zero le = absurd (omega (arith, le))

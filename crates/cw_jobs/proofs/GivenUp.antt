@@ -8,6 +8,6 @@ use Rattle.cw_jobs.specs.Jobs.{Ok}
 use Rattle.cw_jobs.specs.Means.{MeansIt}
 use Rattle.cw_jobs.specs.lemmas.Homes.{unchanged_homes}
 
--- it means any job, and gives its arrays back
+-- the effect of a job that is given up means any job, and returns its arrays
 pub given_up : (v : Verified) (ok : Ok v) (p : Parts) (j : Job) → MeansIt v ok p (effect.GivenUp p.rest.slices) j
 given_up v ok p j = record { effect = Memory; means = Short refl; tells = tt; counts = tt; homes = unchanged_homes p.rest.slices.items }

@@ -1,4 +1,4 @@
--- Jobs and effects may be handed to other threads.
+-- Jobs and effects may go to another thread.
 use denote.Param.Send.{IsSend, sendable}
 use Rattle.std.proofs.Crossing.{crosses}
 use Rattle.cw_slices.specs.lemmas.Sent.{slice_send}

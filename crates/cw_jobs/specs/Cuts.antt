@@ -22,7 +22,7 @@ cut_slots [] = []
 cut_slots (Caller w ∷ around) = []
 cut_slots (Block o ∷ around) = slot_cut o.cut ++ cut_slots around
 
--- the slots of a cut are there and differ, and its parts are in no parameter's, and in no part's of a cut round it
+-- the slots of a cut exist and differ, and its parts are in no slot of a parameter or of a part of an enclosing cut
 pub record CutStands (slots params : ℕ) (h : Halves) (parts : List ℕ) : Type 0 where
   pub array_there : h.array < slots
   pub left_there : h.left < slots
@@ -37,7 +37,7 @@ abbrev pub CutStandsIn : (slots params : ℕ) → Option Halves → (parts : Lis
 CutStandsIn slots params None parts = Unit {0}
 CutStandsIn slots params (Some h) parts = CutStands slots params h parts
 
--- each cut that is open in a call with so many array slots, of which so many are parameters
+-- each open cut of a call with `slots` array slots and `params` parameters satisfies `CutStands`
 abbrev pub CutsStand : (slots params : ℕ) → List Around → Type 0
 CutsStand slots params [] = Unit {0}
 CutsStand slots params (Caller w ∷ around) = Unit {0}
@@ -48,12 +48,12 @@ CutsStand slots params (Block o ∷ around) =
 abbrev pub AreNone : List Placed → List ℕ → Type 0
 AreNone slices slots = (k a : ℕ) (p : Placed) → slice_get slots k ≡ Some a → slice_get slices a ≡ Some p → p.items ≡ []
 
--- the slots that wait for values are there
+-- the slots that wait for values exist
 abbrev pub AreThere : {A : Type 0} → (slots : ℕ) → Results A → Type 0
 AreThere slots [] = Unit {0}
 AreThere slots (r ∷ results) = (r.0 < slots) × AreThere slots results
 
--- and so in all blocks round this one in the same call
+-- the slots that wait for values exist in all blocks that enclose this one in the same call
 abbrev pub RoundThere : (slots arrays : ℕ) → List Around → Type 0
 RoundThere slots arrays [] = Unit {0}
 RoundThere slots arrays (Caller w ∷ around) = Unit {0}

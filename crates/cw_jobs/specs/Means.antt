@@ -19,18 +19,18 @@ use Rattle.cw_jobs.specs.Calls.{HoldsFrame}
 use Rattle.cw_jobs.specs.Jobs.{Ok, code_of, IsJob, KeepsHomes, KeepsEmpty, KeepsFixed}
 use Rattle.cw_jobs.specs.Totals.{HoldsTotals}
 
--- what a run has shown, as so many instructions
+-- a run has printed these lines and counted these totals, in `count` instructions
 pub record HasShown (code : Code) (shown : Shown) (t : Trace) (count : ℕ) : Type 0 where
   pub cost : shown.cost ≡ count
   pub lines : shown.lines.items ≡ t.lines
   pub totals : HoldsTotals code shown.totals.items t.updates
 
--- it is that a job was given up
+-- the effect of a job that was given up
 abbrev pub IsGivenUp : Effect → Type 0
 IsGivenUp (effect.GivenUp back) = Unit {0}
 IsGivenUp _ = ⊥
 
--- an effect tells one of the definitions: that a job was given up says no more than that memory was wanting
+-- an effect represents one of the definitions; a job that was given up is represented like one that ran out of memory
 abbrev pub Tells : (code : Code) → jobs.Job → Rest → Effect → jobs.Effect → Type 0
 Tells code j r (effect.Ended value shown) (jobs.Ended x arrays t cost) =
     (j.extent ≡ jobs.WholeCall) × (value ≡ x) × HasShown code shown t cost
@@ -43,8 +43,8 @@ Tells code j r (effect.Memory back) jobs.Memory = Unit {0}
 Tells code j r (effect.GivenUp back) jobs.Memory = Unit {0}
 Tells code j r _ _ = ⊥
 
--- the meter of an effect tells of what the effect shows, as much as its job keeps: that of a whole run with the call of main as its one event,
--- that of a rest with the events of its block
+-- the meter of an effect measures what the effect contains, as far as its job records it: for a whole run with the
+-- call of `main` as its only event, for a continuation with the events of its block
 abbrev pub Counts : (code : Code) → (detail : Detail) → (site : ℕ) → Effect → jobs.Effect → Type 0
 Counts code detail site (effect.Ended value shown) (jobs.Ended v arrays t cost) =
     (g : Gauge code) → g.detail ≡ detail → Meters g.detail g.tags Main cost [] (whole t) shown.meter
@@ -52,8 +52,8 @@ Counts code detail site (effect.Joined back replaced shown) (jobs.Joined frame t
     CountsEffect code detail site (jobs.Joined frame t cost) shown.meter
 Counts code detail site _ _ = Unit {0}
 
--- the arrays that an effect gives back come home; those of a whole call are its own, and of a run for which memory was
--- wanting nothing is said of them
+-- the arrays that an effect returns are in their places; the arrays of a whole call are its own, and nothing is
+-- stated about them for a run without enough memory
 abbrev pub ComeHome : (v : Verified) → Ok v → jobs.Job → Rest → Effect → Type 0
 ComeHome v ok j r (effect.Ended value shown) = Unit {0}
 ComeHome v ok j r (effect.Joined back replaced shown) =
@@ -63,7 +63,8 @@ ComeHome v ok j r (effect.OverLimit back) = KeepsHomes r.slices.items back.items
 ComeHome v ok j r (effect.Memory back) = Unit {0}
 ComeHome v ok j r (effect.GivenUp back) = KeepsHomes r.slices.items back.items []
 
--- an effect of the definitions means the job, and this one tells it, with its measures, and gives the job's arrays back
+-- some effect of the definitions means the job; this effect represents that one, with its measures, and returns the
+-- job's arrays
 pub record MeansIt (v : Verified) (ok : Ok v) (p : Parts) (e : Effect) (j : jobs.Job) : Type 0 where
   pub effect : jobs.Effect
   pub means : jobs.JobMeaning (code_view v.code) j effect
@@ -71,7 +72,8 @@ pub record MeansIt (v : Verified) (ok : Ok v) (p : Parts) (e : Effect) (j : jobs
   pub counts : Counts (code_view v.code) p.detail p.site e effect
   pub homes : ComeHome v ok j p.rest e
 
--- AN EFFECT MEANS A JOB, whichever of the definitions the job is: in the job's own code, of the values of the two alone
+-- AN EFFECT MEANS A JOB, whichever job of the definitions the job represents: in the job's own code, and depending
+-- only on the values of the two
 unfoldable pub IsMeaningOf : Job → Effect → Type 0
 IsMeaningOf job e =
     (ok : Ok (code_of job.parts.value)) (j : jobs.Job) → IsJob (code_of job.parts.value) ok job.parts.value j

@@ -1,4 +1,4 @@
--- What reducers come to, as runs keep it.
+-- The totals of reducers, as runs keep them.
 use Rattle.std.specs.Prelude.{◌≡◌, ℕ, ℤ, pos, ◌+ℤ◌, List, [], ◌∷◌, length, map, Option, Some, None, slice_get}
 use Rattle.std.specs.Int.{w64, w128, int_wrap}
 use Rattle.std.specs.Int.RustNames.{FitsSigned}
@@ -11,7 +11,7 @@ use Rattle.cw_model.specs.Answers.{or_greater, total_to}
 use Rattle.cw_code.specs.declared.code.Reducer.{Reducer}
 use Rattle.cw_code.specs.Code.{Code}
 
--- the number in the range of 128 bits that differs from this one by a multiple of 2^128
+-- the number in the range of 128 bits that differs from `z` by a multiple of 2^128
 abbrev pub wrapped : ℤ → ℤ
 wrapped z = int_wrap w128 z
 
@@ -20,32 +20,32 @@ abbrev pub kept : Total → Total
 kept (total.Sum v) = total.Sum (wrapped v)
 kept (total.Max v) = total.Max v
 
--- what a reducer comes to that was told nothing
+-- the total of a reducer before its first value
 abbrev pub nothing_told : Reduction → Total
 nothing_told Sum = total.Sum (pos 0)
 nothing_told Max = total.Max None
 
--- the greater of two values, where there are any
+-- the maximum of two values, of which either may be absent
 abbrev pub greater : Option ℤ → Option ℤ → Option ℤ
 greater None more = more
 greater (Some v) more = Some (or_greater v more)
 
--- two totals of one reducer as one
+-- two totals of one reducer combined
 abbrev pub joined_total : Total → Total → Total
 joined_total (total.Sum v) (total.Sum w) = total.Sum (wrapped (v +ℤ w))
 joined_total (total.Max v) (total.Max w) = total.Max (greater v w)
 joined_total t _ = t
 
--- what a reducer with this total comes to that is told a value more
+-- the total after one more value
 abbrev pub told : Total → ℤ → Total
 told (total.Sum v) w = total.Sum (wrapped (v +ℤ w))
 told (total.Max v) w = total.Max (Some (or_greater w v))
 
--- what reducers come to that were told nothing
+-- the totals of reducers before their first values
 abbrev pub none_told : List Reducer → List Total
 none_told reducers = map (λ r. nothing_told r.how) reducers
 
--- each value that was told is one of 64 bits
+-- each value of an update has 64 bits
 abbrev pub AllFit : List (Name × ℤ) → Type 0
 AllFit [] = Unit {0}
 AllFit (a ∷ updates) = FitsSigned w64 a.1 × AllFit updates

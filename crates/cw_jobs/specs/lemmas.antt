@@ -1,3 +1,3 @@
--- Lemmas on totals and on where arrays lie, which the proofs of crates above cite.
+-- Lemmas on totals and on the places of arrays, which the proofs of crates above cite.
 pub mod Totals
 pub mod Homes

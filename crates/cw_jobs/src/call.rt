@@ -1,49 +1,50 @@
-//! What a job is made of.
+//! The parts of a job.
 
 use cw_meter::Detail;
 use cw_runnable::verified::Verified;
 use cw_slices::Slice;
 use std::sync::Arc;
 
-/// How far the run of a job goes.
+/// The extent of a job: where its execution ends.
 #[derive(Clone, Copy, Debug)]
 pub enum Extent {
-    /// To the end of its call.
+    /// At the end of its call.
     WholeCall,
-    /// To before the join of the sync block that it begins in.
+    /// Before the join of the sync block in which it begins.
     ToJoin,
 }
 
-/// The frame of a call by itself, between two instructions: what is handed out at a spawn, and what comes back from a
-/// join.
+/// The frame of a call on its own, between two instructions: the continuation that is handed out at a spawn, and the
+/// frame that comes back from a join.
 #[derive(Drop)]
 pub struct Rest {
-    /// The place of its next instruction.
+    /// The pc of its next instruction.
     pub place: usize,
-    /// Its depth.
+    /// The depth of the call, 1 for `main`.
     pub depth: usize,
-    /// The values of its slots, and at a join its operands above them; a slot that a spawned call has taken holds
-    /// anything.
+    /// The values of its slots, and at a join its operands above them. A slot that a spawned call has taken holds an
+    /// arbitrary value.
     pub cells: Vec<i64>,
-    /// The arrays of its array slots; one that a spawned call has taken holds nothing.
+    /// The arrays of its array slots. An array slot that a spawned call has taken holds no array.
     pub slices: Vec<Slice>,
 }
 
-/// A call, or the rest of a sync block of one, to be run by itself.
+/// A call, or the continuation of a sync block of a call, to be executed on its own.
 #[derive(Drop)]
 pub struct Parts {
     /// A share of the code.
     pub code: Arc<Verified>,
-    /// How far it goes.
+    /// The extent of the job.
     pub extent: Extent,
-    /// Where it begins.
+    /// The frame in which it begins.
     pub rest: Rest,
-    /// The number of the call site of that call: all that its meter must be told of what is open round it.
+    /// The number of the call site of its call, which is all that its meter needs to know about the parts that
+    /// enclose it.
     pub site: u32,
-    /// How much is kept of the whole run.
+    /// How much is recorded of the whole run.
     pub detail: Detail,
     /// The limit of the whole run, in instructions.
     pub limit: u64,
-    /// The instructions that the run had done before this job.
+    /// The number of instructions that the run had executed before this job.
     pub before: u64,
 }

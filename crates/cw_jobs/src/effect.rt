@@ -1,4 +1,4 @@
-//! What a strand makes of its job.
+//! The effect of a job: what its strand returns.
 
 use crate::call::Rest;
 use cw_meter::Meter;
@@ -7,36 +7,36 @@ use cw_model::trap::Trap;
 use cw_slices::Slice;
 use std::collections::VecDeque;
 
-/// What a run has shown and counted.
+/// The lines that a run has printed, and its totals, meter and cost.
 #[derive(Drop)]
 pub struct Shown {
     /// The values printed, in order.
     pub lines: VecDeque<i64>,
-    /// For each reducer what it comes to.
+    /// The total of each reducer.
     pub totals: Vec<Total>,
-    /// Work, span, burdened span and all rows, of sites and of tags, where its job counts.
+    /// Work, span, burdened span and all rows of sites and tags, if its job counts them.
     pub meter: Meter,
-    /// The instructions that it did.
+    /// The number of instructions that it executed.
     pub cost: u64,
 }
 
-/// What a strand makes of its job. The arrays of the job's array slots come back, each in the memory in which it was given;
-/// of a call that ended none was.
+/// The result of executing a job. The arrays of the job's array slots come back, each in the memory in which it was
+/// given; a call that has ended was given none.
 #[derive(Drop)]
 pub enum Effect {
-    /// The call has ended, with its value if it gives one.
+    /// The call has ended, with its value if it returns one.
     Ended {
         value: Option<i64>,
         shown: Shown,
     },
-    /// The run is at the join of the block that it began in. Where a new array was made in a slot of the job, the job's own
-    /// is in `replaced`.
+    /// The run is at the join of the block in which it began. If a new array was made in a slot of the job,
+    /// `replaced` holds the job's own array.
     Joined {
         frame: Rest,
         replaced: Vec<Option<Slice>>,
         shown: Shown,
     },
-    /// A trap, with its line, what was printed before, and the instructions up to it.
+    /// A trap, with its line, what was printed before, and the number of instructions up to it.
     Trapped {
         trap: Trap,
         line: u32,
@@ -44,15 +44,15 @@ pub enum Effect {
         cost: u64,
         back: Vec<Slice>,
     },
-    /// The next instruction would have passed the limit of the run.
+    /// The next instruction would exceed the limit of the run.
     OverLimit {
         back: Vec<Slice>,
     },
-    /// Memory was wanting: nothing is known of it any more, nor of the arrays.
+    /// There was not enough memory: nothing is known of the job any more, nor of its arrays.
     Memory {
         back: Vec<Slice>,
     },
-    /// It was given up, where it stood or before it began: nothing else counts but that the arrays are back.
+    /// The job was given up, while it was executed or before it began. Only the arrays come back.
     GivenUp {
         back: Vec<Slice>,
     },

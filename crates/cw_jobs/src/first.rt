@@ -1,4 +1,4 @@
-//! How a whole run begins.
+//! The beginning of a whole run.
 
 ghost use Rattle.std.specs.Prelude.{◌≡◌, ◌≤◌, length, IfOk};
 ghost use Rattle.cw_jobs.specs.Jobs as jobs;
@@ -10,14 +10,15 @@ use cw_model::limits::{MOST_BURDEN, MOST_LIMIT};
 use cw_slices::Slice;
 use std::alloc::{AllocError, Global};
 
-/// Whether there are as many arguments as parameters, and the limit and the burden are in their ranges.
+/// Returns whether the number of arguments is the number of parameters, and the limit and the burden are in their
+/// ranges.
 pub fn is_asked(params: usize, count: usize, n: u64, burden: Burden) -> bool
     ensures { result ≡ jobs.is_asked params count n burden }
 {
     count == params && 1 <= n && n <= MOST_LIMIT && burden.charge <= MOST_BURDEN
 }
 
-// The frame of a function on these arguments, with no elements in its arrays.
+// Returns the frame of a function on these arguments, with empty arrays.
 pub(crate) fn first_rest(alloc: Global, f: &Func, args: &[i64]) -> Result<Rest, AllocError>
     requires { length args.now ≤ f.now.slots }
     ensures { IfOk result (λ r. jobs.IsFirst f.now args.now r) }

@@ -12,7 +12,7 @@ use cw_text::Fault;
 use std::alloc::Global;
 use std::sync::Arc;
 
-/// A call, or the rest of a sync block of one, to be run once, by any worker. It is a box already.
+/// A call, or the continuation of a sync block of a call, to be executed once, by any worker. It is a box.
 #[derive(Drop)]
 pub struct Job {
     pub parts: Box<Parts>,
@@ -27,12 +27,14 @@ impl Job {
     ghost use Rattle.cw_jobs.specs.Jobs.{IsRefused, IsRoot, IsRootOf};
     ghost use Rattle.cw_jobs.specs.Means.{IsGivenUp, IsMeaningOf};
 
-    /// The job of a whole run of which all is counted: `main` on these arguments, within `n` instructions. `burden` is what is
-    /// charged for a spawn, by which the burdened spans alone are told.
+    /// Returns the job of a whole run that counts everything: `main` on these arguments, within `n` instructions.
+    /// `burden` is charged for each spawn, and changes only the burdened spans.
     ///
-    /// The error is `Arguments` exactly where the count of the arguments is not that of `main`'s parameters, or `n` is
-    /// not in 1..=2^62, or more than 1,000,000,000 instructions are charged for an edge; otherwise `Memory`, where
-    /// memory runs out.
+    /// # Errors
+    ///
+    /// `Fault::Arguments` exactly if the number of arguments is not the number of `main`'s parameters, or `n` is not
+    /// in 1..=2^62, or the charge exceeds 1,000,000,000 instructions; otherwise `Fault::Memory`, if there is not
+    /// enough memory.
     pub fn root(
         alloc: Global,
         code: Arc<Verified>,
@@ -47,8 +49,12 @@ impl Job {
         Ok(job)
     }
 
-    /// The same of which so much is kept. `burden` is what is charged for a spawn, where anything is counted; the error is the
-    /// same where nothing is.
+    /// Returns the job of a whole run that records what `detail` says: `main` on these arguments, within `n`
+    /// instructions. `burden` is charged for each spawn if anything is counted.
+    ///
+    /// # Errors
+    ///
+    /// `Fault::Arguments` and `Fault::Memory` as for `root`, also if nothing is counted.
     pub fn root_of(
         alloc: Global,
         code: Arc<Verified>,
@@ -83,7 +89,8 @@ impl Job {
         Ok(Job { parts })
     }
 
-    /// It is given up, and not run: the effect says so, and brings the arrays of its slots home. Takes no memory.
+    /// Gives the job up without executing it: the effect says so and returns the arrays of its slots. Takes no
+    /// memory.
     pub fn give_up(self) -> Effect
         ensures means { IsMeaningOf self result }
         ensures given { IsGivenUp result }

@@ -1,4 +1,4 @@
-//! Jobs and their effects: what workers hand to each other.
+//! Jobs and their effects: what workers exchange.
 #![tactic(auto)]
 
 pub mod call;

@@ -1,5 +1,5 @@
-//! What reducers come to in a run, kept within 128 bits. The same as a monoid stands in `totals.rt` of `cw_reduce`: a new
-//! kind of reducer has a case in both.
+//! The totals of reducers in a run, kept within 128 bits. `totals.rt` of `cw_reduce` has them as a monoid: a new kind
+//! of reducer needs a case in both.
 
 ghost use Rattle.std.specs.Prelude.{◌≡◌, ◌+ℤ◌, IfOk};
 ghost use Rattle.cw_jobs.specs.Totals as totals;
@@ -10,7 +10,7 @@ use cw_model::syntax::Reduction;
 use cw_model::total::Total;
 use std::alloc::{AllocError, Global};
 
-/// What a reducer comes to that was told nothing.
+/// Returns the total of a reducer before its first value.
 pub fn nothing_told(how: Reduction) -> Total
     ensures { result ≡ totals.nothing_told how }
 {
@@ -20,7 +20,11 @@ pub fn nothing_told(how: Reduction) -> Total
     }
 }
 
-/// What reducers come to that were told nothing, one total for each.
+/// Returns the totals of reducers before their first values, one for each.
+///
+/// # Errors
+///
+/// An `AllocError` if there is not enough memory.
 pub fn none_told(alloc: Global, reducers: &[Reducer]) -> Result<Vec<Total>, AllocError>
     ensures { IfOk result (λ all. all.items ≡ totals.none_told reducers.now) }
 {
@@ -31,7 +35,7 @@ pub fn none_told(alloc: Global, reducers: &[Reducer]) -> Result<Vec<Total>, Allo
     Ok(all)
 }
 
-// Two sums as one, within 128 bits.
+// Adds two sums, within 128 bits.
 #[inline(always)]
 fn add_up(sum: i128, more: i128) -> i128
     ensures { result ≡ totals.wrapped (sum +ℤ more) }
@@ -39,7 +43,7 @@ fn add_up(sum: i128, more: i128) -> i128
     sum.wrapping_add(more)
 }
 
-// The greater of a value and another one, if there is one.
+// Returns the maximum of a value and another one, if there is another one.
 #[inline(always)]
 fn or_greater(value: i64, other: Option<i64>) -> i64
     ensures { result ≡ answers.or_greater value other }
@@ -50,7 +54,7 @@ fn or_greater(value: i64, other: Option<i64>) -> i64
     }
 }
 
-/// What a reducer with this total comes to that is told a value more. Takes no memory.
+/// Returns the total after one more value. Takes no memory.
 #[inline(always)]
 pub fn told(total: Total, v: i64) -> Total
     ensures { result ≡ totals.told total v }
@@ -61,7 +65,7 @@ pub fn told(total: Total, v: i64) -> Total
     }
 }
 
-// The greater of two values, where there are any.
+// Returns the maximum of two values, of which either may be absent.
 fn greater(value: Option<i64>, more: Option<i64>) -> Option<i64>
     ensures { result ≡ totals.greater value more }
 {
@@ -71,7 +75,7 @@ fn greater(value: Option<i64>, more: Option<i64>) -> Option<i64>
     }
 }
 
-/// Two totals of one reducer as one.
+/// Combines two totals of one reducer.
 pub fn joined(total: Total, more: Total) -> Total
     ensures { result ≡ totals.joined_total total more }
 {

@@ -1,4 +1,4 @@
--- No text is of two kinds at once: a separator, a word, a number, a symbol, a comment.
+-- No text is of two kinds: separator, word, number, symbol or comment.
 use Rattle.std.proofs.Common.{◌≡◌, ℕ, zero, suc, ◌<◌, true, false, ◌&&◌, ◌||◌, List, [], ◌∷◌, length, get_or, take, Some, None, refl, sym, ap, subst, ◌∙◌, arith, eqb, inl, inr}
 use Rattle.std.specs.Prelude.{is_some}
 use Rattle.std.proofs.lemmas.Bool.{eqb-true, or_cases, or_left, or_right, and_parts}
@@ -98,13 +98,13 @@ spelled_no_comment bs (word w short) c = word_no_comment bs w c
 spelled_no_comment bs (number n small) c = number_no_comment bs n c
 spelled_no_comment bs (mark {k = k} s) c = symbol_no_comment bs k s c
 
--- no number that is too great spells a token
+-- no number above the limit spells a token
 pub spelled_no_large : {k : Kind} (bs : List ℕ) → IsSpelled k bs → is_number bs ≡ true → MOST_NUMBER < decimal_value bs → ⊥
 spelled_no_large bs (word w short) n large = word_no_number bs w n
 spelled_no_large bs (number m small) n large = omega arith
 spelled_no_large bs (mark {k = k} s) n large = number_no_symbol bs k n s
 
--- no name that is too long spells a token
+-- no name above the limit spells a token
 pub spelled_no_long : {k : Kind} (bs : List ℕ) → IsSpelled k bs → is_word bs ≡ true → word_kind bs ≡ kind.Name → MOST_NAME_BYTES < length bs → ⊥
 spelled_no_long bs (word w short) v name long = let l = short name in omega arith
 spelled_no_long bs (number n small) v name long = word_no_number bs v n

@@ -1,4 +1,4 @@
--- What stands at the front, from what the code knows.
+-- The front of a text, derived from the facts that the code establishes.
 use Rattle.std.proofs.Common.{◌≡◌, ℕ, zero, suc, [], ◌∷◌, cond, ◌<◌, ◌≤◌, Bool, true, false, ◌&&◌, List, length, get_or, take, Option, Some, None, refl, sym, ap, ◌∙◌, arith, eqb, inl, inr, ◌⊎◌}
 use Rattle.std.proofs.lemmas.List.{length-take}
 use Rattle.std.proofs.lemmas.Bool.{eqb-true, false_from_ne_true, and_parts}

@@ -1,4 +1,4 @@
--- More at the end of a cut: a gap, or a token.
+-- A cut extended at its end by a gap or a token.
 use Rattle.std.proofs.Common.{ℕ, List, [], ◌∷◌, ◌++◌}
 use Rattle.cw_model.specs.declared.token.Token.{Token}
 use Rattle.cw_model.specs.Tokens.{IsGap, none, separator, comment, IsToken, AreTokens}

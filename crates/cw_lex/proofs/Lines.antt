@@ -1,4 +1,4 @@
--- No token and no comment has an LF.
+-- No token and no comment contains an LF.
 use Rattle.std.proofs.Common.{◌≡◌, ℕ, ◌+◌, ◌<◌, ◌≤◌, Bool, true, false, cond, ◌&&◌, ◌||◌, List, [], ◌∷◌, length, get_or, take, drop, refl, sym, ap, ◌∙◌, arith, eqb, inl, inr}
 use Rattle.std.specs.Prelude.{is_some, count_by}
 use Rattle.std.specs.List.{list_all}
@@ -13,7 +13,7 @@ use Rattle.cw_model.specs.Pieces.{is_digit, is_letter, is_word_byte, is_inner, o
 abbrev is_lf : ℕ → Bool
 is_lf b = eqb b 10
 
--- a test that LF fails
+-- a byte that passes a test that LF fails is not an LF
 other : (p : ℕ → Bool) (b : ℕ) → p 10 ≡ false → p b ≡ true → is_lf b ≡ false
 other p b h e = false_from_ne_true (is_lf b) (λ f. let same = eqb-true b 10 f in let clash : true ≡ false = sym e ∙ ap p same ∙ h in cc)
 
@@ -69,7 +69,7 @@ piece_lf bs h =
       ]
     ]
 
--- past a piece the line is the same
+-- a piece does not change the line
 pub line_past : (text : List ℕ) (at len : ℕ) → is_piece (take len (drop at text)) ≡ true → line_at text (at + len) ≡ line_at text at
 line_past text at len h =
     let cut = take-add at len text in
@@ -87,6 +87,6 @@ line_same text at lt h =
     let n = count_by_more_no is_lf text at 0 lt other in
     omega (arith, n)
 
--- no line is counted before its LF
+-- the line at `at` is at most `at + 1`
 pub line_few : (text : List ℕ) (at : ℕ) → line_at text at ≤ at + 1
 line_few text at = omega (arith, count_by-le-length is_lf (take at text), length-take at text)

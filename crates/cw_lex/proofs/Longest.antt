@@ -223,7 +223,7 @@ two_longest (b ∷ c ∷ bs) k mark nc e = (
   e,
 )
 
--- with no symbol of two bytes
+-- if no symbol of two bytes begins here, a piece has at most one byte
 at_most_one : (bs : List ℕ) (n : ℕ) → is_word_byte (get_or bs 0 0) ≡ false → NoComment bs → two_bytes (get_or bs 0 0) (get_or bs 1 0) ≡ None → n ≤ length bs → is_piece (take n bs) ≡ true → n ≤ 1
 at_most_one bs zero mark nc e le p = omega arith
 at_most_one bs (suc zero) mark nc e le p = omega arith

@@ -1,4 +1,4 @@
--- A text has one answer: its token cut, or the line of its one fault.
+-- A text has one result: its token cut, or the line of its only fault.
 use Rattle.std.proofs.Common.{◌≡◌, ℕ, ◌<◌, List, length, take, drop, sym, ap, subst, ◌∙◌, arith, inl, inr, ◌⊎◌, length-drop}
 use Rattle.cw_model.specs.declared.token.Token.{Token}
 use Rattle.cw_model.specs.Text.{line_at}
@@ -6,7 +6,7 @@ use Rattle.cw_model.specs.Tokens.{AreTokens, IsTokenCut, StartsNothing, HasLarge
 use Rattle.cw_lex.proofs.Apart.{word_no_number}
 use Rattle.cw_lex.proofs.Walks.{same_longest, piece_some, walk_of, same_walk, Stops, stops_at_end, stops_at_lexical, stops_at_name}
 
--- tokens that stand before places where a walk stops are the same, and so are the places
+-- two cuts of prefixes at whose ends no step is possible have the same tokens and the same end
 pub same_before : (text : List ℕ) (ts us : List Token) (at to : ℕ) → AreTokens text 0 ts at → AreTokens text 0 us to → Stops text at → Stops text to → (ts ≡ us) × (at ≡ to)
 same_before text ts us at to a b s r = same_walk (walk_of text 0 ts at a) (walk_of text 0 us to b) s r
 

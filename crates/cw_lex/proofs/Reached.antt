@@ -1,4 +1,4 @@
--- One turn of the loops over a text.
+-- One iteration of the loops over a text.
 use Rattle.std.proofs.Common.{◌≡◌, ℕ, ◌+◌, ◌-◌, ◌<◌, ◌≤◌, List, [], ◌∷◌, ◌++◌, length, drop, sym, ◌∙◌, arith, length-drop, add-zero}
 use Rattle.std.proofs.lemmas.List.{get_or-drop}
 use Rattle.cw_model.specs.Text.{line_at}
@@ -15,9 +15,9 @@ use Rattle.cw_model.specs.Tokens.{IsLongest, IsToken, IsGap, none, separator, co
 use Rattle.cw_lex.proofs.Lines.{line_past, line_few}
 use Rattle.cw_lex.proofs.Grow.{gap_gap, add_gap, add_token}
 
--- ---- up to what comes next
+-- ---- up to the next token
 
--- from one place to another, which is in this line, there is only a gap
+-- between `from` and `at` there is only a gap, and `line` is the line of `at`
 pub record IsAcross (text : List ℕ) (from at line : ℕ) : Type 0 where
   pub within : at ≤ length text
   pub same_line : line ≡ line_at text at
@@ -70,7 +70,7 @@ fault_next text from at line r a f = record { at = at; gap = a.gap; faulty = f; 
 
 -- ---- from one token to the next
 
--- these tokens stand before a place, which is in this line
+-- `ts` are the tokens before `at`, and `line` is the line of `at`
 pub record IsReached (text : List ℕ) (ts : List Token) (at line : ℕ) : Type 0 where
   pub within : at ≤ length text
   pub same_line : line ≡ line_at text at
@@ -95,7 +95,7 @@ fault_reached text ts at line found r n = record {
   same_line = n.same_line;
 }
 
--- the same of some tokens
+-- some tokens satisfy `IsReached` for this place and line
 pub record IsPassed (text : List ℕ) (at line : ℕ) : Type 0 where
   pub tokens : List Token
   pub reached : IsReached text tokens at line

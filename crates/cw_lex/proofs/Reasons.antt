@@ -12,7 +12,7 @@ use Rattle.cw_lex.specs.Uncut.{IsNoToken, IsUncut, IsUncutFor, IsRefused, fault_
 with_fault : {P Q : List ℕ → Type 0} (text : List ℕ) (line : ℕ) → ((bytes : List ℕ) → P bytes → Q bytes) → FaultAt P text line → FaultAt Q text line
 with_fault text line h f = record { tokens = f.tokens; at = f.at; before = f.before; faulty = h (drop f.at text) f.faulty; same_line = f.same_line }
 
--- the fault for the reason of a text's first fault is that fault
+-- the fault of the reason for the first fault of a text is that first fault
 pub no_cut_for : (text : List ℕ) (r : Uncut) (line : ℕ) → FaultAt (IsNoToken r) text line → HasNoCut text (fault_of r line)
 no_cut_for text (reason.TooLong n) line f = absurd f.faulty
 no_cut_for text (reason.NotAscii b) line f = absurd f.faulty
@@ -20,7 +20,7 @@ no_cut_for text (reason.NoToken b) line f = with_fault text line (λ bytes h. in
 no_cut_for text (reason.LargeNumber w) line f = with_fault text line (λ bytes h. inr h.0) f
 no_cut_for text (reason.LongName w) line f = with_fault text line (λ bytes h. h.0) f
 
--- the reason of a text's first fault is that of its bytes
+-- the reason for the first fault of a text is the reason why its bytes are not cut
 pub uncut_for : (text : List ℕ) (r : Uncut) (line : ℕ) → IsSourceText text → FaultAt (IsNoToken r) text line → IsUncutFor text r line
 uncut_for text (reason.TooLong n) line s f = absurd f.faulty
 uncut_for text (reason.NotAscii b) line s f = absurd f.faulty

@@ -1,4 +1,4 @@
--- The tokens of a cut stand one behind another, each within the text.
+-- The tokens of a cut follow each other, each within the text.
 use Rattle.std.proofs.Common.{ℕ, ◌<◌, ◌≤◌, List, [], ◌∷◌, length, All, arith}
 use Rattle.std.proofs.lemmas.List.Elements.{All-cons}
 use Rattle.cw_model.specs.declared.token.Token.{Token}

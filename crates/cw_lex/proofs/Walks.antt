@@ -1,4 +1,4 @@
--- A walk over a text takes one step after another, and at each place one step at most is possible.
+-- A traversal of a text is a sequence of steps, and at each place at most one step is possible.
 use Rattle.std.proofs.Common.{◌≡◌, ℕ, zero, suc, ◌+◌, ◌-◌, ◌<◌, true, List, [], ◌∷◌, length, get_or, take, drop, Option, Some}
 use Rattle.std.proofs.Common.{None, refl, sym, ap, subst, ◌∙◌, arith, inl, inr, ◌⊎◌, length-drop, add-zero}
 use Rattle.std.proofs.lemmas.List.{get_or-drop, length-take}
@@ -11,7 +11,7 @@ use Rattle.cw_lex.proofs.Apart.{separator_no_piece, spelled_no_comment, spelled_
 
 -- ---- steps
 
--- what stands in a place, and the place after it
+-- the piece at a place, and the place after it
 pub data Step (text : List ℕ) : ℕ → Option Token → ℕ → Type 0 where
   past_separator : {at : ℕ} → at < length text → is_separator (get_or text at 0) ≡ true → Step text at None (at + 1)
   past_comment : {at : ℕ} (len : ℕ) → IsLongest (drop at text) len → is_comment (take len (drop at text)) ≡ true → Step text at None (at + len)
@@ -28,11 +28,11 @@ piece_some bs zero p = absurd cc
 piece_some [] (suc n) p = absurd cc
 piece_some (b ∷ bs) (suc n) p = omega arith
 
--- a separator in a place of the text is one at the front of the rest
+-- a separator at a place of the text is a separator at the front of the rest
 at_front : (text : List ℕ) (at : ℕ) → is_separator (get_or text at 0) ≡ true → is_separator (get_or (drop at text) 0 0) ≡ true
 at_front text at h = rw (get_or-drop, add-zero) h
 
--- a token, from the place that it starts in
+-- a token, described at the place where it starts
 pub token_here : (text : List ℕ) (at : ℕ) (t : Token) → t.start ≡ at → IsToken text t
     → IsLongest (drop at text) (t.end - at) × IsSpelled t.kind (take (t.end - at) (drop at text)) × (t.line ≡ line_at text at) × (at < t.end)
 token_here text at t e h =
@@ -62,7 +62,7 @@ no_comment_and_token text at len t l c e h =
     let same = same_longest (drop at text) len (t.end - at) l a.0 in
     spelled_no_comment (take (t.end - at) (drop at text)) a.1 (rw (← same) c)
 
--- one step at most is possible
+-- at most one step is possible
 pub same_step : {text : List ℕ} {at m n : ℕ} {o p : Option Token} → Step text at o m → Step text at p n → (o ≡ p) × (m ≡ n)
 same_step (past_separator lt s) (past_separator lt' s') = (refl, refl)
 same_step {text = text} {at = at} (past_separator lt s) (past_comment len l c) = absurd (separator_no_piece (drop at text) len (at_front text at s) l.piece)
@@ -74,7 +74,7 @@ same_step {text = text} {at = at} (past_token t e h) (past_separator lt s) = abs
 same_step {text = text} {at = at} (past_token t e h) (past_comment len l c) = absurd (no_comment_and_token text at len t l c e h)
 same_step {text = text} {at = at} (past_token t e h) (past_token u f i) = let same = both_tokens text at t u e h f i in (ap Some same, ap (λ v. v.end) same)
 
--- ---- walks
+-- ---- traversals
 
 abbrev add : Option Token → List Token → List Token
 add None ts = ts
@@ -89,7 +89,7 @@ gap_walk none w = w
 gap_walk (separator lt s g) w = go (past_separator lt s) (gap_walk g w) refl
 gap_walk (comment len l c g) w = go (past_comment len l c) (gap_walk g w) refl
 
--- the tokens between two places are those of a walk
+-- the tokens between two places are the tokens of a traversal
 pub walk_of : (text : List ℕ) (from : ℕ) (ts : List Token) (to : ℕ) → AreTokens text from ts to → Walk text from ts to
 walk_of text from [] to g = gap_walk g stay
 walk_of text from (t ∷ ts) to g = gap_walk g.0 (go (past_token t refl g.1) (walk_of text t.end ts to g.2) refl)
@@ -101,7 +101,7 @@ Stops text at = (o : Option Token) (m : ℕ) → Step text at o m → ⊥
 added : (o p : Option Token) (ts us : List Token) → o ≡ p → ts ≡ us → add o ts ≡ add p us
 added o p ts us e f = ap (λ x. add x ts) e ∙ ap (add p) f
 
--- two walks from one place that go on as far as they can are one
+-- two maximal traversals from one place are equal
 pub same_walk : {text : List ℕ} {at to end : ℕ} {ts us : List Token} → Walk text at ts to → Walk text at us end → Stops text to → Stops text end → (ts ≡ us) × (to ≡ end)
 same_walk stay stay s s' = (refl, refl)
 same_walk stay (go st w e) s s' = absurd (s _ _ st)
@@ -111,7 +111,7 @@ same_walk {text = text} {end = end} (go st w e) (go {ts = vs} st' w' e') s s' =
     let rest = same_walk w (subst (λ m. Walk text m vs end) (sym same.1) w') s s' in
     (e ∙ added _ _ _ _ same.0 rest.0 ∙ sym e', rest.1)
 
--- ---- places where a walk stops
+-- ---- the places where a traversal stops
 
 step_within : {text : List ℕ} {at m : ℕ} {o : Option Token} → Step text at o m → at < length text
 step_within (past_separator lt s) = lt

@@ -1,4 +1,4 @@
--- The tokens of a text, or why it has no token cut.
+-- The token cut of a text, or the reason why it has none.
 use Rattle.std.specs.Prelude.{ℕ, List}
 use Rattle.std.specs.Global.{Vec}
 use Rattle.cw_model.specs.declared.token.Token.{Token}
@@ -10,7 +10,7 @@ use Rattle.cw_text.specs.declared.fault.Fault.TheVariants as fault
 abbrev pub IsCut : List ℕ → Vec Token → Type 0
 IsCut text tokens = IsTokenCut text tokens.items
 
--- what must hold of the text where this fault is answered for it
+-- the condition that the text satisfies if cutting it returns this fault
 abbrev pub HasNoCut : List ℕ → Fault → Type 0
 HasNoCut text (fault.Lexical p) = HasLexicalFault text p.line
 HasNoCut text (fault.Size p) = HasNameFault text p.line

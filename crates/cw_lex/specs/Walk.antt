@@ -1,4 +1,4 @@
--- What comes next in a text.
+-- The next token, fault or end of a text.
 use Rattle.std.specs.Prelude.{◌≡◌, ℕ, ◌<◌, ◌≤◌, List, length, drop}
 use Rattle.cw_model.specs.declared.token.Token.{Token}
 use Rattle.cw_model.specs.Text.{line_at}
@@ -9,7 +9,7 @@ use Rattle.cw_lex.specs.declared.walk.Next.{Next}
 use Rattle.cw_lex.specs.declared.walk.Next.TheVariants as next
 use Rattle.cw_lex.specs.Uncut.{IsNoToken}
 
--- behind this place, and a gap, stands this token, which ends in the line that it begins in
+-- after `from` there is a gap, then this token, which ends in the line in which it begins
 pub record IsNextToken (text : List ℕ) (from : ℕ) (t : Token) : Type 0 where
   pub gap : IsGap text from t.start
   pub token : IsToken text t
@@ -17,14 +17,14 @@ pub record IsNextToken (text : List ℕ) (from : ℕ) (t : Token) : Type 0 where
   pub within : t.end ≤ length text
   pub same_line : t.line ≡ line_at text t.end
 
--- behind this place, and a gap, stands what is no token, for this reason and in this line
+-- after `from` there is a gap, then bytes that are no token, for this reason and in this line
 pub record IsNextFault (text : List ℕ) (from : ℕ) (found : At Uncut) : Type 0 where
   pub at : ℕ
   pub gap : IsGap text from at
   pub faulty : IsNoToken found.reason (drop at text)
   pub same_line : found.line ≡ line_at text at
 
--- what comes next behind this place
+-- the condition that the text after `from` satisfies for each result
 abbrev pub IsNext : (text : List ℕ) (from : ℕ) → Next → Type 0
 IsNext text from (next.Token t) = IsNextToken text from t
 IsNext text from next.End = IsGap text from (length text)

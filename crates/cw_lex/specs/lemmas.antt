@@ -1,2 +1,2 @@
--- Lemmas on gaps between tokens, which the proofs of crates above cite.
+-- Lemmas on gaps between tokens; the proofs of the crates above cite them.
 pub mod Gaps

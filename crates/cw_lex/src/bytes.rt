@@ -5,18 +5,17 @@ ghost use Rattle.std.specs.List.{prefix_len};
 ghost use Rattle.cw_model.specs.Pieces as spec;
 ghost use Rattle.cw_lex.specs.Front.{passes};
 
-/// A class of bytes.
+/// Represents a class of bytes.
 #[derive(Clone, Copy, Debug)]
 pub enum Class {
     /// The bytes of a number.
     Digit,
     /// The bytes of a keyword or a name: letters, `_` and digits.
     Word,
-    /// The bytes of a comment: all but an LF.
+    /// The bytes of a comment: every byte but LF.
     Inner,
 }
 
-// Whether a byte is of the class.
 fn passes(class: Class, byte: u8) -> bool
     ensures { result ≡ passes class byte }
 {
@@ -27,28 +26,28 @@ fn passes(class: Class, byte: u8) -> bool
     }
 }
 
-/// Whether the byte is one of `0` to `9`.
+/// Reports whether the byte is one of `0` to `9`.
 pub fn is_digit(byte: u8) -> bool
     ensures { result ≡ spec.is_digit byte }
 {
     byte >= b'0' && byte <= b'9'
 }
 
-/// Whether the byte is a letter or `_`.
+/// Reports whether the byte is a letter or `_`.
 pub fn is_letter(byte: u8) -> bool
     ensures { result ≡ spec.is_letter byte }
 {
     (byte >= b'a' && byte <= b'z') || (byte >= b'A' && byte <= b'Z') || byte == b'_'
 }
 
-/// Whether the byte is a space, a tab, a CR or an LF.
+/// Reports whether the byte is a space, a tab, a CR or an LF.
 pub fn is_separator(byte: u8) -> bool
     ensures { result ≡ spec.is_separator byte }
 {
     byte == b' ' || byte == b'\t' || byte == b'\r' || byte == b'\n'
 }
 
-/// How many bytes from the front on are of the class.
+/// Returns the length of the longest prefix of `bytes` whose bytes all belong to the class.
 pub fn run(class: Class, bytes: &[u8]) -> usize
     ensures value { result ≡ prefix_len (passes class) bytes.now }
     ensures within { result ≤ length bytes.now }

@@ -1,4 +1,4 @@
-//! What stands at the front of a text.
+//! The token, separator or comment at the front of a text.
 
 ghost use Rattle.std.specs.Prelude.{◌≡◌, ◌<◌, length, take, slice_index, true, false};
 ghost use Rattle.cw_model.specs.Pieces as spec;
@@ -12,27 +12,27 @@ use crate::tables::{one_byte, two_bytes, word_kind};
 use cw_model::limits::MOST_NAME_BYTES;
 use cw_model::token::Kind;
 
-/// What stands at the front of a text.
+/// Represents the front of a text.
 #[derive(Clone, Copy)]
 pub enum Front<'a> {
     /// A space, a tab, a CR or an LF.
     Separator,
     /// A comment, with its length in bytes up to the LF or the end of the text.
     Comment(usize),
-    /// A token's kind, and its length in bytes.
+    /// A token: its kind and its length in bytes.
     Token(Kind, usize),
     /// No token, for this reason.
     Uncut(Uncut<'a>),
 }
 
-// The second byte, or 0.
+// Returns the second byte, or 0 for a text of one byte.
 fn second(bytes: &[u8]) -> u8
     ensures { result ≡ slice_index bytes.now 1 }
 {
     if bytes.len() > 1 { bytes[1] } else { 0 }
 }
 
-// A symbol or a comment.
+// Reads a symbol or a comment.
 #[inline(always)]
 fn symbol(bytes: &[u8]) -> Front<'_>
     requires some { 0 < length bytes.now }
@@ -54,7 +54,7 @@ fn symbol(bytes: &[u8]) -> Front<'_>
     }
 }
 
-// How many bytes the number has.
+// Returns the length of a number in bytes; a number that begins with 0 has one byte.
 fn digits_len(bytes: &[u8]) -> usize
     requires some { 0 < length bytes.now }
     requires digit { spec.is_digit (slice_index bytes.now 0) ≡ true }
@@ -69,7 +69,7 @@ fn digits_len(bytes: &[u8]) -> usize
     }
 }
 
-// A number.
+// Reads a number.
 #[inline(always)]
 fn digits(bytes: &[u8]) -> Front<'_>
     requires some { 0 < length bytes.now }
@@ -84,7 +84,7 @@ fn digits(bytes: &[u8]) -> Front<'_>
     }
 }
 
-// A keyword or a name.
+// Reads a keyword or a name.
 #[inline(always)]
 fn word(bytes: &[u8]) -> Front<'_>
     requires some { 0 < length bytes.now }
@@ -105,7 +105,7 @@ fn word(bytes: &[u8]) -> Front<'_>
     }
 }
 
-/// What stands at the front of a text that is not empty.
+/// Returns the front of a nonempty text.
 #[inline(always)]
 pub fn front_of(bytes: &[u8]) -> Front<'_>
     requires { 0 < length bytes.now }

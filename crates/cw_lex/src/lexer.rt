@@ -1,4 +1,4 @@
-//! The tokens of a text, or why it has none.
+//! The lexer: the tokens of a text, or the reason why it has none.
 
 ghost use Rattle.std.specs.Prelude.{◌≤◌, length, MatchOption, MatchResult};
 ghost use Rattle.cw_model.specs.Text.{IsAscii, IsSourceText};
@@ -13,12 +13,14 @@ use cw_reasons::At;
 use cw_text::{Fault, Source};
 use std::alloc::Global;
 
-/// The tokens of a source: at each place the longest that stands there, with its kind, the bytes
-/// that spell it and the line, from 1, that it begins in. Separators and comments give none.
+/// Returns the tokens of a source: at each place the longest token that begins there, with its kind, its bytes and
+/// the line, from 1, in which it begins. Separators and comments are no tokens.
 ///
-/// The first fault of the text decides: `Lexical` at the line of a byte that starts nothing or of
-/// a number above 9,223,372,036,854,775,807, `Size` at the line of a name of more than 64 bytes.
-/// `Memory` where there is none for the list. No other fault is answered.
+/// # Errors
+///
+/// The first fault of the text decides: `Lexical` at the line of a byte that starts no token or of a number above
+/// 9,223,372,036,854,775,807, and `Size` at the line of a name of more than 64 bytes. `Memory` if it is out of
+/// memory. It returns no other fault.
 pub fn lex(alloc: Global, source: &Source) -> Result<Vec<Token>, Fault>
     ensures { MatchResult result (IsCut source.now) (HasNoCut source.now) }
 {
@@ -39,8 +41,8 @@ pub fn lex(alloc: Global, source: &Source) -> Result<Vec<Token>, Fault>
     }
 }
 
-/// Why bytes are not cut into tokens, and in which line, from 1; none exactly where they are a source that `lex` cuts. Too many
-/// bytes come before a byte above 127, and this before the first fault of the text.
+/// Returns why bytes are not cut into tokens, with the line, from 1; `None` exactly if they are a source that `lex`
+/// cuts. The reason "too many bytes" precedes a byte above 127, which precedes the first fault of the text.
 pub fn first_uncut(bytes: &[u8]) -> Option<At<Uncut<'_>>>
     ensures { MatchOption result (HasCut bytes.now) (IsUncut bytes.now) }
 {
@@ -54,7 +56,7 @@ pub fn first_uncut(bytes: &[u8]) -> Option<At<Uncut<'_>>>
     }
 }
 
-// The first byte above 127, and its line.
+// Returns the first byte above 127, with its line.
 fn first_above(bytes: &[u8]) -> Option<At<Uncut<'_>>>
     requires { length bytes.now ≤ MOST_SOURCE_BYTES }
     ensures { MatchOption result (IsAscii bytes.now) (IsUncut bytes.now) }
@@ -72,7 +74,7 @@ fn first_above(bytes: &[u8]) -> Option<At<Uncut<'_>>>
     None
 }
 
-// The first fault of a text, and its line.
+// Returns the first fault of a text, with its line.
 fn first_fault(text: &[u8]) -> Option<At<Uncut<'_>>>
     requires { IsSourceText text.now }
     ensures { MatchOption result (HasCut text.now) (IsUncut text.now) }

@@ -5,7 +5,8 @@ ghost use Rattle.cw_model.specs.Pieces.{is_digit, decimal_value};
 
 use cw_model::limits::MOST_NUMBER;
 
-/// The number that decimal digits stand for, if it is at most `MOST_NUMBER`. No digits stand for 0.
+/// Returns the number that decimal digits represent, or `None` if it exceeds `MOST_NUMBER`. An empty list of digits
+/// represents 0.
 pub fn value_of_digits(digits: &[u8]) -> Option<u64>
     requires { (k : ℕ) → k < length digits.now → is_digit (slice_index digits.now k) ≡ true }
     ensures some { IfSome result (λ n. (n ≡ decimal_value digits.now) × (n ≤ MOST_NUMBER)) }

@@ -1,26 +1,26 @@
-//! Why bytes are not cut into tokens.
+//! The reasons why bytes are not cut into tokens.
 
 ghost use Rattle.std.specs.Prelude.{◌≡◌};
 ghost use Rattle.cw_lex.specs.Uncut.{fault_of};
 
 use cw_text::{Fault, Place};
 
-/// Why bytes are not cut into tokens.
+/// Represents a reason why bytes are not cut into tokens.
 #[derive(Clone, Copy)]
 pub enum Uncut<'a> {
-    /// They are so many: more than `MOST_SOURCE_BYTES`.
+    /// There are this many bytes, more than `MOST_SOURCE_BYTES`.
     TooLong(usize),
     /// This byte is above 127.
     NotAscii(u8),
     /// This byte starts no token.
     NoToken(u8),
-    /// The number of these digits is above `MOST_NUMBER`.
+    /// The number with these digits exceeds `MOST_NUMBER`.
     LargeNumber(&'a [u8]),
-    /// The name of these bytes has more than `MOST_NAME_BYTES`.
+    /// The name has more than `MOST_NAME_BYTES` bytes, which are these.
     LongName(&'a [u8]),
 }
 
-/// The fault of bytes that are not cut for this reason, in this line.
+/// Returns the fault of bytes that are not cut for this reason, in this line.
 pub fn fault_of(reason: &Uncut<'_>, line: u32) -> Fault
     ensures { result ≡ fault_of reason.now line }
 {

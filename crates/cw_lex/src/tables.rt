@@ -31,7 +31,7 @@ const KEYWORDS: [(&[u8], Kind); 22] = [
     (b"cilk_for", Kind::For),
 ];
 
-// The kind that the table has for a word, or a name.
+// Returns the kind of a word in the table, or `Name` if the table does not have it.
 #[inline(always)]
 fn lookup(mut table: &[(&[u8], Kind)], word: &[u8]) -> Kind
     ensures { result ≡ lookup (map (λ k. (k.0.now, k.1)) table.entry.now) word.now }
@@ -45,7 +45,7 @@ fn lookup(mut table: &[(&[u8], Kind)], word: &[u8]) -> Kind
     Kind::Name
 }
 
-/// The keyword that a word is, or a name.
+/// Returns the keyword that the word spells, or `Name`.
 #[inline(always)]
 pub fn word_kind(word: &[u8]) -> Kind
     ensures { result ≡ word_kind word.now }
@@ -53,7 +53,7 @@ pub fn word_kind(word: &[u8]) -> Kind
     lookup(&KEYWORDS, word)
 }
 
-/// The symbol of one byte, if it is one.
+/// Returns the symbol of one byte, if the byte is a symbol.
 #[inline(always)]
 pub fn one_byte(byte: u8) -> Option<Kind>
     ensures { result ≡ spec.one_byte byte }
@@ -80,7 +80,7 @@ pub fn one_byte(byte: u8) -> Option<Kind>
     }
 }
 
-/// The symbol of two bytes, if they are one.
+/// Returns the symbol of two bytes, if they are a symbol.
 pub fn two_bytes(first: u8, second: u8) -> Option<Kind>
     ensures { result ≡ spec.two_bytes first second }
 {

@@ -1,4 +1,4 @@
-//! The walk over a text, from one token to the next.
+//! The traversal of a text, from one token to the next.
 
 ghost use Rattle.std.specs.Prelude.{◌≡◌, ◌<◌, ◌≤◌, length, drop};
 ghost use Rattle.cw_model.specs.declared.limits.TheConstants.{MOST_SOURCE_BYTES};
@@ -11,18 +11,18 @@ use crate::reason::Uncut;
 use cw_model::token::Token;
 use cw_reasons::At;
 
-/// What comes next in a text, behind separators and comments.
+/// Represents the next part of a text after separators and comments.
 #[derive(Clone, Copy)]
 pub enum Next<'a> {
     /// A token.
     Token(Token),
     /// The text's end.
     End,
-    /// What is no token: why, and in which line.
+    /// Bytes that are no token: the reason and its line.
     Uncut(At<Uncut<'a>>),
 }
 
-// What stands at a place of the text.
+// Returns the front of the text from `at` on.
 #[inline(always)]
 fn front_at(text: &[u8], at: usize) -> Front<'_>
     requires { at < length text.now }
@@ -31,7 +31,7 @@ fn front_at(text: &[u8], at: usize) -> Front<'_>
     front_of(&text[at..])
 }
 
-/// What comes next in a text, from this place on, which is in this line.
+/// Returns the next token, fault or end of the text from `from` on. `first` is the line of `from`.
 #[inline(always)]
 pub fn next_in(text: &[u8], from: usize, first: u32) -> Next<'_>
     requires short { length text.now ≤ MOST_SOURCE_BYTES }

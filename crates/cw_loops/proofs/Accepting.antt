@@ -29,7 +29,7 @@ arrays_differ (p ∷ ps) h = let d = others_differ p ps h in go (wants_array p) 
     go true alone more = both_true (not (is_among p.name (arrays_of ps))) (differ (arrays_of ps)) (ap not alone) more
     go false alone more = more
 
--- at the head of a function
+-- the invariant holds at the start of a function
 pub begins : (fs : List Function) (ps : List Param) (returns : Returns) → differ (names_of ps) ≡ true
     → Agree (nothing_around fs) (integers_of ps) (arrays_of ps) (known_of ps) (names_of ps) NoLoop returns
 begins fs ps returns h = record {

@@ -1,4 +1,4 @@
--- What types and ownership know of the names where a statement stands, and what the test of what can be lowered knows.
+-- Types and ownership agree with the test of lowerable programs on the names at a statement.
 use Rattle.std.proofs.Common.{◌≡◌, Bool, true, false, List, [], ◌∷◌, ◌++◌, refl, sym, ◌∙◌, ap, append_assoc}
 use Rattle.std.specs.Prelude.{if◌then◌else◌, not, ◌&&◌, ◌||◌, Option}
 use Rattle.std.proofs.lemmas.Bool.{and_parts, or_parts}
@@ -16,7 +16,7 @@ use Rattle.cw_loops.specs.SourceLike.{is_source_expr}
 use Rattle.cw_loops.specs.lemmas.Naming.{among_left, among_right, neither_among, pushed, passed}
 use Rattle.cw_loops.specs.lemmas.Knowing.{Unknown, not_both, known_more, known_array_more}
 
--- both agree on each name: on its kind, on what stands outside the loop, and on what may be done with it there
+-- both agree for each name: on its kind, on the names outside of the loop, and on the allowed uses of the name
 pub record Agree (c : Surroundings) (ints arrays : List Name) (known : Known) (owners : List Name) (around : Around) (returns : Returns) : Type 0 where
   pub ints_are : (x : Name) → is_int known x ≡ is_among x (c.outer ++ ints)
   pub arrays_are : (x : Name) → is_array known x ≡ is_among x (c.arrays ++ arrays)
@@ -29,7 +29,7 @@ pub record Agree (c : Surroundings) (ints arrays : List Name) (known : Known) (o
   pub not_indexed : (a : Name) (e : Expr) → may_index around a e ≡ true → is_among a c.over ≡ false → is_outer around a ≡ false
   pub may : (known' : Known) (e : Option Expr) → may_return returns known' e ≡ true → c.returns ≡ true
 
--- a name that is read in a loop's function stands for the source's
+-- a name that is read in a loop's function has the value that it has in the source
 abbrev pub reads_well : Surroundings → Name → Bool
 reads_well c x = is_among x c.shared || not (is_among x c.outer)
 
@@ -86,7 +86,7 @@ module _ {c : Surroundings} {ints arrays : List Name} {known : Known} {owners : 
       let k = and_parts (keeps_loop around d) (keeps_loop around e) keeps in
       both_true (can_evaluate c d) (can_evaluate c e) (expr_can d s.0 k.0 (first_well c (read_by d) (read_by e) well)) (expr_can e s.1 k.1 (second_well c (read_by d) (read_by e) well))
 
--- the head of a loop may name less than what stands beside it
+-- the rule for the head of a loop is stricter than the rule for the other statements
 pub head_keeps : (around : Around) (e : Expr) → keeps_loop (for_head around) e ≡ true → keeps_loop around e ≡ true
 head_keeps NoLoop e h = h
 head_keeps (InLoop outer i over) (Number n) h = refl

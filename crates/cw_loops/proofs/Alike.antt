@@ -1,4 +1,4 @@
--- Two runs that do the same, up to how the parts of their trees are grouped.
+-- Two runs with the same behaviour, up to the grouping of the parts of their trees.
 use Rattle.std.proofs.Common.{◌≡◌, ℕ, zero, suc, ◌+◌, ◌-◌, ◌≤◌, Bool, true, false, ℤ, List, [], ◌∷◌, ◌++◌, arith, refl, sym, ◌∙◌, ap, append_assoc, append-nil}
 use Rattle.std.specs.Prelude.{nat_lt, if◌then◌else◌}
 use Rattle.std.proofs.lemmas.Bool.{ltb-false, ltb-true}
@@ -9,7 +9,7 @@ use Rattle.cw_model.specs.TreeLaws.{Regrouped, same, in_series, in_fork}
 use Rattle.cw_model.specs.Expressions.{Gives}
 use Rattle.cw_model.specs.Outcome.{Trace, shows, quiet, joined, Outcome, Done, Trapped, Over, after, then_do, pay, pay_for, joined_up}
 
--- the same events, where the tree of each part may be grouped otherwise
+-- the events are the same, and the tree of each part may be grouped differently
 pub data SameEvents : List Event → List Event → Type 0 where
   no_event : SameEvents [] []
   same_work : {k : ℕ} {es fs : List Event} → SameEvents es fs → SameEvents (Work k ∷ es) (Work k ∷ fs)
@@ -41,13 +41,13 @@ same_parts (same_join r) = let h = same_parts r in (same (Leaf 0), in_series h.0
 pub same_tree : {es fs : List Event} → SameEvents es fs → Regrouped (tree_of es) (tree_of fs)
 same_tree r = let h = same_parts r in in_series h.0 h.1
 
--- a run given so much of the budget does as another, and what they give is related
+-- two runs with this budget behave in the same way, and their results are related
 pub data Alike {A B : Type 0} (R : A → B → Type 0) (given : ℕ) : Outcome A → Outcome B → Type 0 where
   both_done : {a : A} {b : B} {left : ℕ} {t u : Trace} → R a b → left ≤ given → t.lines ≡ u.lines → t.updates ≡ u.updates → SameEvents t.events u.events → Alike R given (Done a left t) (Done b left u)
   both_trapped : {trap : Trap} {line : ℕ} {lines lines' : List ℤ} → lines ≡ lines' → Alike R given (Trapped trap line lines) (Trapped trap line lines')
   both_over : Alike R given Over Over
 
--- the same, where only the trees of the wholes are compared
+-- two runs with this budget behave in the same way, where only the trees of the whole runs are compared
 pub data Whole {A B : Type 0} (R : A → B → Type 0) (given : ℕ) : Outcome A → Outcome B → Type 0 where
   whole_done : {a : A} {b : B} {left : ℕ} {t u : Trace} → R a b → left ≤ given → t.lines ≡ u.lines → t.updates ≡ u.updates
       → Regrouped (tree_of t.events) (tree_of u.events) → Whole R given (Done a left t) (Done b left u)
@@ -80,7 +80,7 @@ alike_after le l a e (both_done r le' l' a' e') = both_done r (omega arith) (app
 alike_after le l a e (both_trapped l') = both_trapped (appended l l')
 alike_after le l a e both_over = both_over
 
--- a piece, and what goes on from there
+-- related runs with related continuations are related
 pub alike_then : {A B C D : Type 0} {R : A → B → Type 0} {S : C → D → Type 0} {given : ℕ} {o : Outcome A} {o' : Outcome B} {go : A → ℕ → Outcome C} {go' : B → ℕ → Outcome D} →
     Alike R given o o' → ((a : A) (b : B) (left : ℕ) → R a b → left ≤ given → Alike S left (go a left) (go' b left)) →
     Alike S given (then_do o go) (then_do o' go')
@@ -88,7 +88,7 @@ alike_then (both_done r le l a e) f = alike_after le l a e (f _ _ _ r le)
 alike_then (both_trapped e) f = both_trapped e
 alike_then both_over f = both_over
 
--- so many instructions on both sides
+-- both runs pay the same number of instructions
 pub alike_pay : {C D : Type 0} {S : C → D → Type 0} (cost left : ℕ) (go : Unit {0} → ℕ → Outcome C) (go' : Unit {0} → ℕ → Outcome D) →
     (cost ≤ left → Alike S (left - cost) (go tt (left - cost)) (go' tt (left - cost))) → Alike S left (then_do (pay cost left) go) (then_do (pay cost left) go')
 alike_pay {C = C} {D = D} {S = S} cost left go go' f = by_test (nat_lt left cost) refl
@@ -98,13 +98,13 @@ alike_pay {C = C} {D = D} {S = S} cost left go go' f = by_test (nat_lt left cost
     by_test true e = both_over
     by_test false e = alike_after {t = shows (works cost)} {u = shows (works cost)} (omega arith) refl refl (same_events (works cost)) (f (ltb-false left cost e))
 
--- too few instructions are left on both sides, or both trap
+-- both runs exceed the limit, or both trap
 pub both_stop : {A C D : Type 0} {S : C → D → Type 0} (left : ℕ) (trap : Trap) (line : ℕ) (go : A → ℕ → Outcome C) (go' : A → ℕ → Outcome D) (b : Bool) →
     Alike S left (then_do (if b then Over else Trapped trap line []) go) (then_do (if b then Over else Trapped trap line []) go')
 both_stop left trap line go go' true = both_over
 both_stop left trap line go go' false = both_trapped refl
 
--- how a part stands for its tree
+-- an event that represents a tree depends on the tree only up to regrouping
 pub record Keeps (part : Tree → Event) : Type 0 where
   pub keeps : (t u : Tree) → Regrouped t u → SameEvents (part t ∷ []) (part u ∷ [])
 
@@ -149,7 +149,7 @@ after_quiet (Done a left t) = refl
 after_quiet (Trapped trap line lines) = refl
 after_quiet Over = refl
 
--- nothing goes on
+-- a continuation that does nothing
 pub then_gives : {A : Type 0} (o : Outcome A) → then_do o (λ a left. Done a left quiet) ≡ o
 then_gives (Done a left t) = ap (Done a left) (same_trace t _ _ _ (append-nil t.lines) (append-nil t.updates) (append-nil t.events))
 then_gives (Trapped trap line lines) = refl
@@ -158,7 +158,7 @@ then_gives Over = refl
 abbrev pub spent_to : ℕ → Trace → Outcome (Unit {0})
 spent_to left t = Done tt left t
 
--- the value of an expression that does not trap is paid for
+-- evaluating an expression that does not trap pays its cost
 pub value_pays : {A : Type 0} (v : ℤ) (cost line left : ℕ) (go : ℤ → ℕ → Outcome A) → then_do (pay_for (Gives v cost) line left) go ≡ then_do (pay cost left) (λ _ l. go v l)
 value_pays v cost line left go = by_test (nat_lt left cost)
   where
@@ -170,7 +170,7 @@ works-append : (a b : ℕ) → works a ++ works b ≡ works (a + b)
 works-append zero b = let e : b ≡ 0 + b = omega arith in ap works e
 works-append (suc a) b = let e : suc (a + b) ≡ suc a + b = omega arith in ap (λ es. Work 1 ∷ es) (works-append a b) ∙ ap works e
 
--- what is paid in two parts
+-- a payment in two parts
 pub pay_pay : {A : Type 0} (a b left : ℕ) (go : Unit {0} → ℕ → Outcome A) → then_do (pay a left) (λ _ l. then_do (pay b l) go) ≡ then_do (pay (a + b) left) go
 pay_pay a b left go = by_test (nat_lt left a) (nat_lt (left - a) b) (nat_lt left (a + b)) refl refl refl
   where

@@ -1,4 +1,4 @@
--- Writes into arrays, blocks, branches and turns in the source's frame and in the function's.
+-- Writes to arrays, blocks, branches and iterations, in the frame of the source and in the frame of the function.
 use Rattle.std.proofs.Common.{◌≡◌, ℕ, ◌+◌, Bool, true, false, ℤ, pos, List, [], ◌++◌, length, take, refl, sym, ◌∙◌, ap, length-append}
 use Rattle.std.specs.Prelude.{if◌then◌else◌, ◌&&◌, Option, slice_set}
 use Rattle.std.proofs.lemmas.List.{length-set}
@@ -86,7 +86,7 @@ module _ (c : Surroundings) (fo go : List (Name × ℤ)) (Slot : (fa ga : List (
       alike_done l' (goes (rw (p, q) (related loc (put a (slice_set (find [] a fa) w.place v) fa) (put a (slice_set (find [] a ga) w.spot v) ga) la (w.put_element fa ga slot a o v f') ki ka g))
       (kept_put a xs w.place v (fa ++ la) refl))))
 
-  -- at a block's end
+  -- the end of a block
   leave_out : (mi ma : List Name) {way way' : Completion} → Out c fo go Slot (ints ++ mi) (arrays ++ ma) f0 way way' → (l : ℕ) →
       Alike (Out c fo go Slot ints arrays f0) l (onward way (λ f. going (leave f0 f)) l) (onward way' (λ g. going (leave g0 g)) l)
   leave_out mi ma (returns r f g k) l = alike_done l (returns r f g k)
@@ -127,14 +127,14 @@ module _ (c : Surroundings) (fo go : List (Name × ℤ)) (Slot : (fa ga : List (
       by_test false o g = let p = and_parts (is_local c a && can_evaluate c i) (can_evaluate c e) g in let q =
           and_parts (is_local c a) (can_evaluate c i) p.0 in write_local a i e q.0 q.1 p.1 line left fs fs' calls calls'
 
--- from an earlier frame
+-- the relation from an earlier frame
 pub out_before : {c : Surroundings} {fo go : List (Name × ℤ)} {Slot : (fa ga : List (Name × List ℤ)) → Type 0} {ints arrays : List Name}
     (before f : Frame) {way way' : Completion} → Kept before.arrays f.arrays →
     Out c fo go Slot ints arrays f way way' → Out c fo go Slot ints arrays before way way'
 out_before before f k (goes {f = f'} rel kept) = goes rel (kept_then before.arrays f.arrays f'.arrays k kept)
 out_before before f k (returns {f = f'} r fit g kept) = returns r fit g (kept_then before.arrays f.arrays f'.arrays k kept)
 
--- a way, and what goes on where it goes on
+-- a completion, and the continuation of a normal completion
 pub onward_then : {c : Surroundings} {fo go : List (Name × ℤ)} {Slot : (fa ga : List (Name × List ℤ)) → Type 0} {ints arrays : List Name}
     (S : Completion → Completion → Type 0) {before : Frame} {way way' : Completion} (l : ℕ) →
     Out c fo go Slot ints arrays before way way' → (next next' : Frame → Piece Completion) →

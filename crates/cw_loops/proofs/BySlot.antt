@@ -1,4 +1,4 @@
--- Lowering by slot makes of each statement what lowering by name makes, each name looked up.
+-- Lowering by slot turns each statement into the result of lowering by name with each name looked up.
 use Rattle.std.proofs.Common.{◌≡◌, ℕ, suc, ◌+◌, ◌≤◌, ◌<◌, nat_lt, Bool, true, false, List, [], ◌∷◌, ◌++◌, length, map, arith, refl, sym, ◌∙◌, ap, subst, append_assoc, append-nil, length-append, drop}
 use Rattle.std.specs.Prelude.{if◌then◌else◌, not, nat_le, ◌==◌, ◌&&◌, ◌||◌, Option, Some, None, option_map}
 use Rattle.std.specs.List.{list_all}
@@ -49,7 +49,7 @@ module _ (m : Moves) (c : Surroundings) (t : Tracks m c) (ints arrays : List Nam
   abbrev at_target : Locals
   at_target = lowered_at c ints arrays
 
-  -- an index, which counts from the lower end in an array of the loop
+  -- an index, which counts from the lower end for an array of the loop
   spot_can : (a : Name) (i : Expr) → (if is_among a c.over then is_variable c i else (is_local c a && can_evaluate c i)) ≡ true → can_evaluate c i ≡ true
   spot_can a i h = go (is_among a c.over) refl h
     where
@@ -155,7 +155,7 @@ module _ (m : Moves) (c : Surroundings) (t : Tracks m c) (ints arrays : List Nam
       ap (λ s. s ∷ moved_arrays m (map (use_of (c.arrays ++ arrays)) vs)) (t.array_local v arrays (h v (front_among v vs)) few_arrays)
       ∙ ap (λ r. slot_of v (c.over ++ arrays) ∷ r) (arrays_moved vs (λ w o. h w (later_among w v vs o)))
 
--- where a statement stands: its moves follow its locals, which are few and known
+-- the context of a statement: the mapping follows its locals, which are few and known
 pub record Here (n : ℕ) (m : Moves) (c : Surroundings) (ints arrays : List Name) (known : Known) (counts : Counts) : Type 0 where
   pub tracks : Tracks m c
   pub few_ints : length (c.outer ++ ints) ≤ 256
@@ -217,7 +217,7 @@ here_array {n} {m} {c} {ints} {arrays} {known} {counts} a h new here = record {
   functions_are = here.functions_are;
 }
 
--- what is made of a part of a program, and of the loops in it
+-- the result for a part of a program, with its loops
 pub record Done {S : Type 0} (n : ℕ) (target : Lists) (got want : S) (loops after : List Loop) (k count : ℕ) (made : List model.Function) : Type 0 where
   pub same : got ≡ want
   pub many : length after ≡ k + count
@@ -241,7 +241,7 @@ done_both {S} {T} {U} {n} {target} {got} {want} {got'} {want'} {loops} {between}
       ∙ ap (λ r. loop_texts n loops ++ r) (sym (map-append (slotted_function target) made made'));
 }
 
--- how many arrays are known after a statement
+-- the number of known arrays after a declaration
 array_more : (l : Locals) (a : Name) → length l.arrays ≤ 256 → slot (length l.arrays + 1) ≡ length (l.arrays ++ a ∷ [])
 array_more l a few = small_slot (length l.arrays + 1) (omega (arith, few)) ∙ omega arith ∙ sym (length-append l.arrays (a ∷ []))
 
@@ -308,7 +308,7 @@ module _ (program : Program) (fs fs' rs ts : List Name) (gs gs' : List model.Fun
       Done n Target (made_block n m (length (c.arrays ++ arrays)) loops (resolved_block Source (at c ints arrays) b)).block (slotted_block Target (lowered_at c ints arrays) (lower_block c.over k b))
       loops (made_block n m (length (c.arrays ++ arrays)) loops (resolved_block Source (at c ints arrays) b)).loops k (loop_count_in b) (made_in k b)
 
-  -- what is known after a statement
+  -- the invariant after a statement
   here_after : {m : Moves} {c : Surroundings} {ints arrays : List Name} {known : Known} {counts : Counts} (s : Stmt) (returns : Returns) (line : ℕ) → Here n m c ints arrays known counts →
       fits_stmt counts (resolved_stmt Source (at c ints arrays) s) ≡ true → faults_in program returns known line s ≡ []
       → Here n m c (ints ++ new_integers s) (arrays ++ new_arrays s) (declares s known) counts
@@ -335,7 +335,7 @@ module _ (program : Program) (fs fs' rs ts : List Name) (gs gs' : List model.Fun
   here_after {m} {c} {ints} {arrays} {known} {counts} (Print e) returns line here fits types = here_as (sym (append-nil ints)) (sym (append-nil arrays)) here
   here_after {m} {c} {ints} {arrays} {known} {counts} (Return e) returns line here fits types = here_as (sym (append-nil ints)) (sym (append-nil arrays)) here
 
-  -- what a block becomes, by these locals of the source and of its function
+  -- the result for a block, with the locals of the source and of its function
   abbrev pub Blocks : Moves → ℕ → (l l' : Locals) → List Name → List Loop → ℕ → Block → Type 0
   Blocks m a l l' over loops j b =
       Done n Target (made_block n m a loops (resolved_block Source l b)).block (slotted_block Target l' (lower_block over j b))
@@ -448,7 +448,7 @@ module _ (program : Program) (fs fs' rs ts : List Name) (gs gs' : List model.Fun
           (moved_array m (length ((c.arrays ++ arrays) ++ l ∷ []))) bl) (t.array_next arrays here.few_arrays)
           ∙ ap (λ w. slotted.Cut (slot_of a (c.over ++ arrays)) (slotted_expr (lowered_at c ints arrays) (lower_expr c.over e)) (length (c.over ++ arrays)) w bl) right_moved
 
-  -- the head of a loop, and what its body becomes
+  -- the head of a loop, and the result for its body
   abbrev headed : Surroundings → (ints arrays : List Name) → Name → (from to : Expr) → ℕ → List Name → Block → source.Head
   headed c ints arrays x from to grain over b = head_with (at c ints arrays) x from to grain over (resolved_block Source (with_int x (at c ints arrays)) b)
 
@@ -483,7 +483,7 @@ module _ (program : Program) (fs fs' rs ts : List Name) (gs gs' : List model.Fun
       refl (slots_are (c.arrays ++ arrays) over) (ap slot (length-map over (use_of (c.arrays ++ arrays)))
       ∙ small_slot (length over) (let p = over_few c ints arrays x (captured x b) over can few' in omega (arith, p)))
 
-  -- what is known in the body
+  -- the invariant in the body of a loop
   for_here : {m : Moves} {c : Surroundings} {ints arrays : List Name} {known : Known} {counts : Counts} (x : Name) (from to : Expr) (grain : ℕ)
       (over : List Name) (b : Block) → Here n m c ints arrays known counts →
       can_loop c ints arrays x (captured x b) over ≡ true → can_lower_all (inside c ints arrays x (captured x b) over) [] [] b ≡ true → nat_lt (length (c.outer ++ ints)) counts.ints ≡ true →
@@ -520,7 +520,7 @@ module _ (program : Program) (fs fs' rs ts : List Name) (gs gs' : List model.Fun
           two_lists (((c.outer ++ ints) ++ x ∷ []) ++ []) ((c.outer ++ ints) ++ x ∷ []) ((c.arrays ++ arrays) ++ []) (c.arrays ++ arrays)
           (append-nil ((c.outer ++ ints) ++ x ∷ [])) (append-nil (c.arrays ++ arrays))
 
-  -- the beginning of a loop
+  -- the call that begins a loop
   begin_moved : {m : Moves} {c : Surroundings} {ints arrays : List Name} {known : Known} {counts : Counts} (x : Name) (from to : Expr) (grain : ℕ)
       (over : List Name) (b : Block) (j i : ℕ) → Here n m c ints arrays known counts →
       can_evaluate c from ≡ true → can_evaluate c to ≡ true → can_loop c ints arrays x (captured x b) over ≡ true

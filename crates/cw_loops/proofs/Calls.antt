@@ -1,4 +1,4 @@
--- Call statements in the source's frame and in the function's.
+-- Call statements in the frame of the source and in the frame of the function.
 use Rattle.std.proofs.Common.{◌≡◌, ℕ, ◌-◌, ◌≤◌, ◌<◌, Bool, true, false, ℤ, List, [], ◌∷◌, ◌++◌, length, arith, refl, sym, ◌∙◌, ap, append_assoc, append-nil, subst}
 use Rattle.std.specs.Prelude.{if◌then◌else◌, Option, Some, None}
 use Rattle.std.proofs.lemmas.Bool.{and_parts}
@@ -24,7 +24,7 @@ use Rattle.cw_loops.proofs.Statements.{OptionFits, Out, goes, alike_done, value_
 use Rattle.cw_loops.proofs.Cuts.{alike_right}
 use Rattle.cw_loops.proofs.Worlds.{World, Rel, related, source, target, find_in, evaluate_same, can_fit, local_same}
 
--- a call that gives the same
+-- two calls with the same result
 pub data CallSame (given : Frame) : Returned → Returned → Type 0 where
   same_call : {v : Option ℤ} {f : Frame} → OptionFits v → Good f → Kept given.arrays f.arrays → CallSame given (v, f) (v, f)
 
@@ -54,13 +54,13 @@ given_fine (Negative e) f g = record { short = omega arith; elements = tt }
 given_fine (Not e) f g = record { short = omega arith; elements = tt }
 given_fine (Binary o d e) f g = record { short = omega arith; elements = tt }
 
--- the arrays of a call's frame stand for those of its arguments
+-- the arrays in the frame of a call have the lengths of its array arguments
 abbrev pub Matches : List Param → List Expr → Frame → List (Name × List ℤ) → Type 0
 Matches [] es f t = Unit {0}
 Matches (p ∷ ps) [] f t = Unit {0}
 Matches (p ∷ ps) (e ∷ es) f t = (wants_array p ≡ true → (is_among p.name (keys t) ≡ true) × (length (find [] p.name t) ≡ length (given_array e f))) × Matches ps es f t
 
--- a call's frame, the same on both sides
+-- the frames of the call are the same on both sides
 pub record SameGiven (ps : List Param) (es : List Expr) (f start given given' : Frame) : Type 0 where
   pub same : given' ≡ given
   pub good : Good given
@@ -172,7 +172,7 @@ module _ (c : Surroundings) (fo go : List (Name × ℤ)) (Slot : (fa ga : List (
           }) (omega arith)
           (more (new_int p.name v start) (record { ints = fit-append start.ints ((p.name, v) ∷ []) g.ints (fit, tt); arrays = g.arrays }) (fresh_if false p ps (keys start.arrays) k fresh) l))
 
-  -- the arrays of a call come back
+  -- the returned arrays keep the relation of the frames
   back_rel : (ps : List Param) (es : List Expr) → can_pass_all c es ≡ true → (t : List (Name × List ℤ)) → Matches ps es f0 t → (callee : Frame) → Good callee → Kept t callee.arrays →
       (f g : Frame) → Rel c fo go Slot ints arrays f g → sizes f.arrays ≡ sizes f0.arrays →
       Rel c fo go Slot ints arrays (returned_arrays ps es callee f) (returned_arrays ps (lower_exprs c.over es) callee g) × (sizes (returned_arrays ps es callee f).arrays ≡ sizes f0.arrays)

@@ -1,4 +1,4 @@
--- Branches, turns, scopes and regions, by what their blocks do.
+-- Branches, iterations, scopes and regions, given the behaviour of their blocks.
 use Rattle.std.proofs.Common.{◌≡◌, ℕ, zero, suc, ◌-◌, ◌≤◌, true, ℤ, List, arith, refl}
 use Rattle.cw_model.specs.Ints.{fits, is_zero}
 use Rattle.cw_model.specs.Trees.{Series, Marked, Execution}
@@ -23,7 +23,7 @@ module _ (c : Surroundings) (fo go : List (Name × ℤ)) (Slot : (fa ga : List (
   abbrev Out' : Frame → Completion → Completion → Type 0
   Out' = Out c fo go Slot ints arrays
 
-  -- what a block does from any frames that stand so
+  -- a block behaves in the same way from any related frames
   abbrev pub BlockAlike : (limit : ℕ) → (piece piece' : Frame → Piece Completion) → Type 0
   BlockAlike limit piece piece' = (f g : Frame) → Rel c fo go Slot ints arrays f g → (left : ℕ) → left ≤ limit → Alike (OutAll c fo go Slot ints arrays f) left (piece f left) (piece' g left)
 
@@ -50,7 +50,7 @@ module _ (c : Surroundings) (fo go : List (Name × ℤ)) (Slot : (fa ga : List (
       alike_if (is_zero v) (going f) (scoped f (run_all b fs calls f)) (going g) (scoped g (run_all b' fs' calls' g)) (l - 1)
       (alike_done (l - 1) (stays f g rel)) (in_scope limit (run_all b fs calls) (run_all b' fs' calls') h f g rel (l - 1) (omega arith))))
 
-  -- one instruction more, where it goes on
+  -- one more instruction after a normal completion
   pub and_pay : (f : Frame) {way way' : Completion} (l : ℕ) → Out' f way way' →
       Alike (Out' f) l (onward way (λ frame'. ◌>>=◌ (pay 1) (λ _. going frame')) l) (onward way' (λ frame'. ◌>>=◌ (pay 1) (λ _. going frame')) l)
   and_pay f l out = onward_then (Out' f) l out (λ frame'. ◌>>=◌ (pay 1) (λ _. going frame')) (λ frame'. ◌>>=◌ (pay 1) (λ _. going frame')) (λ v f' r fit good kept. returns r fit good kept)

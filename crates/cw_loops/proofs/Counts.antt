@@ -1,4 +1,4 @@
--- A lowered program has no loop, and as many call statements as its source.
+-- A lowered program has no loop, and it has the call statements of its source.
 use Rattle.std.proofs.Common.{◌≡◌, ℕ, ◌+◌, List, [], ◌∷◌, ◌++◌, length, arith, refl, ◌∙◌, ap, append-nil, length-append}
 use Rattle.std.specs.Prelude.{flat_map}
 use Rattle.std.proofs.lemmas.Grind.{flat_map-append}

@@ -30,7 +30,7 @@ use Rattle.cw_loops.proofs.Control.{BlockAlike, in_scope}
 use Rattle.cw_loops.proofs.Calls.{keys-sizes, among_there}
 use Rattle.cw_loops.proofs.Loop.{GivesSuch, ResultSuch, such_then}
 
--- a place within an array
+-- a position within an array
 record CutAt (xs : List ℤ) (v : ℤ) : Type 0 where
   place : ℕ
   is : v ≡ pos place
@@ -88,7 +88,7 @@ module _ (c : Surroundings) (fo go : List (Name × ℤ)) (Slot : (fa ga : List (
       let g : Good (source c fo loc fa ((la ++ l1) ++ r1)) = record { ints = good.ints; arrays = rw (← three fa la l1 r1) fine } in
       rw (three fa la l1 r1, three ga la l1 r1) (related loc fa ga ((la ++ l1) ++ r1) slot ki names g)
 
-  -- at the end of the cut
+  -- the end of the cut
   uncut_out : (n : ℕ) → n ≤ length xs → (f' g' : Frame) → Rel c fo go Slot ints ((arrays ++ l ∷ []) ++ r ∷ []) f' g' → Kept (inside f0 n).arrays f'.arrays →
       Out c fo go Slot ints arrays f0 (Normal (uncut a l r f0 f')) (Normal (uncut a l r g0 g'))
   uncut_out n le f' g' (related loc' fa' ga' la' slot' ki' ka' good') kept =

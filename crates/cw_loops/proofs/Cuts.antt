@@ -38,7 +38,7 @@ pub alike_first_right : {A B C : Type 0} {R : A → B → Type 0} {given : ℕ} 
     → Alike R given o (then_do p go) → Alike R given o (then_do o' go)
 alike_first_right {R = R} {given = given} {o = o} e go h = subst (λ x. Alike R given o (then_do x go)) (sym e) h
 
--- a start: its arguments, and the call
+-- a `Start` statement: its arguments and its call
 start_runs : (kind : _) (name : Name) (es : List Expr) (line : ℕ) (fs : List Function) (calls : Calls) (frame given : Frame) (f : Function) (cost left : ℕ) →
     function_named name fs ≡ f → arguments f.params es frame line no_frame left ≡ then_do (pay cost left) (λ _ l. Done given l quiet) →
     run (Start kind name es) line fs calls frame left
@@ -48,17 +48,17 @@ start_runs kind name es line fs calls frame given f cost left found paid = rw fo
     (then_then (pay cost left) (λ _ l. Done given l quiet) _ ∙ then_same (pay cost left) _ _ (λ _ l. after_quiet _)
     ∙ pay_pay cost 1 left _))
 
--- both halves of the source, after so many instructions
+-- both halves of the source, after `c` instructions
 abbrev pub halves_piece : ℕ → (first : ℕ → Outcome Frame) (second : Frame → ℕ → Outcome Frame) → (c left : ℕ) → Outcome Frame
 halves_piece k first second c left = then_do (pay c left) (λ _ l. then_do (joined_up Fork (first l)) (λ frame1 l. then_do (pay (3 + k) l) (λ _ l. joined_up Series (second frame1 l))))
 
--- what a half leaves
+-- the result of a half
 pub record Half (ints : List (Name × ℤ)) (over : List Name) (Ok : Frame → (Name → List ℤ) → Type 0) (frame : Frame) (returned : Returned) : Type 0 where
   pub slices : Name → List ℤ
   pub gives : returned ≡ (None, record { ints = ints; arrays = table over slices; sliced = [] })
   pub ok : Ok frame slices
 
--- what both halves leave in their cuts
+-- the results of both halves in their cuts
 pub record Both (at : List (Name × List ℤ) → Frame) (arrays : (l r : Name → List ℤ) → List (Name × List ℤ))
     (Ok : Frame → (l r : Name → List ℤ) → Type 0) (frame : Frame) (way : Completion) : Type 0 where
   pub lefts : Name → List ℤ
@@ -69,7 +69,7 @@ pub record Both (at : List (Name × List ℤ) → Frame) (arrays : (l r : Name �
 front_same : {A : Type 0} (x y : A) (xs ys : List A) → x ∷ xs ≡ y ∷ ys → (x ≡ y) × (xs ≡ ys)
 front_same x y xs ys e = (cc, cc)
 
--- pairs of the same parts
+-- equal left parts give equal pairs
 pairs_left_same : (as' : List Name) (l l' r : Name → List ℤ) → table as' l ≡ table as' l' → pairs as' l r ≡ pairs as' l' r
 pairs_left_same [] l l' r e = refl
 pairs_left_same (a ∷ as') l l' r e =
@@ -84,7 +84,7 @@ pairs_right_same (a ∷ as') l r r' e =
     let here : r a ≡ r' a = ap (λ (p : Name × List ℤ). p.1) same.0 in
     rw (here, pairs_right_same as' l r r' same.1) refl
 
--- a table's arrays are found
+-- the arrays of a table are found
 pub table_found : (as' : List Name) (s : Name → List ℤ) (t u : List (Name × List ℤ)) → Fresh (keys t) as' → table as' (λ a. find [] a (t ++ (table as' s ++ u))) ≡ table as' s
 table_found [] s t u fresh = refl
 table_found (a ∷ as') s t u fresh =
@@ -97,7 +97,7 @@ table_found (a ∷ as') s t u fresh =
 pub found_alone : (as' : List Name) (s : Name → List ℤ) → Fresh [] as' → table as' (λ a. find [] a (table as' s)) ≡ table as' s
 found_alone as' s fresh = ap (λ v. table as' (λ a. find [] a v)) (sym (append-nil (table as' s))) ∙ table_found as' s [] [] fresh
 
--- lists of tables
+-- the table of a concatenation
 table-append : (xs ys : List Name) (s : Name → List ℤ) → table (xs ++ ys) s ≡ table xs s ++ table ys s
 table-append [] ys s = refl
 table-append (x ∷ xs) ys s = ap (λ t. (x, s x) ∷ t) (table-append xs ys s)
@@ -114,7 +114,7 @@ length-pairs : (xs : List Name) (l r l' r' : Name → List ℤ) → length (pair
 length-pairs [] l r l' r' = refl
 length-pairs (x ∷ xs) l r l' r' = ap (λ n. suc (suc n)) (length-pairs xs l r l' r')
 
--- one more array is cut
+-- the shape of the arrays after one more cut
 shape_in : (done rest : List Name) (a : Name) (s j l r : Name → List ℤ) →
     ((table done s ++ (a, s a) ∷ (table rest j ++ pairs done l r)) ++ (left_part a, l a) ∷ []) ++ (right_part a, r a) ∷ []
     ≡ table (done ++ a ∷ []) s ++ (table rest j ++ pairs (done ++ a ∷ []) l r)
@@ -126,13 +126,13 @@ shape_in done rest a s j l r =
     ∙ sym (append_assoc (table done s) ((a, s a) ∷ []) (table rest j ++ pairs (done ++ a ∷ []) l r))
     ∙ ap (λ u. u ++ (table rest j ++ pairs (done ++ a ∷ []) l r)) (sym (table-append done (a ∷ []) s))
 
--- the parts of arrays that are still to be cut have new names
+-- the parts of the arrays that are not cut yet have new names
 abbrev pub Cutting : List Name → List Name → Type 0
 Cutting done [] = Unit {0}
 Cutting done (a ∷ rest) = (is_among (left_part a) (done ++ a ∷ (rest ++ pair_names done)) ≡ false)
     × (is_among (right_part a) (done ++ a ∷ (rest ++ pair_names done)) ≡ false) × Cutting (done ++ a ∷ []) rest
 
--- arrays that are at least so long
+-- each array has at least length `h`
 abbrev pub Long : ℕ → (Name → List ℤ) → List Name → Type 0
 Long h s [] = Unit {0}
 Long h s (a ∷ rest) = (h ≤ length (s a)) × Long h s rest
@@ -180,7 +180,7 @@ module _ (name : Name) (line : ℕ) (f : Function) (over : List Name) (fs' : Lis
       ∙ ap (λ i. then_do (pay (2 + length cs) left) (λ _ l. Done (entry i hi cs (table over (λ a. find [] (right_part a) arrays))) l quiet)) (middle_is arrays)
       ∙ ap (λ t. then_do (pay (2 + length cs) left) (λ _ l. Done (entry m hi cs t) l quiet)) e
 
-  -- the arrays that come back from the halves
+  -- the arrays that the halves return
   back_left : (t : List (Name × List ℤ)) (sl sr s1 : Name → List ℤ) (callee : Frame) → callee.arrays ≡ table over s1 → FreshPairs (keys t) over → Fresh [] over →
       returned_arrays f.params (left_arguments (keys cs) over) callee (at_node (t ++ pairs over sl sr)) ≡ at_node (t ++ pairs over s1 sr)
   back_left t sl sr s1 callee e fresh once =
@@ -309,7 +309,7 @@ module _ (name : Name) (line : ℕ) (f : Function) (over : List Name) (fs' : Lis
         length-append (table done s) ((a, s a) ∷ (table rest s ++ pairs done sl sr)) ∙ ap (λ n. length (table done s) + suc n) e
         ∙ sym (length-append (table done s) ((a, s a) ∷ (table rest j ++ pairs done l r)))
 
-    -- what the cuts leave
+    -- the state after the cuts
     abbrev Left : (done todo : List Name) → Frame → Completion → Type 0
     Left done todo = Both at_node (λ l r. table done s ++ (table todo (λ a. l a ++ r a) ++ pairs done l r)) Ok2
 

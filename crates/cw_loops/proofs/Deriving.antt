@@ -1,4 +1,4 @@
--- Names and numbers of a derived program are those of its text.
+-- The names and numbers of a program that is derived from a text are possible in a source.
 use Rattle.std.proofs.Common.{◌≡◌, ℕ, Bool, true, false, List, [], ◌∷◌, Option, Some, arith, refl, sym, ◌∙◌, ap}
 use Rattle.std.specs.Prelude.{◌==◌, not, length}
 use Rattle.std.specs.List.{list_all}
@@ -69,11 +69,11 @@ tokens_plain : (text : List ℕ) (from : ℕ) (ts : List Token) (to : ℕ) → A
 tokens_plain text from [] to h = tt
 tokens_plain text from (t ∷ ts) to h = (spelled_plain t.kind (between text t.start t.end) h.1.spelled, tokens_plain text t.end ts to h.2)
 
--- what is read is of a source, and the rest is plain
+-- the part that is read is possible in a source, and the remaining tokens are plain
 abbrev Sourced : List ℕ → Bool → List Token → Type 0
 Sourced text source rest = (source ≡ true) × Plain text rest
 
--- what an expression goes on from
+-- the condition on the expression that is continued
 abbrev Before : Part → Type 0
 Before (level k) = Unit {0}
 Before (chain k d) = is_source_expr d ≡ true

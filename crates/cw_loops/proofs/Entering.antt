@@ -1,4 +1,4 @@
--- What holds where the body of a loop is entered, and what is known after a statement.
+-- The invariant at the start of the body of a loop, and the known names after a statement.
 use Rattle.std.proofs.Common.{◌≡◌, true, false, List, [], ◌∷◌, ◌++◌, refl, sym, ◌∙◌, ap, append_assoc, append-nil}
 use Rattle.std.specs.Prelude.{not}
 use Rattle.std.proofs.lemmas.Bool.{and_parts}
@@ -12,19 +12,19 @@ use Rattle.cw_loops.specs.Lowered.{is_plain}
 use Rattle.cw_loops.specs.Lowerable.{Surroundings, can_read, is_local, is_variable, can_evaluate, new_integers, new_arrays, can_capture, can_slice, can_loop}
 use Rattle.cw_loops.specs.lemmas.Capturing.{each_captured, each_sliced}
 
--- integers and arrays behind others
+-- locals appended to other locals
 abbrev pub joined : (o q ints arrays : List Name) → Locals
 joined o q ints arrays = record { ints = o ++ ints; arrays = q ++ arrays }
 
--- the locals of the source where these of a turn are known
+-- the locals of the source, if these locals of the iteration are known
 abbrev pub at : Surroundings → (ints arrays : List Name) → Locals
 at c ints arrays = joined c.outer c.arrays ints arrays
 
--- and those of the function that its text goes to
+-- the locals of the generated function, if these locals of the iteration are known
 abbrev pub lowered_at : Surroundings → (ints arrays : List Name) → Locals
 lowered_at c ints arrays = joined c.given c.over ints arrays
 
--- what is asked of a loop, name by name
+-- the conditions on a loop, name by name
 pub record Entered (c : Surroundings) (ints arrays : List Name) (x : Name) (taken over : List Name) : Type 0 where
   pub plain : is_plain x ≡ true
   pub new : is_among x (c.outer ++ ints) ≡ false
@@ -60,7 +60,7 @@ entered c ints arrays x taken over h =
       over_known = λ a o. (each_sliced c arrays over six.1 a o).2;
     }
 
--- the loop's variable may be read, where it is alone
+-- the loop's variable may be read on its own
 pub variable_can : (c : Surroundings) (e : Expr) → can_read c c.variable ≡ true → is_variable c e ≡ true → can_evaluate c e ≡ true
 variable_can c (Number n) r h = absurd cc
 variable_can c (Variable y) r h = ap (can_read c) (same_are y c.variable h) ∙ r
@@ -70,7 +70,7 @@ variable_can c (Negative e) r h = absurd cc
 variable_can c (Not e) r h = absurd cc
 variable_can c (Binary operator d e) r h = absurd cc
 
--- what is known after a statement
+-- the known names after a statement
 
 pub two_lists : (ints ints' arrays arrays' : List Name) → ints ≡ ints' → arrays ≡ arrays' → joined [] [] ints arrays ≡ joined [] [] ints' arrays'
 two_lists ints ints' arrays arrays' e f = ap (λ w. joined [] [] w arrays) e ∙ ap (λ w. joined [] [] ints' w) f

@@ -1,4 +1,4 @@
--- Lowered trees of which the test holds are equal.
+-- Lowered trees that pass the test are equal.
 use Rattle.std.proofs.Common.{◌≡◌, ℕ, ◌==◌, ℤ, pos, negsuc, true, List, [], ◌∷◌, Option, Some, None, refl, ap}
 use Rattle.std.proofs.lemmas.Bool.{eqb-true, and_parts}
 use Rattle.cw_model.specs.declared.syntax.CallKind.{CallKind}

@@ -1,4 +1,4 @@
--- The integers that a body takes from outside are no more than are known before it.
+-- A body captures at most the integers that are known before it.
 use Rattle.std.proofs.Common.{◌≡◌, ℕ, ◌==◌, ◌<◌, ◌≤◌, nat_lt, Bool, true, false, List, [], ◌∷◌, ◌++◌, length, arith, refl, sym, ◌∙◌}
 use Rattle.std.specs.Prelude.{if◌then◌else◌, not, ◌&&◌, ◌||◌}
 use Rattle.std.specs.List.{list_any, AllByRecursion, IsDistinct}
@@ -10,7 +10,7 @@ use Rattle.cw_facts.specs.Tests.{lt_of, not_true}
 use Rattle.cw_tree.specs.Resolved.{Use, is_slot_in, with_first, first_uses, reads_in_block, captured_in, Block}
 use Rattle.cw_loops.specs.Moved.{slots_of}
 
--- slots of which no two are equal, each below a number
+-- distinct slots below a number
 record AreApart (n : ℕ) (slots : List ℕ) : Type 0 where
   distinct : IsDistinct (λ k q. k == q) slots
   below : (q : ℕ) → list_any (λ k. q == k) slots ≡ true → q < n

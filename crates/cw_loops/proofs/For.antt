@@ -1,4 +1,4 @@
--- A `cilk_for` of the source, and the text that it is lowered to.
+-- A `cilk_for` of the source, and its lowered text.
 use Rattle.std.proofs.Common.{◌≡◌, ℕ, zero, suc, ◌+◌, ◌≤◌, ◌<◌, ◌^◌, Bool, true, false, ℤ, pos, negsuc, ◌+ℤ◌, List, [], ◌∷◌, ◌++◌, length, take, drop, arith, refl, sym, ◌∙◌, ap, subst, length-drop}
 use Rattle.std.specs.Prelude.{if◌then◌else◌, not, ◌&&◌, nat_lt, int_le, map}
 use Rattle.std.proofs.lemmas.Bool.{leb-true, and_parts}
@@ -53,7 +53,7 @@ sizes_mapped (a ∷ as') f t d h =
     ap (λ x. length (f b x)) same ∙ h b (later_among b a as' o) ∙ sym (ap length same))
     ∙ sizes-put a v t (h a (front_among a as'))
 
--- the range lies in each array
+-- the range is within each array
 lies_each : (lo hi : ℤ) (over : List Name) (g : Name → List ℤ) → lies_within lo hi (map g over) ≡ true → (a : Name) → is_among a over ≡ true
     → (int_le (pos 0) lo ≡ true) × (int_le hi (pos (length (g a))) ≡ true)
 lies_each lo hi [] g h a o = absurd cc
@@ -76,7 +76,7 @@ up_to lo n m e h =
     let g : int_le (pos (natural lo) +ℤ pos n) (pos m) ≡ true = ap (λ z. int_le (z +ℤ pos n) (pos m)) (sym e) ∙ h in
     leb-true (natural lo + n) m g
 
--- the parts of the test on a loop
+-- the parts of the test for a loop
 pub record LoopTests (c : Surroundings) (ints arrays : List Name) (x : Name) (taken over : List Name) : Type 0 where
   pub plain : is_plain x ≡ true
   pub is_new : is_among x (c.outer ++ ints) ≡ false
@@ -194,7 +194,7 @@ module _ (c : Surroundings) (fo go : List (Name × ℤ)) (Slot : (fa ga : List (
             let same : length (find [] a (ga ++ la)) ≡ length (find [] a (fa ++ la)) = ap length (local a o) in
             length-take-le n (drop (natural lo) (find [] a (ga ++ la))) (omega (arith, length-drop (natural lo) (find [] a (ga ++ la))))
 
-    -- what the loop leaves
+    -- the state after the loop
     ends : (lo : ℤ) (n : ℕ) → Agrees over i0 arrays0 c.sliced lo n f0 (λ a. take n (drop (natural lo) (find [] a (ga ++ la))))
         → (f : Frame) (r : Returned) → Half ((low, lo) ∷ (high, lo +ℤ pos n) ∷ cs) over (Put over lo n f0) f r →
         Out c fo go Slot ints arrays f0 (Normal f) (Normal (slices_back over (natural lo) r.1 g0))
@@ -223,7 +223,7 @@ module _ (c : Surroundings) (fo go : List (Name × ℤ)) (Slot : (fa ga : List (
         by_count a o zero e = ap length (slice_none (find [] a (fa ++ la)) (half.slices a) (natural lo) (half.ok.lengths a o ∙ e))
         by_count a o (suc m) e = slice_length (find [] a (fa ++ la)) (half.slices a) (natural lo) (omega (arith, half.ok.lengths a o, agrees.within a o (omega arith)))
 
-    -- the loop from its start on
+    -- the loop, from its start
     pub begun : (lo : ℤ) (n : ℕ) → n < 2 ^ 63 → fits lo ≡ true → fits (lo +ℤ pos n) ≡ true
         → (1 ≤ n → lies_within lo (lo +ℤ pos n) (map (λ a. find [] a (fa ++ la)) over) ≡ true) → (l bound : ℕ) → l ≤ limit → l < bound →
         Alike (Out c fo go Slot ints arrays f0) l

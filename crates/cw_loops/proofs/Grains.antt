@@ -1,4 +1,4 @@
--- Loops of each length from 0 to 7, by each grain from 1 to 3.
+-- Loops of each length from 0 to 7, with each grain from 1 to 3.
 use Rattle.std.proofs.Common.{◌≡◌, true, refl}
 use Rattle.cw_model.specs.Meaning.{call}
 use Rattle.cw_model.specs.Answers.{serial_answer}

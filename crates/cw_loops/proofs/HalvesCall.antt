@@ -1,4 +1,4 @@
--- A call of the generated function does what the loop by halves does.
+-- A call of the generated function behaves as the divide-and-conquer loop.
 use Rattle.std.proofs.Common.{◌≡◌, ℕ, zero, suc, ◌+◌, ◌-◌, ◌*◌, ◌/◌, ◌≤◌, ◌<◌, ◌^◌, Bool, true, false, ℤ, pos, ◌+ℤ◌, List, []}
 use Rattle.std.proofs.Common.{◌∷◌, ◌++◌, length, take, drop, arith, refl, sym, ◌∙◌, ap, append-nil, subst}
 use Rattle.std.specs.Prelude.{nat_lt, nat_le, if◌then◌else◌, None}
@@ -36,7 +36,8 @@ pub length_of_table : (over : List Name) (s : Name → List ℤ) → length (tab
 length_of_table [] s = refl
 length_of_table (a ∷ over) s = ap (λ n. suc n) (length_of_table over s)
 
--- how the slices of a range stand to a frame (Agrees), and how a frame comes from another by slices of its range (Put)
+-- the relation between the slices of a range and a frame (`Agrees`), and the relation between two frames that differ in
+-- the slices of a range (`Put`)
 pub record Slicing (over : List Name) (Agrees : ℤ → ℕ → Frame → (Name → List ℤ) → Type 0) (Put : ℤ → ℕ → Frame → Frame → (Name → List ℤ) → Type 0) : Type 0 where
   pub start : (lo : ℤ) (n : ℕ) (frame : Frame) (s : Name → List ℤ) → Agrees lo n frame s → Put lo n frame frame s
   pub left : (lo : ℤ) (n h : ℕ) (frame : Frame) (s : Name → List ℤ) → h ≤ n → Agrees lo n frame s → Agrees lo h frame (λ a. take h (s a))
@@ -45,7 +46,7 @@ pub record Slicing (over : List Name) (Agrees : ℤ → ℕ → Frame → (Name 
       Put lo n frame frame2 (λ a. s1 a ++ s2 a)
   pub long : (lo : ℤ) (n h : ℕ) (frame : Frame) (s : Name → List ℤ) → h ≤ n → Agrees lo n frame s → Long h s over
 
--- a frame that the turns so far reached, and the arrays of the function there
+-- a frame that the iterations so far reached, and the arrays of the function at that point
 pub record Reached (over : List Name) (Put : Frame → (Name → List ℤ) → Type 0) (frame : Frame) (arrays : List (Name × List ℤ)) : Type 0 where
   pub slices : Name → List ℤ
   pub is : arrays ≡ table over slices
@@ -54,7 +55,7 @@ pub record Reached (over : List Name) (Put : Frame → (Name → List ℤ) → T
 pub counted : (over : List Name) (Put : Frame → (Name → List ℤ) → Type 0) (frame : Frame) (arrays : List (Name × List ℤ)) → Reached over Put frame arrays → length arrays ≡ length over
 counted over Put frame arrays r = ap length r.is ∙ length_of_table over r.slices
 
--- the tail of a node's piece stands after both halves
+-- the end of a node follows both halves
 end_after : (k c : ℕ) (first : ℕ → Outcome Frame) (second : Frame → ℕ → Outcome Frame) (last : Frame → ℕ → Outcome Frame) (left : ℕ) →
     then_do (pay c left) (λ _ l. then_do (joined_up Fork (first l)) (λ frame1 l. then_do (pay (3 + k) l) (λ _ l. then_do (joined_up Series (second frame1 l)) last)))
     ≡ then_do (halves_piece k first second c left) last
@@ -67,7 +68,7 @@ split : (k a c : ℕ) (first : ℕ → Outcome Frame) (second : Frame → ℕ �
     then_do (halves_piece k first second (a + c) left) last ≡ then_do (pay a left) (λ _ l. then_do (halves_piece k first second c l) last)
 split k a c first second last left = ap (λ o. then_do o last) (sym (pay_pay a c left _)) ∙ then_then (pay a left) _ _
 
--- the middle of a range
+-- evaluating the middle of a range
 middle_gives : (lo : ℤ) (n : ℕ) (cs : List (Name × ℤ)) (arrays : List (Name × List ℤ)) → n < 2 ^ 63 → fits (lo +ℤ pos (n / 2)) ≡ true →
     evaluate (Binary Plus (Variable low) (Binary Divide range (Number (pos 2)))) (entry lo (lo +ℤ pos n) cs arrays) ≡ Gives (lo +ℤ pos (n / 2)) 7
 middle_gives lo n cs arrays small e =
@@ -89,7 +90,7 @@ module _ (name : Name) (line : ℕ) (x : Name) (grain : ℕ) (cs : List (Name ×
   abbrev halves_of : ℕ → ℕ → ℤ → Frame → ℕ → Outcome Frame
   halves_of d n lo frame left = halves d grain (length cs) (length over) n lo (for_body x over b fs calls) frame left
 
-  -- what a call on a range does
+  -- a call on a range behaves as the divide-and-conquer loop
   abbrev pub CallsAsHalves : ℕ → Type 0
   CallsAsHalves d = (lo : ℤ) (n : ℕ) → n < d → n < 2 ^ 63 → fits lo ≡ true → fits (lo +ℤ pos n) ≡ true → (frame : Frame) (s : Name → List ℤ) → Agrees lo n frame s →
       (left bound line' : ℕ) → left ≤ limit → left < bound →

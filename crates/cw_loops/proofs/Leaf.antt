@@ -1,4 +1,4 @@
--- The turns of a leaf, as its function's `while` does them.
+-- The iterations of a leaf, as the `while` of its function executes them.
 use Rattle.std.proofs.Common.{◌≡◌, ℕ, zero, suc, ◌+◌, ◌-◌, ◌≤◌, ◌<◌, true, false, ℤ, pos, ◌+ℤ◌, List, [], ◌∷◌, ◌++◌, length, take, arith, refl, sym, ◌∙◌, ap, subst}
 use Rattle.std.specs.Prelude.{int_lt, if◌then◌else◌}
 use Rattle.std.proofs.Math.Seq.{take-length}
@@ -33,7 +33,7 @@ from_right {R = R} {given = given} {o = o} e h = subst (λ x. Chained R given o 
 abbrev pub entry : ℤ → ℤ → List (Name × ℤ) → List (Name × List ℤ) → Frame
 entry lo hi cs arrays = record { ints = (low, lo) ∷ (high, hi) ∷ cs; arrays = arrays; sliced = [] }
 
--- and of its leaf at a turn
+-- the frame of a leaf at an iteration
 abbrev pub at_turn : ℤ → ℤ → List (Name × ℤ) → List (Name × List ℤ) → Name → ℤ → Frame
 at_turn lo hi cs arrays x i = new_int x i (entry lo hi cs arrays)
 
@@ -65,13 +65,13 @@ module _ (x : Name) (plain : is_plain x ≡ true) (lo hi : ℤ) (cs : List (Name
   pub step_gives : (arrays : List (Name × List ℤ)) (i : ℤ) → fits (i +ℤ pos 1) ≡ true → evaluate (Binary Plus (Variable x) (Number (pos 1))) (at_turn lo hi cs arrays x i) ≡ Gives (i +ℤ pos 1) 3
   step_gives arrays i e = ap (λ v. also (Gives v 1) (Gives (pos 1) 1) (apply Plus)) (variable_is arrays i) ∙ ap (λ b. done_at 3 (if b then Value (i +ℤ pos 1) else Fails trap.Overflow)) e
 
--- a turn of the source and one of its function, of the loop's block and the lowered block
+-- the end of an iteration in the source and in the function
 pub record Next (Near : Frame → List (Name × List ℤ) → Type 0) (turn : List (Name × List ℤ) → Frame) (frame : Frame) (way way' : Completion) : Type 0 where
   pub arrays : List (Name × List ℤ)
   pub goes_on : way' ≡ Normal (turn arrays)
   pub near : Near (leave frame (frame_of way)) arrays
 
--- the loop after its last turn
+-- the end of the last iteration of the loop
 pub record AtLast (Near : Frame → List (Name × List ℤ) → Type 0) (last : List (Name × List ℤ) → Frame) (frame : Frame) (way : Completion) : Type 0 where
   pub arrays : List (Name × List ℤ)
   pub goes_on : way ≡ Normal (last arrays)
@@ -83,7 +83,7 @@ module _ (line : ℕ) (x : Name) (over : List Name) (b b' : Block) (fs fs' : Lis
   abbrev turn_of : ℕ → List (Name × List ℤ) → Frame
   turn_of j arrays = at_turn lo (lo +ℤ pos n) cs arrays x (lo +ℤ pos j)
 
-  -- a turn does the same in the source and in the function
+  -- an iteration behaves in the same way in the source and in the function
   abbrev pub Turns : Type 0
   Turns = (j : ℕ) → j < n → (frame : Frame) (arrays : List (Name × List ℤ)) (given bound : ℕ) → given ≤ limit → given < bound → Near frame arrays →
       Alike (Next Near (turn_of j) frame) given (run_all b fs calls (inside_loop over (new_int x (lo +ℤ pos j) frame)) given)
@@ -93,7 +93,7 @@ module _ (line : ℕ) (x : Name) (over : List Name) (b b' : Block) (fs fs' : Lis
     abbrev pub leaf_body : ℕ → Frame → Piece Completion
     leaf_body bound g = scoped g (run_all (leaf_turn line x b') fs' (call bound depth fs') g)
 
-    -- the turns from here on, and the last test
+    -- the iterations from here on, and the last test
     abbrev LeafRuns : ℕ → Type 0
     LeafRuns t = (j : ℕ) → j + t ≡ n → (frame : Frame) (arrays : List (Name × List ℤ)) (left wb bound : ℕ) → left ≤ limit → left < wb → left < bound → Near frame arrays →
         Chained (AtLast Near (turn_of n)) left
@@ -107,7 +107,7 @@ module _ (line : ℕ) (x : Name) (over : List Name) (b b' : Block) (fs fs' : Lis
         ∙ leave_turn x plain lo (lo +ℤ pos n) cs away arrays arrays' (lo +ℤ pos j) (lo +ℤ pos j +ℤ pos 1) same
         ∙ ap (λ i. at_turn lo (lo +ℤ pos n) cs arrays' x i) next
 
-    -- the body of a turn, its end, and the further turns
+    -- the end of an iteration's body, and the remaining iterations
     after_body : (t : ℕ) → LeafRuns t → (j : ℕ) → j + suc t ≡ n → (frame : Frame) (arrays : List (Name × List ℤ)) (left wb bound : ℕ) → left ≤ limit → left < wb → left < bound → Near frame arrays →
         lo +ℤ pos j +ℤ pos 1 ≡ lo +ℤ pos (suc j) → fits (lo +ℤ pos j +ℤ pos 1) ≡ true →
         Chained (AtLast Near (turn_of n)) left

@@ -1,4 +1,4 @@
--- A leaf, as a call of the generated function.
+-- A leaf as a call of the generated function.
 use Rattle.std.proofs.Common.{◌≡◌, ℕ, zero, suc, ◌-◌, ◌≤◌, ◌<◌, ◌^◌, true, false, ℤ, pos, ◌+ℤ◌, List, [], ◌∷◌, ◌++◌, length, take, arith, refl, sym, ◌∙◌, ap, subst}
 use Rattle.std.specs.Prelude.{nat_lt, nat_le, if◌then◌else◌, None}
 use Rattle.std.proofs.Math.Seq.{take-length, take-append_seam}
@@ -33,25 +33,25 @@ whole_left {R = R} {given = given} {o' = o'} e h = subst (λ x. Whole R given x 
 pub whole_right : {A B : Type 0} {R : A → B → Type 0} {given : ℕ} {o : Outcome A} {o' p : Outcome B} → o' ≡ p → Whole R given o p → Whole R given o o'
 whole_right {R = R} {given = given} {o = o} e h = subst (λ x. Whole R given o x) (sym e) h
 
--- the first of two pieces, by an equation
+-- rewriting the first of two parts
 pub first_right : {A B C : Type 0} {R : A → B → Type 0} {given : ℕ} {o : Outcome A} {o' p : Outcome C} → o' ≡ p → (go : C → ℕ → Outcome B)
     → Whole R given o (then_do p go) → Whole R given o (then_do o' go)
 first_right {R = R} {given = given} {o = o} e go h = subst (λ x. Whole R given o (then_do x go)) (sym e) h
 
--- six instructions at the end as four and two
+-- six instructions at the end, as four and two
 split_end : {A : Type 0} (o : Outcome A) →
     then_do o (λ a l. then_do (pay 6 l) (λ _ l. Done a l quiet)) ≡ then_do (then_do o (λ a l. then_do (pay 4 l) (λ _ l. Done a l quiet))) (λ a l. then_do (pay 2 l) (λ _ l. Done a l quiet))
 split_end o =
     sym (then_then o _ _ ∙ then_same o _ _ (λ a l. then_then (pay 4 l) _ _ ∙ then_same (pay 4 l) _ _ (λ _ l. after_quiet _) ∙ pay_pay 4 2 l _))
 
--- the test of the generated function
+-- evaluating the test of the generated function
 pub grain_gives : (lo : ℤ) (n grain : ℕ) (cs : List (Name × ℤ)) (arrays : List (Name × List ℤ)) → n < 2 ^ 63 →
     evaluate (Binary AtMost range (Number (pos grain))) (entry lo (lo +ℤ pos n) cs arrays) ≡ Gives (pos (if nat_le n grain then 1 else 0)) 5
 grain_gives lo n grain cs arrays small =
     ap (λ z. also (done_at 3 (exact z)) (Gives (pos grain) 1) (apply AtMost)) (range_is lo n)
     ∙ ap (λ b. also (done_at 3 (if b then Value (pos n) else Fails trap.Overflow)) (Gives (pos grain) 1) (apply AtMost)) (tested n small)
 
--- what a call of the generated function gives
+-- the result of a call of the generated function
 pub record Gone (Near : Frame → List (Name × List ℤ) → Type 0) (last : List (Name × List ℤ) → Frame) (frame : Frame) (returned : Returned) : Type 0 where
   pub arrays : List (Name × List ℤ)
   pub gives : returned ≡ (None, last arrays)
@@ -73,7 +73,7 @@ module _ (name : Name) (line : ℕ) (x : Name) (grain : ℕ) (ints over : List N
         let q : take (length arrays) arrays' ≡ arrays' = ap (λ n. take n arrays') e ∙ take-length arrays' in
         rw (p, q) refl
 
-    -- the while and what follows it
+    -- the `while` and the statements after it
     turns_call : (i : ℤ) → i ≡ lo +ℤ pos 0 → (frame : Frame) (arrays : List (Name × List ℤ)) (left wb bound : ℕ) → left ≤ limit → left < wb → left < bound → Near frame arrays →
         Whole (Gone Near last_of) left
         (then_do (then_do (leaf_turns n i (for_body x over b fs calls) frame left) (λ frame' l. then_do (pay 4 l) (λ _ l. Done frame' l quiet)))

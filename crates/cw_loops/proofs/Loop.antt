@@ -14,7 +14,7 @@ use Rattle.cw_model.specs.Loops.{loop_turns, lies_within}
 use Rattle.cw_loops.proofs.Alike.{Alike, alike_pay, value_pays, both_stop}
 use Rattle.cw_loops.proofs.Cuts.{alike_left, alike_right}
 
--- a value with some property, or a trap
+-- a value with this property, or a trap
 abbrev pub GivesSuch : (ℤ → Type 0) → Evaluated → Type 0
 GivesSuch P (Gives v k) = P v
 GivesSuch P (Traps trap k) = Unit {0}
@@ -26,7 +26,7 @@ such_then {C = C} {D = D} {S = S} P (Gives v k) ev' line left e f go go' h =
     (alike_pay k left _ _ (λ enough. h v (left - k) f (omega arith))))
 such_then {C = C} {D = D} {S = S} P (Traps trap k) ev' line left e f go go' h = alike_right (ap (λ ev. then_do (pay_for ev line left) go') e) (both_stop left trap line go go' (nat_lt left k))
 
--- the count of a loop's turns
+-- the number of iterations of a loop
 pub record Counted (lo hi : ℤ) (arrays : List (List ℤ)) (v : ℤ) : Type 0 where
   pub count : ℕ
   pub is : v ≡ pos count
@@ -64,7 +64,7 @@ turns_counted lo hi arrays f g = go (int_le hi lo) (int_lt (pos MOST_TURNS) (hi 
         difference (pos n) h = refl
         difference (negsuc n) h = absurd (omega (arith, ints))
 
--- one instruction that gives a value with some property, or traps
+-- an instruction whose value has this property, or that traps
 pub such_paid : {C D : Type 0} {S : C → D → Type 0} (P : ℤ → Type 0) (r : Result) (ev' : Evaluated) (line left : ℕ) → ev' ≡ done_at 1 r
     → ResultSuch P r → (go : ℤ → ℕ → Outcome C) (go' : ℤ → ℕ → Outcome D) →
     ((v : ℤ) (l : ℕ) → P v → l + 1 ≤ left → Alike S l (go v l) (go' v l)) → Alike S left (then_do (pay_for (done_at 1 r) line left) go) (then_do (pay_for ev' line left) go')

@@ -1,4 +1,4 @@
--- The function of a loop, written out by slot, is that by name with each name looked up.
+-- The function of a loop, written out by slot, is the function by name with each name looked up.
 use Rattle.std.proofs.Common.{◌≡◌, ℕ, zero, suc, ◌+◌, ◌*◌, Bool, true, false, pos, List, [], ◌∷◌, ◌++◌, length, map, arith, refl, sym, ◌∙◌, ap, append_assoc, append-nil, length-append}
 use Rattle.std.specs.Prelude.{if◌then◌else◌, not, ◌||◌, replicate, filter}
 use Rattle.std.proofs.lemmas.List.{map-append}
@@ -29,7 +29,7 @@ use Rattle.cw_loops.proofs.Shifting.{slot_past}
 use Rattle.cw_loops.proofs.Readers.{reads_none, all_taken}
 use Rattle.cw_loops.proofs.Entering.{joined}
 
--- numbers in turn
+-- consecutive numbers
 
 one_more : (done : List Name) (v : Name) → length (done ++ v ∷ []) ≡ suc (length done)
 one_more done v = length-append done (v ∷ []) ∙ omega arith
@@ -125,7 +125,7 @@ right_among a (y ∷ xs) h = go (placed a y xs h) (right_among a xs)
         (ap (λ w. is_among (right_part w) (right_part y ∷ parts xs)) same ∙ front_among (right_part y) (parts xs))
     go (after_it other p) more = later_among (right_part a) (left_part y) (right_part y ∷ parts xs) (later_among (right_part a) (right_part y) (parts xs) (more p))
 
--- a name of another form is no part
+-- a name of another form is not a part
 no_part : (z : Name) (xs : List Name) → ((b : Name) → same_name z (left_part b) ≡ false) → ((b : Name) → same_name z (right_part b) ≡ false) → is_among z (parts xs) ≡ false
 no_part z [] l r = refl
 no_part z (y ∷ xs) l r =
@@ -135,7 +135,7 @@ no_part z (y ∷ xs) l r =
 generated_free : (z : Name) (over : List Name) → ((a : Name) → is_among a over ≡ true → is_plain a ≡ true) → ((a : Name) → is_plain a ≡ true → same_name z a ≡ false) → is_among z over ≡ false
 generated_free z over plain other = refuted (is_among z over) (λ o. never (same_name z z) (same_itself z) (other z (plain z o)))
 
--- the kinds of the parameters, and the locals that they are
+-- the kinds of the parameters, and the parameters as locals
 array_kinds : (over : List Name) → map (λ (p : Param). p.kind) (array_params over) ≡ replicate (length over) name_kind.Array
 array_kinds [] = refl
 array_kinds (a ∷ over) = ap (λ r. name_kind.Array ∷ r) (array_kinds over)
@@ -160,7 +160,7 @@ arrays_are : (taken over : List Name) → map (λ (p : Param). p.name) (filter (
 arrays_are [] over = all_arrays over
 arrays_are (v ∷ taken) over = arrays_are taken over
 
--- names that stand alone as arguments
+-- names as arguments
 names_are : (l : Locals) (vs : List Name) → map (slotted_argument l []) (variables vs) ≡ map (slotted_name l []) vs
 names_are l [] = refl
 names_are l (v ∷ vs) = ap (λ r. slotted_name l [] v ∷ r) (names_are l vs)
@@ -209,7 +209,7 @@ module _ (lists : Lists) (line : ℕ) (name x : Name) (grain : ℕ) (taken over 
   middle_slot : slot_of middle node_ints ≡ turn_slot (length taken)
   middle_slot = last_slot middle middle_free
 
-  -- what is no array
+  -- names that are not arrays
   low_no_array : is_among low all ≡ false
   low_no_array = among_append low over (parts over) ∙ ap (λ b. b || is_among low (parts over))
       (generated_free low over over_plain (λ a p. apart_plain a (108 ∷ []) p)) ∙ no_part low over (λ b. refl) (λ b. refl)
@@ -233,7 +233,7 @@ module _ (lists : Lists) (line : ℕ) (name x : Name) (grain : ℕ) (taken over 
   right_no_over : (a : Name) → is_among (right_part a) over ≡ false
   right_no_over a = generated_free (right_part a) over over_plain (λ b p. apart_plain b (62 ∷ a) p)
 
-  -- what both halves are given
+  -- the arguments for both halves
   taken_given : map (slotted_argument (joined [] [] node_ints all) []) (variables taken) ≡ map (λ s. Int (Variable s)) (numbers 2 (length taken))
   taken_given =
       names_are (joined [] [] node_ints all) taken
@@ -293,7 +293,7 @@ module _ (lists : Lists) (line : ℕ) (name x : Name) (grain : ℕ) (taken over 
       rights : List model.Expr
       rights = right_arguments taken over
 
-  -- the cuts of the arrays, in turn
+  -- the cuts of the arrays, in sequence
   parts_are : (done : List Name) (a : Name) → ((over ++ parts done) ++ left_part a ∷ []) ++ right_part a ∷ [] ≡ over ++ parts (done ++ a ∷ [])
   parts_are done a =
       append_assoc (over ++ parts done) (left_part a ∷ []) (right_part a ∷ []) ∙ append_assoc over (parts done) (left_part a ∷ right_part a ∷ [])

@@ -1,4 +1,4 @@
--- Every well typed and owned program of a source can be lowered.
+-- Every well-typed and owned program of a source can be lowered.
 use Rattle.std.proofs.Common.{◌≡◌, ℕ, suc, ◌+◌, ◌==◌, Bool, true, false, List, [], ◌∷◌, ◌++◌, length, refl, sym, ◌∙◌, ap, subst, append-nil}
 use Rattle.std.specs.Prelude.{if◌then◌else◌, not, ◌&&◌, ◌||◌, nat_le, Option, Some, None}
 use Rattle.std.specs.List.{list_all}
@@ -32,7 +32,7 @@ use Rattle.cw_loops.specs.lemmas.Seeing.{CallKept, call_kept, GivenKept, given_k
 use Rattle.cw_loops.proofs.Agreeing.{Agree, reads_well, AllReadWell, first_well, second_well, outside, local_from, write_from}
 use Rattle.cw_loops.proofs.Agreeing.{read_from, int_local, expr_can, head_keeps, with_int, with_array, with_returns}
 
--- lists that are tested name by name
+-- tests of lists, name by name
 
 capture_all : (c : Surroundings) (ints xs : List Name) → ((y : Name) → is_among y xs ≡ true
     → (is_plain y ≡ true) × (can_read c y ≡ true) × (is_among y (c.outer ++ ints) ≡ true)) → can_capture c ints xs ≡ true
@@ -61,7 +61,7 @@ write_inner : (around : Around) (taken : Taken) (xs : List Name) → may_write a
 write_inner around taken xs h = inner_names around xs (and_parts (are_loose taken xs) (are_inner around xs) h).1
 
 module _ {c : Surroundings} {ints arrays : List Name} {known : Known} {owners : List Name} {around : Around} {returns : Returns} (agree : Agree c ints arrays known owners around returns) where
-  -- an array of the turn itself
+  -- an array of the iteration itself
   array_there : (a : Name) → is_array known a ≡ true → is_outer around a ≡ false → is_among a arrays ≡ true
   array_there a h out = go (side a c.arrays arrays (sym (agree.arrays_are a) ∙ h))
     where
@@ -69,7 +69,7 @@ module _ {c : Surroundings} {ints arrays : List Name} {known : Known} {owners : 
       go (in_first o) = never (is_among a c.arrays) o (outside agree a out).1
       go (in_second o) = o
 
-  -- a name that is new is of the turn itself
+  -- a new name belongs to the iteration itself
   new_local : (a : Name) → Unknown known a → (is_local c a ≡ true) × (is_among a arrays ≡ false)
   new_local a u =
       let n = neither_among a c.arrays arrays (sym (agree.arrays_are a) ∙ u.no_array) in
@@ -108,7 +108,7 @@ module _ {c : Surroundings} {ints arrays : List Name} {known : Known} {owners : 
   target_can None source inner = refl
   target_can (Some x) source inner = write_from agree x source (outside agree x (inner x (front_among x []))).0
 
-  -- an element of an array that is written
+  -- an element that is written
   spot_can : (a : Name) (i : Expr) → is_source_expr i ≡ true → may_index around a i ≡ true → keeps_loop around i ≡ true → AllReadWell c (read_by i)
       → (if is_among a c.over then is_variable c i else (is_local c a && can_evaluate c i)) ≡ true
   spot_can a i source may keeps well = go (is_among a c.over) refl
@@ -117,7 +117,7 @@ module _ {c : Surroundings} {ints arrays : List Name} {known : Known} {owners : 
       go true o = agree.indexed a i may o
       go false o = both_true (is_local c a) (can_evaluate c i) (local_from agree a (outside agree a (agree.not_indexed a i may o)).1) (expr_can agree i source keeps well)
 
-  -- inside a loop
+  -- the invariant in the body of a loop
   inside_agrees : (x : Name) (taken over : List Name) → Unknown known x → ((a : Name) → is_among a over ≡ true → is_array known a ≡ true)
       → ((y : Name) → is_among y taken ≡ true → is_among y (c.outer ++ ints) ≡ true) →
       Agree (inside c ints arrays x taken over) [] [] ((x, name_kind.Integer) ∷ known) (x ∷ owners) (InLoop (x ∷ owners) x over) Nowhere
@@ -315,7 +315,7 @@ module _ (program : Program) (fs : List Function) (fs_is : program.functions ≡
           (capture_all c ints (captured x b) (λ v o. ((seen v o).plain, read_from agree v (seen v o).plain (block_well v (there v o).0), captured_known v o)))
           (slice_all c arrays over (λ a o. (each_of is_plain over s4.0 a o, local_from agree a (outside agree a (over_inner a o)).1, array_there agree a (over_arrays a o) (over_inner a o)))))))))
 
-      -- what the body reads is captured, or its own
+      -- each name that the body reads is captured or declared in the body
       own : (v : Name) → is_among v (declared_in_block b) ≡ true → is_among v ((c.outer ++ ints) ++ x ∷ []) ≡ false
       own v o = ap (is_among v) (sym (append-nil ((c.outer ++ ints) ++ x ∷ []))) ∙ sym (within.ints_are v) ∙ (block_new program b Nowhere ((x, name_kind.Integer) ∷ known) types' v o).no_int
 
@@ -358,7 +358,7 @@ module _ (program : Program) (fs : List Function) (fs_is : program.functions ≡
       (more c ints ((arrays ++ l ∷ []) ++ r ∷ []) ((r, name_kind.Array) ∷ (l, name_kind.Array) ∷ known) (r ∷ l ∷ owners) around Nowhere here inner
       (depth + 1) Joins ((a, CutOf) ∷ taken) [] s3.1 (right_none _ _ types) (right_none _ _ owns) (second_well c (read_by e) (read_in_block b) well))))))))
 
-  -- what is known after a statement
+  -- the invariant after a statement
   after_agrees : (s : Stmt) (c : Surroundings) (ints arrays : List Name) (known : Known) (owners : List Name) (around : Around) (returns : Returns)
       (line : ℕ) → Agree c ints arrays known owners around returns → faults_in program returns known line s ≡ [] →
       Agree c (ints ++ new_integers s) (arrays ++ new_arrays s) (declares s known) (known_after owners s) around returns

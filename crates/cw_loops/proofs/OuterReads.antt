@@ -1,4 +1,4 @@
--- What a resolved body takes from outside, in the body of a loop that can be lowered.
+-- The outer integers that a resolved body reads, in the body of a lowerable loop.
 use Rattle.std.proofs.Common.{◌≡◌, ℕ, nat_lt, Bool, true, false, List, [], ◌∷◌, ◌++◌, length, map, arith, refl, sym, ◌∙◌, ap, subst, append_assoc, append-nil, drop}
 use Rattle.std.specs.Prelude.{if◌then◌else◌, nat_le, ◌==◌, not, ◌&&◌, ◌||◌, Some, None}
 use Rattle.std.proofs.lemmas.Bool.{and_parts}
@@ -40,7 +40,7 @@ both_among xs ys zs h g v o = go (side v xs ys o)
     go (in_second p) = g v p
 
 module _ (c : Surroundings) (ints0 arrays0 : List Name) (x : Name) (total declared over : List Name) (can : can_loop c ints0 arrays0 x (new_names total (x ∷ declared)) over ≡ true) where
-  -- what stands outside a turn, and what is known before the loop
+  -- the context of an iteration, and the names known before the loop
   abbrev turn : Surroundings
   turn = inside c ints0 arrays0 x (new_names total (x ∷ declared)) over
 
@@ -53,7 +53,7 @@ module _ (c : Surroundings) (ints0 arrays0 : List Name) (x : Name) (total declar
   head : Entered c ints0 arrays0 x (new_names total (x ∷ declared)) over
   head = entered c ints0 arrays0 x (new_names total (x ∷ declared)) over can
 
-  -- a name that is read is taken along, or one of the body
+  -- a name that is read is captured or belongs to the body
   unknown_before : (v : Name) → can_read turn v ≡ true → is_among v (new_names total (x ∷ declared)) ≡ false → is_among v before ≡ false
   unknown_before v r not_taken = go (told (is_among v (new_names total (x ∷ declared) ++ x ∷ [])))
     where
@@ -115,7 +115,7 @@ module _ (c : Surroundings) (ints0 arrays0 : List Name) (x : Name) (total declar
       both_match before (x ∷ declared) (reads (resolved_expr (at turn ints arrays) d)) (reads (resolved_expr (at turn ints arrays) e)) (read_by d) (read_by e)
       (expr_in d ints arrays g.0 (first_among (read_by d) (read_by e) total all)) (expr_in e ints arrays g.1 (second_among (read_by d) (read_by e) total all))
 
-  -- a name alone is an integer that is read, or an array of the turn
+  -- a name as an argument is an integer that is read, or an array of the iteration
   alone_in : (y : Name) (ps : List Param) (ints arrays : List Name) → can_pass turn (Variable y) ≡ true → is_among y total ≡ true
       → AllAmong arrays (x ∷ declared) → In (argument_reads (resolved_argument (at turn ints arrays) ps (Variable y))) (y ∷ [])
   alone_in y ps ints arrays h there own = go (is_among y (turn.arrays ++ arrays)) refl
@@ -156,7 +156,7 @@ module _ (c : Surroundings) (ints0 arrays0 : List Name) (x : Name) (total declar
       (argument_in e ps ints arrays g.0 (first_among (read_by e) (read_by_all es) total all) own)
       (arguments_in es (drop 1 ps) ints arrays g.1 (second_among (read_by e) (read_by_all es) total all) own)
 
--- what stands in a statement or a block of the body of a loop
+-- the reads of a statement or a block in the body of a loop
 abbrev ReadsIn : (Surroundings → List Name → List Name → Bool) → (names own : List Name) → (Lists → Locals → List Use) → Type 0
 ReadsIn can_be names own uses =
     (c : Surroundings) (ints0 arrays0 : List Name) (x : Name) (total declared over : List Name) → can_loop c ints0 arrays0 x (new_names total (x ∷ declared)) over ≡ true →
@@ -170,7 +170,7 @@ StmtReads s = ReadsIn (λ c ints arrays. can_lower c ints arrays s) (read_in s) 
 abbrev BlockReads : Block → Type 0
 BlockReads b = ReadsIn (λ c ints arrays. can_lower_all c ints arrays b) (read_in_block b) (declared_in_block b) (λ lists l. reads_in_block (resolved_block lists l b))
 
--- what the body of a loop takes along, by slot and by name
+-- the integers that the body of a loop captures agree by slot and by name
 captured_of : (b : Block) → BlockReads b → (c : Surroundings) (ints arrays : List Name) (x : Name) (over : List Name) (lists : Lists) → can_loop c ints arrays x (captured x b) over ≡ true →
     can_lower_all (inside c ints arrays x (captured x b) over) [] [] b ≡ true
     → captured_in (length (c.outer ++ ints)) (resolved_block lists (with_int x (at c ints arrays)) b) ≡ map (use_of (c.outer ++ ints)) (captured x b)
@@ -214,7 +214,7 @@ for_reads y z w from to grain over' b more c ints0 arrays0 x total declared over
     rest' : AllAmong (read_in_block b) total
     rest' = second_among (read_by to) (read_in_block b) total rest
 
--- what stands before a block
+-- the reads of the part before a block
 tested_reads : (e : Expr) (b : Block) (c : Surroundings) (ints0 arrays0 : List Name) (x : Name) (total declared over : List Name)
     (can : can_loop c ints0 arrays0 x (new_names total (x ∷ declared)) over ≡ true) (ints arrays : List Name) (us : List Use) →
     can_evaluate (inside c ints0 arrays0 x (new_names total (x ∷ declared)) over) e ≡ true → AllAmong (read_by e ++ read_in_block b) total
@@ -351,7 +351,7 @@ mutual
   block_reads (Then line s b) c ints0 arrays0 x total declared over can lists ints arrays here all own arrays_own =
       then_reads line s b (stmt_reads s) (block_reads b) c ints0 arrays0 x total declared over can lists ints arrays here all own arrays_own
 
--- what the body of a loop takes along, by slot and by name
+-- the integers that the body of a loop captures agree by slot and by name
 pub captured_in_order : (b : Block) (c : Surroundings) (ints arrays : List Name) (x : Name) (over : List Name) (lists : Lists) → can_loop c ints arrays x (captured x b) over ≡ true →
     can_lower_all (inside c ints arrays x (captured x b) over) [] [] b ≡ true
     → captured_in (length (c.outer ++ ints)) (resolved_block lists (with_int x (at c ints arrays)) b) ≡ map (use_of (c.outer ++ ints)) (captured x b)

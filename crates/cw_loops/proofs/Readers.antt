@@ -1,4 +1,4 @@
--- The function of a loop takes its arrays: none of its parameters is only read, so what it is given is given away.
+-- The function of a loop takes its arrays: no parameter is only read, so each argument is given away.
 use Rattle.std.proofs.Common.{◌≡◌, ℕ, ◌+◌, Bool, true, false, List, [], ◌∷◌, ◌++◌, drop, map, refl, ◌∙◌, ap}
 use Rattle.std.specs.Prelude.{if◌then◌else◌, not}
 use Rattle.std.specs.List.{list_all}
@@ -20,7 +20,7 @@ use Rattle.cw_loops.specs.lemmas.Finding.{lowered_plain}
 abbrev pub reads_none : List Param → Bool
 reads_none ps = list_all (λ p. not (reads_array p)) ps
 
--- what is given for such parameters is given away
+-- arguments for parameters that are not only read are given away
 
 first_taken : (ps : List Param) → reads_none ps ≡ true → is_reader ps ≡ false
 first_taken [] h = refl
@@ -55,7 +55,7 @@ loop_taken : (ints over : List Name) → reads_none (int_params ints ++ array_pa
 loop_taken [] over = arrays_taken over
 loop_taken (x ∷ ints) over = loop_taken ints over
 
--- functions whose parameters are such
+-- no parameter of these functions is only read
 abbrev ReadNone : List Function → Type 0
 ReadNone [] = Unit {0}
 ReadNone (f ∷ fs) = (reads_none f.params ≡ true) × ReadNone fs

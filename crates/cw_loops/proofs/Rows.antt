@@ -1,10 +1,10 @@
--- The lines of a block, one after another.
+-- The lines of a block as a sequence.
 use Rattle.std.proofs.Common.{◌≡◌, List, [], ◌∷◌, ◌++◌, refl, ap, arith}
 use Rattle.cw_loops.specs.declared.tree.Line.{Line, the_lemmas}
 use Rattle.cw_loops.specs.Slotted.{Block, End, Then}
 use Rattle.cw_loops.specs.View.{block_of, line_of, stmt_of}
 
--- statements after statements
+-- the concatenation of two blocks
 abbrev pub joined : Block → Block → Block
 joined End c = c
 joined (Then line s b) c = Then line s (joined b c)

@@ -1,4 +1,4 @@
--- What the statements of a generated function do, an equation for each.
+-- The statements of a generated function, with an equation for the execution of each.
 use Rattle.std.proofs.Common.{◌≡◌, ℕ, suc, ◌+◌, true, false, ℤ, List, refl, ◌∙◌}
 use Rattle.std.specs.Prelude.{nat_lt, if◌then◌else◌}
 use Rattle.cw_model.specs.declared.limits.TheConstants.{MOST_DEPTH}
@@ -12,7 +12,7 @@ use Rattle.cw_loops.specs.Lowered.{on_line}
 use Rattle.cw_loops.proofs.Alike.{then_then, then_gives, value_pays, pay_pay, after_quiet}
 use Rattle.cw_loops.specs.lemmas.Outcomes.{then_same}
 
--- a value, one instruction, and what goes on from there
+-- a value, one instruction, and the continuation
 value_and_pay : {A : Type 0} (e : Evaluated) (v : ℤ) (k line left : ℕ) (go : ℤ → ℕ → Outcome A) → e ≡ Gives v k →
     then_do (pay_for e line left) (λ v l. then_do (pay 1 l) (λ _ l. go v l)) ≡ then_do (pay (k + 1) left) (λ _ l. go v l)
 value_and_pay e v k line left go h = rw h (value_pays v k line left (λ v l. then_do (pay 1 l) (λ _ l. go v l)) ∙ pay_pay k 1 left (λ _ l. go v l))
@@ -25,7 +25,7 @@ pub assign_runs : (y : Name) (e : Expr) (v : ℤ) (k line left : ℕ) (fs : List
     run (Assign y e) line fs calls frame left ≡ then_do (pay (k + 1) left) (λ _ l. Done (Normal (set_int y v frame)) l quiet)
 assign_runs y e v k line left fs calls frame h = value_and_pay (evaluate e frame) v k line left (λ v l. Done (Normal (set_int y v frame)) l quiet) h
 
--- the last statement of a block
+-- a block of one statement executes the statement
 pub one_line : (line : ℕ) (s : Stmt) (fs : List Function) (calls : Calls) (frame : Frame) (left : ℕ) → run_all (on_line line s) fs calls frame left ≡ run s line fs calls frame left
 one_line line s fs calls frame left = go (run s line fs calls frame left)
   where

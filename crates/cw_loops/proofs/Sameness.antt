@@ -1,4 +1,4 @@
--- The test of lowered trees holds of a tree and itself.
+-- The equality test of lowered trees is reflexive.
 use Rattle.std.proofs.Common.{◌≡◌, ℕ, ◌==◌, ℤ, pos, negsuc, true, List, [], ◌∷◌, Option, Some, None, refl, sym, ◌∙◌, ap}
 use Rattle.cw_facts.specs.Tests.{both_true, equal}
 use Rattle.cw_model.specs.declared.syntax.CallKind.{CallKind}

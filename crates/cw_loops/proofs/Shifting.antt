@@ -1,4 +1,4 @@
--- The slot of a name where it went is its place among the names of the function of its loop.
+-- The new slot of a name is its position among the names of its loop's function.
 use Rattle.std.proofs.Common.{◌≡◌, ℕ, suc, ◌+◌, ◌-◌, ◌≤◌, nat_lt, Bool, true, false, List, [], ◌∷◌, ◌++◌, length, map, arith, sym, ◌∙◌, ap}
 use Rattle.std.specs.Prelude.{if◌then◌else◌}
 use Rattle.std.proofs.lemmas.Bool.Decides.{nat_tests}
@@ -12,11 +12,11 @@ use Rattle.cw_loops.specs.Lowered.{is_plain, low, high}
 use Rattle.cw_loops.specs.Moved.{most_slot, slot, Moves, place_from, moved_int, moved_array}
 use Rattle.cw_loops.specs.lemmas.Apart.{plain_apart}
 
--- a count that is small is told as it is
+-- `slot` does not change a small count
 pub small_slot : (n : ℕ) → n ≤ most_slot → slot n ≡ n
 small_slot n h = grind (arith, nat_tests, h)
 
--- a name that is not there comes behind all
+-- a name that is not found has a slot after all names
 pub slot_past : (x : Name) (names more : List Name) → is_among x names ≡ false → slot_of x (names ++ more) ≡ length names + slot_of x more
 slot_past x [] more h = omega arith
 slot_past x (y ∷ names) more h = first (same_name x y) (slot_past x names more) h
@@ -26,7 +26,7 @@ slot_past x (y ∷ names) more h = first (same_name x y) (slot_past x names more
     first true f g = absurd cc
     first false f g = let e = f g in omega (arith, e)
 
--- the place among names that are taken along, by their slots
+-- the position among captured names, by their slots
 pub place_is : (n : ℕ) (x : Name) (before taken : List Name) → is_among x before ≡ true → n + length taken ≤ most_slot
     → place_from n (slot_of x before) (map (λ y. slot_of y before) taken) ≡ n + slot_of x taken
 place_is n x before [] h small = omega arith
@@ -48,7 +48,7 @@ behind_two b n k = omega arith
 
 module _ (m : Moves) (before taken : List Name) (before_is : m.ints_before ≡ length before)
     (taken_is : m.captured ≡ map (λ y. slot_of y before) taken) (first_is : m.first_int ≡ 2 + length taken) where
-  -- an integer of the turn itself, or one that the loop takes along
+  -- an integer of the iteration itself, or a captured integer
   pub int_moved : (x : Name) (own : List Name) → is_plain x ≡ true → is_among x before ≡ true → is_among x taken ≡ true
       → 2 + length taken ≤ most_slot → moved_int m (slot_of x (before ++ own)) ≡ slot_of x ((low ∷ high ∷ taken) ++ own)
   int_moved x own plain known kept small =
@@ -77,7 +77,7 @@ module _ (m : Moves) (before taken : List Name) (before_is : m.ints_before ≡ l
       ∙ sym (slot_past x (low ∷ high ∷ taken) own free)
 
 module _ (m : Moves) (before over : List Name) (before_is : m.arrays_before ≡ length before) (over_is : m.over ≡ map (λ y. slot_of y before) over) (first_is : m.first_array ≡ length over) where
-  -- an array of the loop, or of the turn itself
+  -- an array of the loop, or an array of the iteration itself
   pub array_moved : (a : Name) (own : List Name) → is_among a before ≡ true → is_among a over ≡ true → length over ≤ most_slot → moved_array m (slot_of a (before ++ own)) ≡ slot_of a (over ++ own)
   array_moved a own known kept small =
       ap (λ s. moved_array m s) (slot_stays a before own known)

@@ -1,4 +1,4 @@
--- Each statement of the source does what its lowered text does.
+-- Each statement of the source behaves as its lowered text.
 use Rattle.std.proofs.Common.{◌≡◌, ℕ, ◌+◌, ◌-◌, ◌≤◌, ◌<◌, true, false, ℤ, pos, List, [], ◌∷◌, ◌++◌, length, arith, ◌∙◌, ap, append_assoc, append-nil}
 use Rattle.std.specs.Prelude.{not, ◌&&◌, ◌==◌, nat_lt, nat_le, map, Some, None}
 use Rattle.std.proofs.lemmas.Bool.{leb-true, eqb-true, and_parts}
@@ -32,7 +32,7 @@ use Rattle.cw_loops.proofs.CutStatement.{cut_alike}
 use Rattle.cw_loops.proofs.Calls.{CallSame, call_alike}
 use Rattle.cw_loops.specs.lemmas.Naming.{map_same}
 
--- nothing is declared
+-- no names are declared
 no_more : {c : Surroundings} {fo go : List (Name × ℤ)} {Slot : (fa ga : List (Name × List ℤ)) → Type 0} {ints arrays : List Name} {before : Frame} {given : ℕ} {o o' : Outcome Completion} →
     Alike (Out c fo go Slot ints arrays before) given o o' → Alike (Out c fo go Slot (ints ++ []) (arrays ++ []) before) given o o'
 no_more {ints = ints} {arrays = arrays} h = rw (append-nil ints, append-nil arrays) h
@@ -43,7 +43,7 @@ module _ (fs fs' : List Function) (calls : Calls) (depth : ℕ) (shallow : nat_l
     (deeper : (g : Name) → is_plain g ≡ true → (given : Frame) (line left bound : ℕ) → left < limit → left < bound → Good given → given.sliced ≡ []
     → keys given.ints ≡ integers_of (function_named g fs).params → keys given.arrays ≡ arrays_of (function_named g fs).params
     → Whole (CallSame given) left (calls Deeper (function_named g fs) given line left) (call bound depth fs' Deeper (function_named g fs') given line left)) where
-  -- a statement, wherever it may stand
+  -- a statement, in every context
   abbrev StmtAlike : Stmt → Type 1
   StmtAlike s = (c : Surroundings) (fo go : List (Name × ℤ)) (Slot : (fa ga : List (Name × List ℤ)) → Type 0) → World c fo go Slot → c.functions ≡ fs
       → (ints arrays : List Name) → can_lower c ints arrays s ≡ true → (k line : ℕ) → Found fs' (made_by line k s) →

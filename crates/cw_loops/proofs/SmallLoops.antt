@@ -1,4 +1,4 @@
--- What lowering makes has few functions and loops, each loop with small numbers.
+-- The result of lowering has few functions and loops, and the numbers of each loop are small.
 use Rattle.std.proofs.Common.{◌≡◌, ℕ, ◌+◌, ◌≤◌, Bool, true, List, [], ◌∷◌, ◌++◌, length, map, flat_map, arith, refl, sym, subst, ◌∙◌, ap, length-append}
 use Rattle.std.specs.Prelude.{if◌then◌else◌, nat_le, ◌&&◌}
 use Rattle.std.specs.List.{list_all}
@@ -41,7 +41,7 @@ use Rattle.cw_loops.proofs.Shifting.{small_slot}
 use Rattle.cw_loops.proofs.Tracking.{no_more}
 use Rattle.cw_loops.proofs.FewUses.{few_captured}
 
--- how many names are known after a statement
+-- bounds on the number of known names after a statement
 
 abbrev FewAfter : Locals → Known → Stmt → Type 0
 FewAfter l known s = (length (locals_after l s).ints ≤ length l.ints + declares_in s) × (length (declares s known) ≤ length known + declares_in s)
@@ -120,7 +120,7 @@ loop_small program l known line x y z from to grain over body few_ints few_known
       over = small_count (length (head_with l x from to grain over body).over) (omega (arith, arrays, same, few_known));
     }
 
--- the loops of a body, behind others
+-- the loops of a body, appended to others
 
 module _ (program : Program) (lists : Lists) (n : ℕ) where
   abbrev fs : List Function
@@ -287,7 +287,8 @@ module _ (program : Program) (lists : Lists) (n : ℕ) where
       bodies_small gs (right_none (function_limits g) _ limits) (right_none (faults_of program g) _ types) (right_none (owner_faults_of fs g) _ owns) (after_one loops g)
       (function_small g (left_none (function_limits g) _ limits) (left_none (faults_of program g) _ types) (left_none (owner_faults_of fs g) _ owns) loops h)
 
--- a body for each function, and few functions and loops, each of them small
+-- there is a body for each function, and the numbers of functions and of loops and the numbers of each loop keep the
+-- limits
 pub record AreSmallBodies (tree : Resolved) (made : Bodies) : Type 0 where
   pub bodies : length made.blocks ≡ length tree.functions
   pub functions : length tree.functions ≤ MOST_FUNCTIONS
@@ -312,7 +313,7 @@ program_small program types owns within few =
       each = bodies_small program lists n program.functions (heads_small program within) (heads_kept program types) owns [] tt;
     }
 
--- what lowering makes of a tree whose slots are right
+-- the bounds hold for the result of lowering a tree whose slots are correct
 pub tree_small : (tree : Resolved) (made : Bodies) → is_resolved tree ≡ true → IsWellTyped (plain tree) → KeepsOwnership (plain tree)
     → limit_faults (plain tree) ≡ [] → loop_faults (plain tree) ≡ [] → made ≡ made_of_tree tree → AreSmallBodies tree made
 tree_small tree made right types owns within few is =

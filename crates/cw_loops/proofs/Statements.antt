@@ -1,4 +1,4 @@
--- What statements do in the source's frame and in the function's.
+-- Statements in the frame of the source and in the frame of the function.
 use Rattle.std.proofs.Common.{◌≡◌, ℕ, zero, suc, ◌+◌, ◌-◌, ◌≤◌, ◌<◌, ◌^◌, Bool, true, false, ℤ, pos, negsuc, List, [], ◌∷◌, ◌++◌, length, take, arith, refl, sym, ◌∙◌, ap, append_assoc}
 use Rattle.std.specs.Prelude.{nat_lt, if◌then◌else◌, Option, Some, None, slice_set, replicate}
 use Rattle.std.proofs.lemmas.Bool.{ltb-true, and_parts}
@@ -24,17 +24,17 @@ use Rattle.cw_loops.proofs.Fitting.{Good, Fine, GivesFit, ValueFits, Kept, kept_
 use Rattle.cw_loops.proofs.Fitting.{fine-append, fine-put, elements-replicate, elements-set, then_fits, evaluate_fits}
 use Rattle.cw_loops.proofs.Worlds.{World, Rel, related, source, target, writes_outer, writes_given, local_outer, local_given, evaluate_same, can_fit}
 
--- a value that a call gives fits
+-- the value of a call fits, if there is one
 abbrev pub OptionFits : Option ℤ → Type 0
 OptionFits None = Unit {0}
 OptionFits (Some v) = fits v ≡ true
 
--- where a statement leaves both frames
+-- the relation of both frames after a statement
 pub data Out (c : Surroundings) (fo go : List (Name × ℤ)) (Slot : (fa ga : List (Name × List ℤ)) → Type 0) (ints arrays : List Name) (before : Frame) : Completion → Completion → Type 0 where
   goes : {f g : Frame} → Rel c fo go Slot ints arrays f g → Kept before.arrays f.arrays → Out c fo go Slot ints arrays before (Normal f) (Normal g)
   returns : {v : Option ℤ} {f : Frame} → c.returns ≡ true → OptionFits v → Good f → Kept before.arrays f.arrays → Out c fo go Slot ints arrays before (ByReturn v f) (ByReturn v f)
 
--- where a block leaves them, before its own names are gone
+-- the relation of both frames after a block, before its own names are removed
 pub record OutAll (c : Surroundings) (fo go : List (Name × ℤ)) (Slot : (fa ga : List (Name × List ℤ)) → Type 0) (ints arrays : List Name) (before : Frame) (way way' : Completion) : Type 0 where
   pub more_ints : List Name
   pub more_arrays : List Name
@@ -43,7 +43,7 @@ pub record OutAll (c : Surroundings) (fo go : List (Name × ℤ)) (Slot : (fa ga
 pub alike_done : {A B : Type 0} {R : A → B → Type 0} {a : A} {b : B} (left : ℕ) → R a b → Alike R left (Done a left quiet) (Done b left quiet)
 alike_done left r = both_done r (omega arith) refl refl (same_events [])
 
--- a value on both sides
+-- the same value on both sides
 pub value_then : {C D : Type 0} {S : C → D → Type 0} (ev ev' : Evaluated) (line left : ℕ) → ev' ≡ ev → GivesFit ev → (go : ℤ → ℕ → Outcome C) (go' : ℤ → ℕ → Outcome D) →
     ((v : ℤ) (l : ℕ) → fits v ≡ true → l ≤ left → Alike S l (go v l) (go' v l)) → Alike S left (then_do (pay_for ev line left) go) (then_do (pay_for ev' line left) go')
 value_then {C = C} {D = D} {S = S} (Gives v k) ev' line left e f go go' h =
@@ -51,7 +51,7 @@ value_then {C = C} {D = D} {S = S} (Gives v k) ev' line left e f go go' h =
     (alike_pay k left _ _ (λ enough. h v (left - k) f (omega arith))))
 value_then {C = C} {D = D} {S = S} (Traps trap k) ev' line left e f go go' h = alike_right (ap (λ ev. then_do (pay_for ev line left) go') e) (both_stop left trap line go go' (nat_lt left k))
 
--- values of one cost on both sides
+-- values of the same cost on both sides
 pub values_then : {C D : Type 0} {S : C → D → Type 0} (ev ev' : Evaluated) (v v' : ℤ) (k line left : ℕ) → ev ≡ Gives v k → ev' ≡ Gives v' k → (go : ℤ → ℕ → Outcome C) (go' : ℤ → ℕ → Outcome D) →
     ((l : ℕ) → l ≤ left → Alike S l (go v l) (go' v' l)) → Alike S left (then_do (pay_for ev line left) go) (then_do (pay_for ev' line left) go')
 values_then ev ev' v v' k line left e e' go go' h =
@@ -93,7 +93,7 @@ zeros_fine v h = record { short = rw (length-replicate (natural v) (pos 0)) (nat
     natural_small (pos n) h = ltb-true n (2 ^ 63) h
     natural_small (negsuc n) h = omega arith
 
--- a write in place, by what stands there
+-- an assignment to an element, by the element's old value
 pub placed : ℤ → Option ℤ → Result
 placed v None = Fails trap.OutOfBounds
 placed v (Some w) = Value v
@@ -205,7 +205,7 @@ module _ (c : Surroundings) (fo go : List (Name × ℤ)) (Slot : (fa ga : List (
       alike_after {t = shows (Join ∷ [])} {u = shows (Join ∷ [])} (omega arith) refl refl (same_events (Join ∷ []))
       (alike_pay 1 left _ _ (λ enough. alike_done (left - 1) (goes (related loc fa ga la slot ki ka good) (kept_same (fa ++ la) (fa ++ la) refl))))
 
-  -- at the top the frames are one
+  -- outside of all loops the frames are equal
   top_same : c.returns ≡ true → g0 ≡ f0
   top_same r =
       let h = w.top r fa ga slot in

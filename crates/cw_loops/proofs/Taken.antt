@@ -1,4 +1,4 @@
--- The integers that a resolved body takes from outside are those that it names by name.
+-- The integers that a resolved body captures are those that it captures by name.
 use Rattle.std.proofs.Common.{◌≡◌, nat_lt, Bool, true, false, List, [], ◌∷◌, ◌++◌, length, map, refl, sym, ◌∙◌, ap, append_assoc, append-nil}
 use Rattle.std.specs.Prelude.{if◌then◌else◌, not, ◌&&◌, ◌||◌}
 use Rattle.cw_facts.specs.Tests.{below, either_left}
@@ -11,7 +11,7 @@ use Rattle.cw_tree.specs.lemmas.Names.{front_among, later_among}
 use Rattle.std.proofs.lemmas.List.{map-append}
 use Rattle.cw_loops.specs.lemmas.Naming.{Placed, at_front, after_it, placed}
 
--- the names found so far, and behind them a name that is neither known nor found
+-- the names found so far, with a name appended that is neither known nor found
 abbrev pub with_new : (known found : List Name) → Name → List Name
 with_new known found v = if is_among v known || is_among v found then found else found ++ v ∷ []
 
@@ -47,7 +47,7 @@ all-append : (known found xs ys : List Name) → all_new known found (xs ++ ys) 
 all-append known found [] ys = refl
 all-append known found (x ∷ xs) ys = all-append known (with_new known found x) xs ys
 
--- a name that is known or found stays so
+-- a name that is known or found remains so
 either_more : (k f s : Bool) → (k || f) ≡ true → (k || (f || s)) ≡ true
 either_more true f s h = refl
 either_more false true s h = refl
@@ -72,7 +72,7 @@ with_has known found y = go (is_among y known || is_among y found) refl
     go true e = e
     go false e = ap (λ b. is_among y known || b) (among_push y found y) ∙ either_last (is_among y known) (is_among y found) (same_name y y) (same_itself y)
 
--- names that are met again add nothing
+-- names that occur again add nothing
 once : (known found xs k : List Name) → ((v : Name) → is_among v k ≡ true → (is_among v known || is_among v found) ≡ true) → all_new known found (new_names xs k) ≡ all_new known found xs
 once known found [] k h = refl
 once known found (y ∷ xs) k h = go (is_among y k) refl (λ f j g. once known f xs j g)
@@ -86,7 +86,8 @@ once known found (y ∷ xs) k h = go (is_among y k) refl (λ f j g. once known f
     go true e more = more found k h ∙ sym (ap (λ t. all_new known (if t then found else found ++ y ∷ []) xs) (h y e))
     go false e more = more (with_new known found y) (y ∷ k) (λ v o. more_known v (placed v y k o))
 
--- uses and names that add the same to what is found, where these names are known before a body and those are its own
+-- uses and names that add the same to the names found, if these names are known before a body and `known` are its own
+-- names
 abbrev pub Matches : (names known : List Name) → List Use → List Name → Type 0
 Matches names known us vs =
     (found : List Name) → first_uses (length names) (map (use_of names) found) us ≡ map (use_of names) (all_new known found vs)
@@ -141,6 +142,6 @@ either_none : (b : Bool) → b ≡ (b || false)
 either_none true = refl
 either_none false = refl
 
--- what matches all reads of a body is what it takes
+-- if all reads of a body match, its captured integers match
 pub matched : (names known : List Name) (us : List Use) (vs : List Name) → Matches names known us vs → first_uses (length names) [] us ≡ map (use_of names) (new_names vs known)
 matched names known us vs h = h [] ∙ ap (map (use_of names)) (new_are known [] known vs (λ v. either_none (is_among v known)))

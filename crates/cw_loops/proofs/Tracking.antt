@@ -1,4 +1,4 @@
--- Each local of the source is where its name is in the function that its text goes to.
+-- The new slot of each local of the source is the slot of its name in the function that executes it.
 use Rattle.std.proofs.Common.{◌≡◌, ℕ, suc, ◌+◌, ◌-◌, ◌≤◌, nat_lt, Bool, true, false, List, [], ◌∷◌, ◌++◌, length, map, arith, refl, sym, ◌∙◌, ap, append_assoc, length-append}
 use Rattle.std.specs.Prelude.{if◌then◌else◌, not, ◌&&◌, ◌||◌}
 use Rattle.std.proofs.lemmas.Bool.{and_parts}
@@ -18,7 +18,7 @@ use Rattle.cw_loops.proofs.Shifting.{small_slot, slot_past, int_moved, past_int,
 use Rattle.cw_loops.proofs.Taken.{slots_among}
 use Rattle.cw_loops.proofs.Entering.{Entered}
 
--- different names that are all among others are no more than those
+-- a list of distinct names that are all in another list is not longer than the other list
 
 abbrev without : Name → List Name → List Name
 without x [] = []
@@ -64,7 +64,7 @@ pub slots_are : (names vs : List Name) → map (λ (u : Use). u.slot) (map (use_
 slots_are names [] = refl
 slots_are names (v ∷ vs) = ap (λ r. slot_of v names ∷ r) (slots_are names vs)
 
--- where locals of the source are
+-- the new slots of the locals of the source
 pub record Tracks (m : Moves) (c : Surroundings) : Type 0 where
   pub int_read : (x : Name) (ints : List Name) → can_read c x ≡ true → length (c.outer ++ ints) ≤ 256 → moved_int m (slot_of x (c.outer ++ ints)) ≡ slot_of x (c.given ++ ints)
   pub int_next : (ints : List Name) → length (c.outer ++ ints) ≤ 256 → moved_int m (length (c.outer ++ ints)) ≡ length (c.given ++ ints)
@@ -82,7 +82,7 @@ outside_not_arrays c a h = not_true (is_among a c.arrays) (and_parts (not (is_am
 pub outside_not_over : (c : Surroundings) (a : Name) → is_local c a ≡ true → is_among a c.over ≡ false
 outside_not_over c a h = not_true (is_among a c.over) (and_parts (not (is_among a c.over)) _ (and_parts (not (is_among a c.arrays)) _ h).1).0
 
--- outside all loops each local stays
+-- outside of all loops each local keeps its slot
 int_stays : (s : ℕ) → s ≤ 256 → moved_int nothing_moved s ≡ s
 int_stays s h = ap (λ b. if b then 2 else slot (s - 0 + 0)) (not_below s 0 (omega arith)) ∙ small_slot (s - 0 + 0) (omega (arith, h)) ∙ omega arith
 
@@ -102,7 +102,7 @@ tracks_outside fs = record {
   variable_read = λ a o. absurd cc;
 }
 
--- in the body of a loop
+-- the mapping for the body of a loop
 module _ (c : Surroundings) (ints0 arrays0 : List Name) (x : Name) (taken over : List Name) (entered : Entered c ints0 arrays0 x taken over)
     (few_ints : length (c.outer ++ ints0) ≤ 256) (few_arrays : length (c.arrays ++ arrays0) ≤ 256) (m : Moves)
     (ints_before : m.ints_before ≡ length (c.outer ++ ints0)) (captured_are : m.captured ≡ map (λ y. slot_of y (c.outer ++ ints0)) taken) (first_int : m.first_int ≡ 2 + length taken)
@@ -130,7 +130,7 @@ module _ (c : Surroundings) (ints0 arrays0 : List Name) (x : Name) (taken over :
       ap (λ b. if b then true else (if same_name v high then true else is_among v taken)) (plain_apart v (108 ∷ []) plain)
       ∙ ap (λ b. if b then true else is_among v taken) (plain_apart v (104 ∷ []) plain) ∙ free
 
-  -- a name that is read and not taken along is one of the turn
+  -- a name that is read and not captured belongs to the iteration
   own_name : (v : Name) → can_read turn v ≡ true → is_among v taken ≡ false → (is_among v before ≡ false) × (is_among v (low ∷ high ∷ taken) ≡ false)
   own_name v r free = go (told (is_among v (taken ++ x ∷ [])))
     where

@@ -1,4 +1,4 @@
--- A turn of a loop, in the source's frame and in that of the generated function.
+-- An iteration of a loop, in the frame of the source and in the frame of the generated function.
 use Rattle.std.proofs.Common.{◌≡◌, ℕ, ◌+◌, ◌≤◌, ◌<◌, ◌^◌, Bool, true, false, ℤ, pos, ◌+ℤ◌, ◌-ℤ◌, List, [], ◌∷◌, ◌++◌, length, take, arith, refl, sym, ◌∙◌, ap, append_assoc, append-nil, subst}
 use Rattle.std.specs.Prelude.{if◌then◌else◌, slice_get, slice_set}
 use Rattle.std.proofs.lemmas.List.{length-set}
@@ -44,7 +44,7 @@ table_at (b ∷ over) s a h = go (same_name a b) refl h (table_at over s a)
     go true e g f = ap s (sym (same_are a b e))
     go false e g f = f g
 
--- one array of a table, or of mapped ones, gets another value
+-- changes the value of one array
 changed : (Name → List ℤ) → Name → List ℤ → Name → List ℤ
 changed s a v b = if same_name a b then v else s b
 
@@ -95,7 +95,7 @@ mapped_put (b ∷ bs) f g t a d h k = go (same_name a b) refl h (λ u. mapped_pu
         ∙ ih (put b (f b (find [] b t)) t) o k
         ∙ ap (λ v. mapped bs g (put b v t)) (sym (k b e (find [] b t)))
 
--- what stands outside a turn
+-- the context of an iteration
 abbrev pub turn_scope : List Function → (outer arrays sliced : List Name) → (x : Name) → (taken over : List Name) → Surroundings
 turn_scope functions outer arrays sliced x taken over = record {
   outer = outer ++ x ∷ [];
@@ -109,13 +109,13 @@ turn_scope functions outer arrays sliced x taken over = record {
   functions = functions;
 }
 
--- the source's arrays and the slices of the function
+-- the arrays of the source, and the slices of the function
 pub record Slots (over : List Name) (i0 : List (Name × ℤ)) (sliced0 : List Name) (lo : ℤ) (n : ℕ) (frame : Frame) (fa ga : List (Name × List ℤ)) : Type 0 where
   pub slices : Name → List ℤ
   pub is : ga ≡ table over slices
   pub put' : Put over lo n frame (record { ints = i0; arrays = fa; sliced = sliced0 }) slices
 
--- what the block of a turn does, however the frames come to stand so
+-- the body of an iteration behaves in the same way from all related frames
 abbrev pub BodyAlike : Surroundings → (b b' : Block) → (fs fs' : List Function) → Calls → (depth limit : ℕ) → Type 1
 BodyAlike scope b b' fs fs' calls depth limit = (fo go : List (Name × ℤ)) (Slot : (fa ga : List (Name × List ℤ)) → Type 0) → World scope fo go Slot → (f g : Frame) → Rel scope fo go Slot [] [] f g →
     (left bound : ℕ) → left ≤ limit → left < bound → Alike (OutAll scope fo go Slot [] [] f) left (run_all b fs calls f left) (run_all b' fs' (call bound depth fs') g left)
@@ -165,7 +165,7 @@ module _ (functions0 : List Function) (i0 : List (Name × ℤ)) (outer0 arrays0 
     there : (a : Name) → is_among a over ≡ true → is_among a (keys frame.arrays) ≡ true
     there a o = ap (λ ks. is_among a ks) agrees.names ∙ known a o
 
-    -- an array of the range, and its slice
+    -- the slice of an array of the range
     slot_is : (fa ga : List (Name × List ℤ)) (slot : Slot' fa ga) (a : Name) → is_among a over ≡ true → find [] a fa ≡ with_slice (find [] a frame.arrays) (natural lo) (slot.slices a)
     slot_is fa ga slot a o = ap (λ t. find [] a t) slot.put'.arrays ∙ find_mapped over (λ a xs. with_slice xs (natural lo) (slot.slices a)) frame.arrays a distinct o (there a o)
 

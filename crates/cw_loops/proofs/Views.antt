@@ -1,4 +1,4 @@
--- Call statements, as they are seen.
+-- Call statements under the abstraction.
 use Rattle.std.proofs.Common.{◌≡◌, Box, Global, arith}
 use Rattle.std.specs.Prelude.{map}
 use Rattle.std.proofs.lemmas.Grind.{common_steps}

@@ -1,4 +1,4 @@
--- A lowered program answers as its source.
+-- A lowered program has the answers of its source.
 use Rattle.std.proofs.Common.{◌≡◌, ℕ, zero, suc, ◌+◌, ◌-◌, ◌<◌, Bool, true, false, ℤ, pos, List, [], ◌∷◌, ◌++◌, length, arith, refl, sym, ◌∙◌, ap, append_assoc, append-nil, subst}
 use Rattle.std.specs.Prelude.{if◌then◌else◌, not, nat_lt, map, None}
 use Rattle.std.specs.List.{list_all}
@@ -51,7 +51,7 @@ call_deeper : (bound depth : ℕ) (fs : List Function) (f : Function) (given : F
 unfolding call
 call_deeper bound depth fs f given line left = refl
 
--- outside all loops both frames are one
+-- outside of all loops both frames are equal
 abbrev TopSlot : (fa ga : List (Name × List ℤ)) → Type 0
 TopSlot fa ga = (fa ≡ []) × (ga ≡ [])
 
@@ -91,7 +91,7 @@ module _ (fs : List Function) (can : list_all (can_lower_function fs) fs ≡ tru
       rw same_frame (alike_after {t = shows (Join ∷ [])} {u = shows (Join ∷ [])} (omega arith) refl refl (same_events (Join ∷ []))
       (alike_pay 1 l _ _ (λ enough. alike_done (l - 1) (same_call {v = None} tt good kept))))
 
-  -- a call of the source and of its function with loops lowered
+  -- a call in the source, and the call of the lowered function
   one_call : (n : ℕ) → CallOk n → (f : Function) (k : ℕ) → can_lower_function fs f ≡ true → Found (fs' fs can) (made_in k f.body)
       → (depth : ℕ) (given : Frame) (line left bound bound' : ℕ) → left < suc n → left < suc bound → left < suc bound' →
       Good given → given.sliced ≡ [] → keys given.ints ≡ integers_of f.params → keys given.arrays ≡ arrays_of f.params →
@@ -174,7 +174,7 @@ same_answer reducers (whole_done {t = t} {u = u} (same_call {v = v} fit g kept) 
 same_answer reducers (whole_trapped {trap = trap} {line = line} e) = ap (TrappedAt trap line) (sym e)
 same_answer reducers whole_over = refl
 
--- a lowered program answers as its source, on as many arguments of 64 bits as main has parameters
+-- a lowered program has the answers of its source, for a list of 64-bit arguments as long as the parameter list of main
 pub lowered_answers : (p : Program) (args : List ℤ) (limit : ℕ) → is_lowerable p ≡ true → list_all fits args ≡ true
     → length args ≡ length (function_named main_name p.functions).params → list_all (λ q. not (wants_array q)) (function_named main_name p.functions).params ≡ true →
     serial_answer (lowered p) args limit ≡ serial_answer p args limit

@@ -1,4 +1,4 @@
--- Lowering a whole program by slot makes the lowered program, each name looked up.
+-- Lowering a whole program by slot returns the lowered program with each name looked up.
 use Rattle.std.proofs.Common.{◌≡◌, ℕ, suc, ◌+◌, ◌≤◌, ◌<◌, Bool, true, false, List, [], ◌∷◌, ◌++◌, length, map, flat_map, arith, refl, sym, ◌∙◌, ap, append_assoc, append-nil, length-append}
 use Rattle.std.specs.Prelude.{if◌then◌else◌, not, nat_le, ◌&&◌, filter}
 use Rattle.std.specs.List.{list_all}
@@ -46,7 +46,7 @@ use Rattle.cw_loops.proofs.Tracking.{tracks_outside}
 use Rattle.cw_loops.proofs.Readers.{reads_none, loop_reads_none}
 use Rattle.cw_loops.proofs.BySlot.{Here, Done, as_blocks, block_made}
 
--- how many loops there are
+-- the number of loops
 
 mutual
   count_here : (line : ℕ) (s : Stmt) → length (loops_in line s) ≡ loop_count s
@@ -144,7 +144,7 @@ no_loop_named all (f ∷ fs) k h =
     let two = and_parts (can_lower_function all f) (list_all (can_lower_function all) fs) h in
     ap (λ b. if b then true else is_among (loop_name k) (function_names fs)) (apart_plain f.name (k ∷ []) (and_parts (is_plain f.name) _ two.0).0) ∙ no_loop_named all fs k two.1
 
--- a function that is accepted, and its resolved text
+-- an accepted function, with its resolved text
 record Accepted (program : Program) (g : Function) : Type 0 where
   can : can_lower_function program.functions g ≡ true
   fit : fits_function (resolved program) (resolved_function (lists_of program) g) ≡ true
@@ -303,7 +303,7 @@ pub lowers_by_slot : ResolvedFits → (program : Program) → IsWellTyped progra
 lowers_by_slot fits program typed owned source_like within loops =
     by_slot program (owned_can program typed owned source_like) within loops (fits program within typed) typed
 
--- what lowering makes of a tree whose slots are right
+-- the contract of lowering holds for a tree whose slots are correct
 pub tree_is_lowered : ResolvedFits → (tree : Tree) (made : Bodies) → is_resolved (resolved_of tree) ≡ true → type_faults (program_of tree) ≡ []
     → KeepsOwnership (program_of tree) → limit_faults (program_of tree) ≡ [] → loop_faults (program_of tree) ≡ [] →
     made ≡ made_of_tree (resolved_of tree) → is_source_like (program_of tree) ≡ true → expanded (resolved_of tree) made ≡ slotted_functions (program_of tree)

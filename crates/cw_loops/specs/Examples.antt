@@ -1,4 +1,4 @@
--- Worked examples: a lowered program answers as its source.
+-- Worked examples: a lowered program has the answers of its source.
 use Rattle.std.specs.Prelude.{◌≡◌, ℕ, zero, suc, ◌+◌, ◌-◌, ◌*◌, ◌==◌, ◌&&◌, ℤ, pos, Bool, false, true, List, [], ◌∷◌}
 use Rattle.std.specs.Prelude.{map, Option, Some, None}
 use Rattle.cw_model.specs.declared.trap.Trap.{Trap}
@@ -18,11 +18,11 @@ use Rattle.cw_model.specs.Examples.{serial}
 use Rattle.cw_loops.specs.Lowered.{lowered}
 use Rattle.cw_loops.specs.Lowerable.{is_lowerable}
 
--- the lowered program answers as its source within each of these limits
+-- the lowered program has the answers of its source within each of these limits
 abbrev pub Same : Program → (limits : List ℕ) → Type 0
 Same program limits = map (serial (lowered program) []) limits ≡ map (serial program []) limits
 
--- a loop in a loop, over a new array of each turn, with prints, a spawn's result and a trap in the end
+-- nested loops over a new array of each iteration, with prints, a result of a spawn and a trap at the end
 abbrev pub nested : ℕ → Program
 nested trap_at = record {
   reducers = record { name = example.s; how = Sum; line = 1 } ∷ [];
@@ -60,8 +60,8 @@ nested trap_at = record {
       ∷ [];
 }
 
--- a loop whose turns have two arrays of their own: a call takes one and reads the other, which a spawned call then
--- reads while the turn does
+-- a loop whose iterations have two arrays each: a call takes one and reads the other, which a spawned call then reads
+-- in parallel with the iteration
 abbrev pub readers : Program
 readers =
     example.of_functions (
@@ -83,7 +83,7 @@ readers =
     ∷ Return (Some (Element example.a (Number (pos 3)))) ∷ [])
     ∷ [])
 
--- a loop of so many turns and this grain that adds its variable to a sum
+-- a loop with this number of iterations and this grain that adds its variable to a sum
 abbrev pub turns_program : (turns grain : ℕ) → Program
 turns_program turns grain =
     example.with_sum (
@@ -93,7 +93,7 @@ turns_program turns grain =
     ∷ Return (Some (Number (pos 0))) ∷ [])
     ∷ [])
 
--- a loop with grain 2 that keeps the greatest of i * (3 - i)
+-- a loop with grain 2 that computes the maximum of i * (3 - i)
 abbrev pub greatest_program : (from to : ℕ) → Program
 greatest_program from to = record {
   reducers = record { name = example.s; how = Max; line = 1 } ∷ [];
@@ -106,16 +106,16 @@ greatest_program from to = record {
       ∷ [];
 }
 
--- what it costs: the two ends and the start, the halves with two more a turn, and the return
+-- the cost of the loop: the two ends and the start, the halves with two more for each iteration, and the return
 abbrev pub turns_cost : (turns grain : ℕ) → ℕ
 turns_cost turns grain = 5 + loop_cost grain 0 0 turns + 2 * turns
 
--- 0 + 1 + .. for so many turns
+-- the sum 0 + 1 + .. of this number of terms
 abbrev pub sum_below : ℕ → ℕ
 sum_below zero = 0
 sum_below (suc n) = sum_below n + n
 
--- it ends with this sum
+-- the run ends with this sum
 abbrev pub ends_with : ℕ → Answer → Bool
 ends_with sum (Ended v lines (total.Sum (pos n) ∷ []) t) = n == sum
 ends_with sum _ = false
@@ -124,23 +124,23 @@ abbrev pub is_over : Answer → Bool
 is_over OverLimit = true
 is_over _ = false
 
--- the lowered loop gives the plain loop's sum within its cost, and within one less it is over
+-- the lowered loop has the sum of the plain loop within its cost, and it exceeds its limit within one less
 abbrev pub has_cost : (grain turns : ℕ) → Bool
 has_cost grain turns =
     ends_with (sum_below turns) (serial (lowered (turns_program turns grain)) [] (turns_cost turns grain))
     && is_over (serial (lowered (turns_program turns grain)) [] (turns_cost turns grain - 1))
 
--- each length below this one
+-- each length below this one has its cost
 abbrev pub all_have_cost : (grain lengths : ℕ) → Bool
 all_have_cost grain zero = true
 all_have_cost grain (suc n) = all_have_cost grain n && has_cost grain n
 
--- lowered, it ends with this value within so many instructions, and is over with one less
+-- the lowered program ends with this value within this number of instructions, and exceeds its limit with one less
 abbrev pub value_answered : Answer → Option ℤ
 value_answered (Ended v lines totals t) = Some v
 value_answered _ = None
 
--- what the reducers come to, lowered
+-- the totals of the reducers of a lowered program
 abbrev pub totals_answered : Answer → List Total
 totals_answered (Ended v lines totals t) = totals
 totals_answered _ = []
@@ -166,7 +166,7 @@ pub record LoweredExamples : Type 0 where
   pub grain_3 : all_have_cost 3 8 ≡ true
   pub sums : Same (example.sum_program 0 4) (1000 ∷ 106 ∷ 105 ∷ 20 ∷ 5 ∷ [])
   pub no_turn : Same (example.sum_program 5 3) (1000 ∷ 19 ∷ 18 ∷ [])
-  -- a reducer that keeps the greatest of what it was told: 2 of 0, 2, 2 and 0, and none of no turn
+  -- a reducer for the maximum: 2 for the values 0, 2, 2 and 0, and no value without an iteration
   pub greatest : Same (greatest_program 0 4) (1000 ∷ 122 ∷ 121 ∷ 20 ∷ 5 ∷ [])
   pub greatest_cost : CostsLowered (greatest_program 0 4) 122 (pos 0)
   pub greatest_told : totals_answered (serial (lowered (greatest_program 0 4)) [] 122) ≡ total.Max (Some (pos 2)) ∷ []
@@ -180,10 +180,10 @@ pub record LoweredExamples : Type 0 where
   pub most : Same (example.idle_loop (Number (pos 0)) 2147483647) (3 ∷ 300 ∷ [])
   pub twice : Same (nested 2) (5000 ∷ 900 ∷ 700 ∷ 500 ∷ 300 ∷ 100 ∷ [])
   pub twice_traps : Same (nested 4) (5000 ∷ 700 ∷ [])
-  -- arrays that a turn and its spawn read together: the last turn comes to 3 + 3
+  -- an iteration and its spawn read arrays in parallel: the value of the last iteration is 3 + 3
   pub together : Same readers (5000 ∷ 300 ∷ 200 ∷ 100 ∷ [])
   pub together_comes_to : value_answered (serial (lowered readers) [] 5000) ≡ Some (pos 6)
-  -- these can be lowered, by the test
+  -- the test says that these programs can be lowered
   pub sums_can : is_lowerable (example.sum_program 0 4) ≡ true
   pub greatest_can : is_lowerable (greatest_program 0 4) ≡ true
   pub squares_can : is_lowerable (example.square_program 5 0 5 4) ≡ true
@@ -192,5 +192,5 @@ pub record LoweredExamples : Type 0 where
   pub fib_can : is_lowerable example.fib_program ≡ true
   pub twice_can : is_lowerable (nested 2) ≡ true
   pub together_can : is_lowerable readers ≡ true
-  -- an outer integer that is written in a turn is no program that can be lowered
+  -- a program that writes an outer integer in an iteration cannot be lowered
   pub outer_cannot : is_lowerable example.outer_program ≡ false

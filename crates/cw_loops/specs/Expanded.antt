@@ -1,4 +1,5 @@
--- The functions that a tree holds: those of the source, each with its body, and then those of its loops, written out.
+-- The functions that a lowered tree represents: the functions of the source with their bodies, and then the functions
+-- of its loops, written out.
 use Rattle.std.specs.Prelude.{ℕ, zero, suc, ◌+◌, ◌*◌, pos, false, List, [], ◌∷◌, ◌++◌, length, map, replicate}
 use Rattle.cw_model.specs.declared.syntax.CallKind.TheVariants.{Plain, Spawned}
 use Rattle.cw_model.specs.declared.syntax.NameKind.TheVariants as kind
@@ -9,38 +10,38 @@ use Rattle.cw_loops.specs.Slotted.{IfElse, While, Scope, Cut, Block, End, Then, 
 use Rattle.cw_loops.specs.Moved.{Loop}
 use Rattle.cw_loops.specs.Lowers.{Bodies, made_of_tree}
 
--- one statement of a line, and nothing after it
+-- a block of one statement in this line
 abbrev pub on_line : ℕ → Stmt → Block
 on_line line s = Then line s End
 
--- the ends of the range
+-- the slots of the ends of the range
 abbrev pub low : ℕ
 low = 0
 
 abbrev pub high : ℕ
 high = 1
 
--- the variable in a leaf, and the middle in a node, behind so many captured integers
+-- the slot of the variable in a leaf, and of the middle in a node, after `k` captured integers
 abbrev pub turn_slot : ℕ → ℕ
 turn_slot k = 2 + k
 
--- the parts of the array of a number, behind so many arrays of the loop
+-- the slots of the two parts of array `n`, after this number of arrays of the loop
 abbrev pub left_slot : (arrays number : ℕ) → ℕ
 left_slot q n = q + 2 * n
 
 abbrev pub right_slot : (arrays number : ℕ) → ℕ
 right_slot q n = suc (left_slot q n)
 
--- so many numbers from one on
+-- consecutive numbers from this one on
 abbrev pub numbers : (from count : ℕ) → List ℕ
 numbers from zero = []
 numbers from (suc n) = from ∷ numbers (suc from) n
 
--- how long the range is
+-- the length of the range
 abbrev pub range : Expr
 range = Binary Minus (Variable high) (Variable low)
 
--- the turns of a leaf
+-- the loop of a leaf, which executes its iterations
 abbrev pub leaf : Loop → Block
 leaf l =
     let x = turn_slot l.captured in
@@ -48,12 +49,12 @@ leaf l =
     (on_line l.line (While (Binary Less (Variable x) (Variable high))
     (Then l.line (Scope l.body) (on_line l.line (Assign x (Binary Plus (Variable x) (Number (pos 1))))))))
 
--- what a call on one half is given: the ends, the captured integers and the parts of the arrays
+-- the arguments of a call on one half: the ends, the captured integers and the parts of the arrays
 abbrev pub half : (from to : ℕ) → (ints arrays : List ℕ) → List Argument
 half from to ints arrays =
     Int (Variable from) ∷ Int (Variable to) ∷ (map (λ s. Int (Variable s)) ints ++ map Array arrays)
 
--- both halves, by the function of this index
+-- the calls on both halves, of the function with this index
 abbrev pub both_halves : (callee : ℕ) → Loop → Block
 both_halves callee l =
     let m = turn_slot l.captured in
@@ -62,20 +63,20 @@ both_halves callee l =
     Then l.line (Start Spawned callee (half low m ints (map (left_slot l.over) arrays)))
     (on_line l.line (Start Plain callee (half m high ints (map (right_slot l.over) arrays))))
 
--- inside cuts of these arrays, each in the middle
+-- a block within cuts of these arrays, each in the middle
 abbrev pub in_cuts : Loop → (arrays : List ℕ) → Block → Block
 in_cuts l [] inside = inside
 in_cuts l (n ∷ arrays) inside =
     on_line l.line (Cut n (Binary Minus (Variable (turn_slot l.captured)) (Variable low)) (left_slot l.over n)
     (right_slot l.over n) (in_cuts l arrays inside))
 
--- a node
+-- the block of a node
 abbrev pub node : (callee : ℕ) → Loop → Block
 node callee l =
     Then l.line (Declare (turn_slot l.captured) (Binary Plus (Variable low) (Binary Divide range (Number (pos 2)))))
     (in_cuts l (numbers 0 l.over) (both_halves callee l))
 
--- the function of a loop, which has this index
+-- the function of a loop; `index` is its own index
 abbrev pub loop_text : (index : ℕ) → Loop → Function
 loop_text index l = record {
   gives_int = false;

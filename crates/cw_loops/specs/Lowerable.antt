@@ -1,4 +1,4 @@
--- Programs whose loops can be lowered: what well typed and owned programs have, as one test on names.
+-- Programs whose loops can be lowered: the properties of well-typed and owned programs, as one test on names.
 use Rattle.std.specs.Prelude.{Bool, true, false, not, ◌&&◌, ◌||◌, if◌then◌else◌, nat_le, ◌==◌, List, [], ◌∷◌, ◌++◌}
 use Rattle.std.specs.Prelude.{length, Option, Some, None}
 use Rattle.std.specs.List.{list_all}
@@ -12,11 +12,9 @@ use Rattle.cw_model.specs.Captured.{captured}
 use Rattle.cw_model.specs.Meaning.{function_named}
 use Rattle.cw_loops.specs.Lowered.{is_plain, low, high}
 
--- what stands outside the turn of the innermost loop around: the integers of the source's frame, those of the
--- function's
--- and those of both, the arrays of the source's frame, the loop's arrays, those of all loops around, the loop's
--- variable;
--- whether a return may stand here; and the functions of the program
+-- the context of an iteration of the innermost enclosing loop: the outer integers in the frame of the source, in the
+-- frame of the generated function and in both, the outer arrays in the frame of the source, the arrays of the loop and
+-- of all enclosing loops, the loop's variable, whether a return is allowed here, and the functions of the program
 pub record Surroundings : Type 0 where
   pub outer : List Name
   pub given : List Name
@@ -28,7 +26,7 @@ pub record Surroundings : Type 0 where
   pub returns : Bool
   pub functions : List Function
 
--- outside all loops
+-- the context outside of all loops
 abbrev pub nothing_around : List Function → Surroundings
 nothing_around fs =
     record {
@@ -43,19 +41,19 @@ nothing_around fs =
       functions = fs;
     }
 
--- neither frame has it from outside
+-- in neither frame the name is from outside
 abbrev pub can_write : Surroundings → Name → Bool
 can_write c x = not (is_among x c.outer) && not (is_among x c.given)
 
--- both frames have it from outside, or neither
+-- in both frames or in neither frame the name is from outside
 abbrev pub can_read : Surroundings → Name → Bool
 can_read c x = is_among x c.shared || can_write c x
 
--- an array of the turn itself
+-- the name is an array of the iteration itself
 abbrev pub is_local : Surroundings → Name → Bool
 is_local c a = not (is_among a c.arrays) && (not (is_among a c.over) && not (is_among a c.sliced))
 
--- the loop's variable alone
+-- the expression is exactly the loop's variable
 abbrev pub is_variable : Surroundings → Expr → Bool
 is_variable c (Variable x) = same_name x c.variable
 is_variable c _ = false
@@ -69,7 +67,7 @@ can_evaluate c (Negative e) = can_evaluate c e
 can_evaluate c (Not e) = can_evaluate c e
 can_evaluate c (Binary operator d e) = can_evaluate c d && can_evaluate c e
 
--- an argument: a name alone may be an integer or an array
+-- the expression can be an argument; a name may be an integer or an array
 abbrev pub can_pass : Surroundings → Expr → Bool
 can_pass c (Variable x) = can_read c x && is_local c x
 can_pass c e = can_evaluate c e
@@ -82,7 +80,7 @@ abbrev pub can_target : Surroundings → Option Name → Bool
 can_target c None = true
 can_target c (Some x) = can_write c x
 
--- the names that a statement declares for what follows it
+-- the names that a statement declares for the statements after it
 abbrev pub new_integers : Stmt → List Name
 new_integers (Declare x e) = x ∷ []
 new_integers _ = []
@@ -91,23 +89,23 @@ abbrev pub new_arrays : Stmt → List Name
 new_arrays (DeclareArray a e) = a ∷ []
 new_arrays _ = []
 
--- each name is plain, of the source's frame, and read alike
+-- each name is plain, may be read, and is an integer of the source's frame
 abbrev pub can_capture : Surroundings → List Name → List Name → Bool
 can_capture c ints [] = true
 can_capture c ints (x ∷ xs) = is_plain x && (can_read c x && (is_among x (c.outer ++ ints) && can_capture c ints xs))
 
--- each array is plain and a known one of the turn itself
+-- each array is plain and is a known array of the iteration itself
 abbrev pub can_slice : Surroundings → List Name → List Name → Bool
 can_slice c arrays [] = true
 can_slice c arrays (a ∷ as') = is_plain a && (is_local c a && (is_among a arrays && can_slice c arrays as'))
 
--- a loop of this variable, these integers and these arrays
+-- a loop with this variable, these integers and these arrays can be lowered
 abbrev pub can_loop : Surroundings → (ints arrays : List Name) → (x : Name) → (taken over : List Name) → Bool
 can_loop c ints arrays x taken over =
     is_plain x && (not (is_among x (c.outer ++ ints)) && (not (is_among x taken)
     && (differ taken && (differ over && (can_capture c ints taken && can_slice c arrays over)))))
 
--- what stands outside a turn of it
+-- the context of an iteration of this loop
 abbrev pub inside : Surroundings → (ints arrays : List Name) → (x : Name) → (taken over : List Name) → Surroundings
 inside c ints arrays x taken over = record {
   outer = (c.outer ++ ints) ++ x ∷ [];
@@ -122,7 +120,7 @@ inside c ints arrays x taken over = record {
 }
 
 abbrev mutual
-  -- a statement, where these integers and arrays of the turn itself are known
+  -- a statement can be lowered, if these integers and arrays of the iteration itself are known
   pub can_lower : Surroundings → (ints arrays : List Name) → Stmt → Bool
   can_lower c ints arrays (Declare x e) = can_evaluate c e
   can_lower c ints arrays (DeclareArray a e) = can_evaluate c e
@@ -158,7 +156,7 @@ abbrev mutual
   can_lower_all c ints arrays (Then line s b) =
       can_lower c ints arrays s && can_lower_all c (ints ++ new_integers s) (arrays ++ new_arrays s) b
 
--- the integers and the arrays of parameters
+-- the integers and the arrays among parameters
 abbrev pub integers_of : List Param → List Name
 integers_of [] = []
 integers_of (p ∷ ps) = if wants_array p then integers_of ps else p.name ∷ integers_of ps
@@ -167,7 +165,7 @@ abbrev pub arrays_of : List Param → List Name
 arrays_of [] = []
 arrays_of (p ∷ ps) = if wants_array p then p.name ∷ arrays_of ps else arrays_of ps
 
--- a function: its name is plain, its arrays among the parameters differ, and its body can be lowered
+-- a function can be lowered: its name is plain, its array parameters are distinct, and its body can be lowered
 abbrev pub can_lower_function : List Function → Function → Bool
 can_lower_function fs f =
     is_plain f.name && (differ (arrays_of f.params)

@@ -1,4 +1,4 @@
--- A program with its loops lowered: each `cilk_for` begins a generated function that halves its range.
+-- A program with its loops lowered: each `cilk_for` calls a generated function that halves its range.
 use Rattle.std.specs.Prelude.{ℕ, ◌+◌, ◌==◌, not, pos, true, false, Bool, List, [], ◌∷◌, ◌++◌, map, Option, Some, None}
 use Rattle.cw_model.specs.declared.syntax.Operator.TheVariants.{AtMost, Less, Plus, Minus, Divide}
 use Rattle.cw_model.specs.declared.syntax.CallKind.TheVariants.{Plain, Spawned}
@@ -10,36 +10,36 @@ use Rattle.cw_model.specs.Syntax.{Program}
 use Rattle.cw_model.specs.Names.{is_among}
 use Rattle.cw_model.specs.Captured.{captured}
 
--- the names of what is generated begin with `#`, as no name of a source does
+-- generated names begin with `#`, unlike all names of a source
 
--- a name of a source: it does not begin so
+-- the name may be from a source: it does not begin with `#`
 abbrev pub is_plain : Name → Bool
 is_plain [] = true
 is_plain (c ∷ cs) = not (c == 35)
 
--- the range of a generated function
+-- the ends of the range of a generated function
 abbrev pub low : Name
 low = 35 ∷ 108 ∷ []
 
 abbrev pub high : Name
 high = 35 ∷ 104 ∷ []
 
--- where it is halved
+-- the middle of the range
 abbrev pub middle : Name
 middle = 35 ∷ 109 ∷ []
 
--- the two parts of an array there
+-- the two parts of an array at the middle
 abbrev pub left_part : Name → Name
 left_part a = 35 ∷ 60 ∷ a
 
 abbrev pub right_part : Name → Name
 right_part a = 35 ∷ 62 ∷ a
 
--- the function of the loop of a number
+-- the name of the function of a loop, by its number
 abbrev pub loop_name : ℕ → Name
 loop_name k = 35 ∷ k ∷ []
 
--- an index into one of these arrays counts from the lower end of the range
+-- an index into an array of the loop counts from the lower end of the range
 abbrev pub lower_index : Bool → Expr → Expr
 lower_index true e = Binary Minus e (Variable low)
 lower_index false e = e
@@ -75,11 +75,11 @@ abbrev pub variables : List Name → List Expr
 variables [] = []
 variables (x ∷ xs) = Variable x ∷ variables xs
 
--- one statement of a line, and a block after it
+-- a block of one statement in this line
 abbrev pub on_line : ℕ → Stmt → Block
 on_line line s = Then line s End
 
--- the turns of a leaf: the body is a scope of each
+-- one iteration of a leaf; the body is a scope of its own
 abbrev pub leaf_turn : ℕ → (x : Name) → Block → Block
 leaf_turn line x body = Then line (Scope body) (on_line line (Assign x (Binary Plus (Variable x) (Number (pos 1)))))
 
@@ -95,7 +95,7 @@ left_arguments ints over = Variable low ∷ Variable middle ∷ (variables ints 
 abbrev pub right_arguments : (ints over : List Name) → List Expr
 right_arguments ints over = Variable middle ∷ Variable high ∷ (variables ints ++ variables (map right_part over))
 
--- the halves in the cuts of these arrays
+-- the calls on both halves, in the cuts of these arrays
 abbrev pub both_halves : ℕ → (name : Name) → (lefts rights : List Expr) → Block
 both_halves line name lefts rights = Then line (Start Spawned name lefts) (on_line line (Start Plain name rights))
 
@@ -113,7 +113,7 @@ node_block line name ints over =
     Then line (Declare middle (Binary Plus (Variable low) (Binary Divide range (Number (pos 2)))))
     (in_cuts line over (both_halves line name (left_arguments ints over) (right_arguments ints over)))
 
--- the function of a loop, by its name, line, variable, grain, integers and arrays, and its lowered body
+-- the function of a loop with this name, line, variable, grain, integers, arrays and lowered body
 abbrev pub loop_function : (name : Name) → ℕ → (x : Name) → (grain : ℕ) → (ints over : List Name) → Block → Function
 loop_function name line x grain ints over body = record {
   name = name;
@@ -128,7 +128,7 @@ loop_function name line x grain ints over body = record {
 }
 
 abbrev mutual
-  -- the loops of a statement
+  -- the number of loops of a statement
   pub loop_count : Stmt → ℕ
   loop_count (If e b) = loop_count_in b
   loop_count (IfElse e b c) = loop_count_in b + loop_count_in c
@@ -144,7 +144,7 @@ abbrev mutual
   loop_count_in (Then line s b) = loop_count s + loop_count_in b
 
 abbrev mutual
-  -- a statement, in a loop over these arrays, its loops numbered from here on: a loop after those in its body
+  -- a lowered statement in a loop over these arrays; its loops have numbers from `k` on, inner loops first
   pub lower_stmt : List Name → ℕ → Stmt → Stmt
   lower_stmt over k (Declare x e) = Declare x (lower_expr over e)
   lower_stmt over k (DeclareArray a e) = DeclareArray a (lower_expr over e)
@@ -173,7 +173,7 @@ abbrev mutual
   lower_block over k (Then line s b) = Then line (lower_stmt over k s) (lower_block over (k + loop_count s) b)
 
 abbrev mutual
-  -- the functions of the loops of a statement of a line, numbered from here on
+  -- the functions of the loops of a statement, numbered from `k` on
   pub made_by : ℕ → ℕ → Stmt → List Function
   made_by line k (If e b) = made_in k b
   made_by line k (IfElse e b c) = made_in k b ++ made_in (k + loop_count_in b) c
@@ -204,7 +204,7 @@ abbrev pub made_of : ℕ → List Function → List Function
 made_of k [] = []
 made_of k (f ∷ fs) = made_in k f.body ++ made_of (k + loop_count_in f.body) fs
 
--- the functions of the source, and then those of its loops
+-- the functions of the source, and then the functions of its loops
 abbrev pub lowered : Program → Program
 lowered program = record {
   reducers = program.reducers;

@@ -1,4 +1,4 @@
--- What holds of a program with its loops lowered.
+-- Laws of a program with its loops lowered.
 use Rattle.std.specs.Prelude.{◌≡◌, ℕ, ℤ, true, not, List, [], length, flat_map}
 use Rattle.std.specs.List.{list_all}
 use Rattle.cw_model.specs.Ints.{fits}
@@ -15,18 +15,18 @@ use Rattle.cw_loops.specs.SourceLike.{is_source_like}
 use Rattle.cw_loops.specs.Lowered.{lowered}
 use Rattle.cw_loops.specs.Lowerable.{is_lowerable}
 
--- the function that a run of a program begins with
+-- the function that a run of a program starts with
 abbrev pub main_of : Program → Function
 main_of program = function_named main_name program.functions
 
--- on as many arguments of 64 bits as its main has parameters, and within each limit, the lowered program answers as
--- the program: value, printed lines, totals, tree, trap with its line, and over the limit
+-- for a list of 64-bit arguments as long as the parameter list of its main, and within each limit, the lowered program
+-- has the answer of the program: value, printed lines, totals, tree, trap with its line, and over the limit
 abbrev pub AnswersAsItsSource : Program → Type 0
 AnswersAsItsSource program =
     (args : List ℤ) (limit : ℕ) → list_all fits args ≡ true → length args ≡ length (main_of program).params →
     serial_answer (lowered program) args limit ≡ serial_answer program args limit
 
--- main takes integers alone
+-- main takes only integers
 abbrev pub MainTakesIntegers : Program → Type 0
 MainTakesIntegers program = list_all (λ p. not (wants_array p)) (main_of program).params ≡ true
 
@@ -42,11 +42,11 @@ LoweredIsAsLong =
 abbrev pub LoweredHasNoLoop : Type 0
 LoweredHasNoLoop = (program : Program) → flat_map (λ f. loops_in_block f.body) (lowered program).functions ≡ []
 
--- there are as many call statements as in the source
+-- lowering keeps the number of call statements
 abbrev pub LoweredHasItsCalls : Type 0
 LoweredHasItsCalls = (program : Program) → call_count (lowered program) ≡ call_count program
 
--- a program that types and ownership accept, with names and numbers as a source has them
+-- types and ownership accept the program, and its names and numbers are possible in a source
 pub record IsOwnedSource (program : Program) : Type 0 where
   pub typed : IsWellTyped program
   pub owned : KeepsOwnership program
@@ -61,13 +61,13 @@ LoweringKeepsAnswers = (program : Program) → IsOwnedSource program → Answers
 abbrev pub LoweringKeepsSize : Type 0
 LoweringKeepsSize = (program : Program) → IsOwnedSource program → static_size (lowered program) ≡ static_size program
 
--- names and numbers of a derived program are those of its text
+-- the names and numbers of a program that is derived from a text are possible in a source
 abbrev pub DerivedIsSourceLike : Type 0
 DerivedIsSourceLike =
     (text : List ℕ) (ts : List Token) (program : Program) → IsTokenCut text ts → Derives text ts program →
     is_source_like program ≡ true
 
--- of a program that a text derives nothing more is asked
+-- for a program that is derived from a text, being accepted by types and ownership suffices
 abbrev pub LoweringKeepsDerivedAnswers : Type 0
 LoweringKeepsDerivedAnswers =
     (text : List ℕ) (ts : List Token) (program : Program) → IsTokenCut text ts → Derives text ts program →

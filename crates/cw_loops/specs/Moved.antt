@@ -1,4 +1,4 @@
--- Lowering by slot: what becomes of a resolved tree where its loops are lowered.
+-- Lowering by slot: the result of lowering the loops of a resolved tree.
 use Rattle.std.specs.Prelude.{ℕ, ◌+◌, ◌-◌, ◌^◌, ◌==◌, min, nat_lt, Bool, true, false, ◌&&◌, if◌then◌else◌, List, []}
 use Rattle.std.specs.Prelude.{◌∷◌, ◌++◌, length, map, Option, Some, None}
 use Rattle.cw_model.specs.declared.syntax.Operator.TheVariants.{Minus}
@@ -9,17 +9,17 @@ use Rattle.cw_loops.specs.Slotted.{Array, Shared, Stmt, Declare, DeclareArray, A
 use Rattle.cw_loops.specs.Slotted.{Begin}
 use Rattle.cw_loops.specs.Slotted.{Sync, If, IfElse, While, Scope, Cut, Region, Print, Return, Block, End, Then}
 
--- the greatest slot or index that a tree can tell
+-- the maximum slot or index that a tree can hold
 abbrev pub most_slot : ℕ
 most_slot = 2 ^ 32 - 1
 
--- a slot or an index; no program within the limits has a greater one
+-- a slot or an index, at most the maximum; within the limits no program exceeds the maximum
 abbrev pub slot : ℕ → ℕ
 slot n = min n most_slot
 
--- where the locals of a function of the source are in the function that its text goes to: for a loop, how many integers
--- and arrays are known before its head, the slots of those that it takes along, in order, and the slot of the first one
--- of each kind that is declared in it
+-- the new slots of the locals of a source function; for the body of a loop: the numbers of integers and arrays known
+-- before its head, the slots of the captured ones, in order, and the new slot of the first local of each kind that the
+-- body declares
 pub record Moves : Type 0 where
   pub ints_before : ℕ
   pub captured : List ℕ
@@ -28,7 +28,7 @@ pub record Moves : Type 0 where
   pub over : List ℕ
   pub first_array : ℕ
 
--- outside all loops
+-- the mapping outside of all loops
 abbrev pub nothing_moved : Moves
 nothing_moved = record { ints_before = 0; captured = []; first_int = 0; arrays_before = 0; over = []; first_array = 0 }
 
@@ -36,7 +36,7 @@ nothing_moved = record { ints_before = 0; captured = []; first_int = 0; arrays_b
 abbrev pub slots_of : List Use → List ℕ
 slots_of uses = map (λ u. u.slot) uses
 
--- in the body of a loop, where so many arrays are known before its head; the ends of the range have the slots 0 and 1
+-- the mapping for a loop's body, with this number of arrays before its head; slots 0 and 1 are the range's ends
 abbrev pub moves_of : source.Head → ℕ → Moves
 moves_of head arrays = record {
   ints_before = head.variable.slot;
@@ -47,20 +47,20 @@ moves_of head arrays = record {
   first_array = slot (length head.over);
 }
 
--- the first place of a slot among others, counted from a number on
+-- the first position of a slot among others, counted from `n`
 abbrev pub place_from : ℕ → ℕ → List ℕ → ℕ
 place_from n s [] = n
 place_from n s (k ∷ ks) = if k == s then n else place_from (slot (n + 1)) s ks
 
--- the slot of an integer, where it went
+-- the new slot of an integer
 abbrev pub moved_int : Moves → ℕ → ℕ
 moved_int m s = if nat_lt s m.ints_before then place_from 2 s m.captured else slot (s - m.ints_before + m.first_int)
 
--- the slot of an array, where it went
+-- the new slot of an array
 abbrev pub moved_array : Moves → ℕ → ℕ
 moved_array m s = if nat_lt s m.arrays_before then place_from 0 s m.over else slot (s - m.arrays_before + m.first_array)
 
--- an array of the loop
+-- the array is an array of the loop
 abbrev pub is_over : Moves → ℕ → Bool
 is_over m s = nat_lt s m.arrays_before && is_slot_in s m.over
 
@@ -69,7 +69,7 @@ abbrev pub from_low : Bool → Expr → Expr
 from_low true e = Binary Minus e (Variable 0)
 from_low false e = e
 
--- an expression, where it went
+-- an expression with the new slots
 abbrev pub moved_expr : Moves → source.Expr → Expr
 moved_expr m (source.Number n) = Number n
 moved_expr m (source.Variable u) = Variable (moved_int m u.slot)
@@ -79,35 +79,35 @@ moved_expr m (source.Negative e) = Negative (moved_expr m e)
 moved_expr m (source.Not e) = Not (moved_expr m e)
 moved_expr m (source.Binary operator d e) = Binary operator (moved_expr m d) (moved_expr m e)
 
--- an argument, where it went
+-- an argument with the new slots
 abbrev pub moved_argument : Moves → source.Argument → Argument
 moved_argument m (source.Int e) = Int (moved_expr m e)
 moved_argument m (source.Array u) = Array (moved_array m u.slot)
 moved_argument m (source.Shared u) = Shared (moved_array m u.slot)
 
--- the target of a call, where it went
+-- the target of a call with its new slot
 abbrev pub moved_target : Moves → Option Use → Option ℕ
 moved_target m None = None
 moved_target m (Some u) = Some (moved_int m u.slot)
 
--- what is returned, where it went
+-- the expression of a return with the new slots
 abbrev pub moved_return : Moves → Option source.Expr → Option Expr
 moved_return m None = None
 moved_return m (Some e) = Some (moved_expr m e)
 
--- integers and arrays that a loop takes along, where they are as it begins
+-- the slots of the integers and of the arrays that a loop captures, at its beginning
 abbrev pub moved_ints : Moves → List Use → List ℕ
 moved_ints m uses = map (λ u. moved_int m u.slot) uses
 
 abbrev pub moved_arrays : Moves → List Use → List ℕ
 moved_arrays m uses = map (λ u. moved_array m u.slot) uses
 
--- how many arrays are known after a statement
+-- the number of known arrays after a statement
 abbrev pub arrays_after : ℕ → source.Stmt → ℕ
 arrays_after arrays (source.DeclareArray u e) = slot (u.slot + 1)
 arrays_after arrays _ = arrays
 
--- what a loop becomes: its line and grain, how many integers and arrays it takes along, and its body
+-- the function of a loop: its line and grain, the numbers of captured integers and of its arrays, and its body
 pub record Loop : Type 0 where
   pub line : ℕ
   pub grain : ℕ
@@ -115,7 +115,7 @@ pub record Loop : Type 0 where
   pub over : ℕ
   pub body : Block
 
--- a statement without blocks, where it went
+-- a statement without inner blocks, with the new slots
 abbrev pub moved_alone : Moves → source.Stmt → Stmt
 moved_alone m (source.Declare u e) = Declare (moved_int m u.slot) (moved_expr m e)
 moved_alone m (source.DeclareArray u e) = DeclareArray (moved_array m u.slot) (moved_expr m e)
@@ -129,12 +129,12 @@ moved_alone m (source.Print e) = Print (moved_expr m e)
 moved_alone m (source.Return e) = Return (moved_return m e)
 moved_alone m _ = Sync
 
--- the beginning of a loop, whose function has this index
+-- the call that begins a loop, whose function has this index
 abbrev pub moved_head : Moves → ℕ → source.Head → Stmt
 moved_head m callee head =
     Begin callee (moved_expr m head.from) (moved_expr m head.to) (moved_ints m head.captured) (moved_arrays m head.over)
 
--- the function of a loop of a line, with its body where it went
+-- the function of a loop in this line, with its lowered body
 abbrev pub loop_with : ℕ → source.Head → Block → Loop
 loop_with line head body =
     record {
@@ -145,43 +145,43 @@ loop_with line head body =
       body = body;
     }
 
--- the index of the next loop's function, behind the functions of the source and the loops so far
+-- the index of the function of the next loop, after the functions of the source and the loops so far
 abbrev pub loop_index : (functions loops : ℕ) → ℕ
 loop_index functions loops = slot (slot loops + functions)
 
--- what a statement becomes, and the loops made so far with those in it behind them, each after those in its body
+-- a lowered statement, and the loops so far with its loops appended, each after the loops in its body
 pub record Made : Type 0 where
   pub stmt : Stmt
   pub loops : List Loop
 
--- the same of a block
+-- a lowered block, and the loops so far with its loops appended
 pub record MadeAll : Type 0 where
   pub block : Block
   pub loops : List Loop
 
--- one block inside a statement
+-- a statement with one lowered block
 abbrev pub around_one : (Block → Stmt) → MadeAll → Made
 around_one form inner = record { stmt = form inner.block; loops = inner.loops }
 
--- a loop, whose body is made
+-- a loop with its lowered body
 abbrev pub around_loop : (functions : ℕ) → Moves → ℕ → source.Head → MadeAll → Made
 around_loop functions m line head inner = record {
   stmt = moved_head m (loop_index functions (length inner.loops)) head;
   loops = inner.loops ++ loop_with line head inner.block ∷ [];
 }
 
--- a cut around a block
+-- a cut with its lowered block
 abbrev pub moved_cut : Moves → source.Parts → Block → Stmt
 moved_cut m parts body =
     Cut (moved_array m parts.array.slot) (moved_expr m parts.at) (moved_array m parts.left.slot)
     (moved_array m parts.right.slot) body
 
--- a statement before a block
+-- a lowered statement followed by a lowered block
 abbrev pub followed : ℕ → Stmt → MadeAll → MadeAll
 followed line s rest = record { block = Then line s rest.block; loops = rest.loops }
 
 abbrev mutual
-  -- a statement of a line, where so many functions are in the source and so many arrays are known, behind these loops
+  -- lowers a statement, given the number of source functions, the mapping, the known arrays and the loops so far
   pub made_stmt : (functions : ℕ) → Moves → (arrays : ℕ) → List Loop → (line : ℕ) → source.Stmt → Made
   made_stmt n m arrays loops line (source.If e b) = around_one (If (moved_expr m e)) (made_block n m arrays loops b)
   made_stmt n m arrays loops line (source.IfElse e b c) =
@@ -197,13 +197,13 @@ abbrev mutual
   made_stmt n m arrays loops line (source.Region tag b) = around_one (Region tag.index) (made_block n m arrays loops b)
   made_stmt n m arrays loops line s = record { stmt = moved_alone m s; loops = loops }
 
-  -- a block
+  -- lowers a block
   pub made_block : (functions : ℕ) → Moves → (arrays : ℕ) → List Loop → source.Block → MadeAll
   made_block n m arrays loops source.End = record { block = End; loops = loops }
   made_block n m arrays loops (source.Then line s b) =
       let here = made_stmt n m arrays loops line s in
       followed line here.stmt (made_block n m (arrays_after arrays s) here.loops b)
 
--- the body of a function outside all loops, in which so many arrays are parameters
+-- lowers the body of a function outside of all loops; `arrays` is the number of its array parameters
 abbrev pub made_body : (functions arrays : ℕ) → List Loop → source.Block → MadeAll
 made_body n arrays loops b = made_block n nothing_moved arrays loops b

@@ -1,4 +1,4 @@
--- Where locals went, as the code has it.
+-- The abstraction of the mapping of locals.
 use Rattle.std.specs.Prelude.{List, map}
 use Rattle.cw_tree.specs.declared.resolved.Use as code_use
 use Rattle.cw_tree.specs.Resolved as source
@@ -6,11 +6,11 @@ use Rattle.cw_tree.specs.ResolvedView.{use_of}
 use Rattle.cw_loops.specs.declared.moves.Moves.{Moves}
 use Rattle.cw_loops.specs.Moved as spec
 
--- uses of the code as those of the definitions
+-- the abstraction of uses
 abbrev pub uses_of : List code_use.Use → List source.Use
 uses_of uses = map use_of uses
 
--- moves of the code as those of the definitions
+-- the abstraction of the mapping
 abbrev pub moves_view : Moves → spec.Moves
 moves_view m = record {
   ints_before = m.ints_before;

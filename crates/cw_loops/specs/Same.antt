@@ -1,4 +1,4 @@
--- Whether two lowered trees are the same: a test, since a `Core` can keep only that.
+-- A test whether two lowered trees are equal; a `Core` can hold only a test.
 use Rattle.std.specs.Prelude.{◌≡◌, ℕ, ◌==◌, ℤ, pos, negsuc, Bool, true, false, ◌&&◌, List, [], ◌∷◌, Option, Some, None}
 use Rattle.cw_model.specs.declared.syntax.CallKind.{CallKind}
 use Rattle.cw_model.specs.declared.syntax.CallKind.TheVariants.{Plain, Spawned}
@@ -13,7 +13,7 @@ use Rattle.cw_loops.specs.Slotted.{Then, Shared}
 use Rattle.cw_loops.specs.Moved.{Loop}
 use Rattle.cw_loops.specs.Lowers.{Bodies}
 
--- a number for each operator
+-- a distinct number for each operator
 abbrev pub number_of : Operator → ℕ
 number_of Equal = 0
 number_of Unequal = 1
@@ -27,31 +27,31 @@ number_of Times = 8
 number_of Divide = 9
 number_of Modulo = 10
 
--- the same kind of call
+-- equality of kinds of calls
 abbrev pub same_kind : CallKind → CallKind → Bool
 same_kind Plain Plain = true
 same_kind Spawned Spawned = true
 same_kind _ _ = false
 
--- the same number
+-- equality of numbers
 abbrev pub same_int : ℤ → ℤ → Bool
 same_int (pos n) (pos m) = n == m
 same_int (negsuc n) (negsuc m) = n == m
 same_int _ _ = false
 
--- the same slots
+-- equality of lists of slots
 abbrev pub same_slots : List ℕ → List ℕ → Bool
 same_slots [] [] = true
 same_slots (n ∷ ns) (m ∷ ms) = (n == m) && same_slots ns ms
 same_slots _ _ = false
 
--- the same target
+-- equality of targets
 abbrev pub same_target : Option ℕ → Option ℕ → Bool
 same_target None None = true
 same_target (Some n) (Some m) = n == m
 same_target _ _ = false
 
--- the same expression
+-- equality of expressions
 abbrev pub same_expr : Expr → Expr → Bool
 same_expr (Number n) (Number m) = same_int n m
 same_expr (Variable u) (Variable v) = u == v
@@ -62,27 +62,27 @@ same_expr (Not d) (Not e) = same_expr d e
 same_expr (Binary o c d) (Binary p e f) = (number_of o == number_of p) && (same_expr c e && same_expr d f)
 same_expr _ _ = false
 
--- the same argument
+-- equality of arguments
 abbrev pub same_argument : Argument → Argument → Bool
 same_argument (Int d) (Int e) = same_expr d e
 same_argument (Array u) (Array v) = u == v
 same_argument (Shared u) (Shared v) = u == v
 same_argument _ _ = false
 
--- the same arguments
+-- equality of lists of arguments
 abbrev pub same_arguments : List Argument → List Argument → Bool
 same_arguments [] [] = true
 same_arguments (d ∷ ds) (e ∷ es) = same_argument d e && same_arguments ds es
 same_arguments _ _ = false
 
--- the same value of a return
+-- equality of expressions of returns
 abbrev pub same_return : Option Expr → Option Expr → Bool
 same_return None None = true
 same_return (Some d) (Some e) = same_expr d e
 same_return _ _ = false
 
 abbrev mutual
-  -- the same statement
+  -- equality of statements
   pub same_stmt : Stmt → Stmt → Bool
   same_stmt (Declare u d) (Declare v e) = (u == v) && same_expr d e
   same_stmt (DeclareArray u d) (DeclareArray v e) = (u == v) && same_expr d e
@@ -105,34 +105,34 @@ abbrev mutual
   same_stmt (Return d) (Return e) = same_return d e
   same_stmt _ _ = false
 
-  -- the same block
+  -- equality of blocks
   pub same_block : Block → Block → Bool
   same_block End End = true
   same_block (Then l s b) (Then m t c) = (l == m) && (same_stmt s t && same_block b c)
   same_block _ _ = false
 
--- the same loop
+-- equality of loops
 abbrev pub same_loop : Loop → Loop → Bool
 same_loop l m =
     (l.line == m.line)
     && ((l.grain == m.grain) && ((l.captured == m.captured) && ((l.over == m.over) && same_block l.body m.body)))
 
--- the same loops
+-- equality of lists of loops
 abbrev pub same_loops : List Loop → List Loop → Bool
 same_loops [] [] = true
 same_loops (l ∷ ls) (m ∷ ms) = same_loop l m && same_loops ls ms
 same_loops _ _ = false
 
--- the same blocks
+-- equality of lists of blocks
 abbrev pub same_blocks : List Block → List Block → Bool
 same_blocks [] [] = true
 same_blocks (b ∷ bs) (c ∷ cs) = same_block b c && same_blocks bs cs
 same_blocks _ _ = false
 
--- the same bodies and loops
+-- equality of bodies and loops
 abbrev pub same_bodies : Bodies → Bodies → Bool
 same_bodies a b = same_blocks a.blocks b.blocks && same_loops a.loops b.loops
 
--- what the test holds of is equal
+-- trees that pass the test are equal
 abbrev pub SameTreesAreEqual : Type 0
 SameTreesAreEqual = (a b : Bodies) → same_bodies a b ≡ true → a ≡ b

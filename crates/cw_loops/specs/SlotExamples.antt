@@ -1,4 +1,4 @@
--- Worked examples: lowering by slot gives the lowered program, each name looked up.
+-- Worked examples: lowering by slot returns the lowered program with each name looked up.
 use Rattle.std.specs.Prelude.{◌≡◌, [], ◌∷◌, pos}
 use Rattle.cw_model.specs.Syntax.{Number, Variable, Program}
 use Rattle.cw_model.specs.ExamplePrograms as example
@@ -7,7 +7,7 @@ use Rattle.cw_loops.specs.Slotted.{Array, Shared, slotted_arguments, slotted_fun
 use Rattle.cw_loops.specs.Expanded.{lowered_by_slot}
 use Rattle.cw_loops.specs.Examples.{nested, readers, greatest_program}
 
--- a program is lowered by slot as by name
+-- lowering by slot and lowering by name agree on this program
 abbrev pub LowersBySlot : Program → Type 0
 LowersBySlot program = lowered_by_slot (resolved program) ≡ slotted_functions program
 
@@ -19,9 +19,9 @@ pub record SlotExamples : Type 0 where
   pub fill : LowersBySlot example.fill_program
   pub cut : LowersBySlot (example.cut_program 3)
   pub fib : LowersBySlot example.fib_program
-  -- a loop in a loop, over an array of the turn, with captured integers at both levels, a call and a sync
+  -- nested loops over an array of the iteration, with captured integers at both levels, a call and a sync
   pub inner : LowersBySlot (nested 2)
-  -- calls of a turn that only read one of its arrays
+  -- calls in an iteration that only read one of its arrays
   pub together : LowersBySlot readers
   pub given_and_read :
       slotted_arguments (record { ints = []; arrays = example.y ∷ example.z ∷ [] })

@@ -1,11 +1,12 @@
--- Programs whose loops are lowered, with a slot for each local and an index for each function, reducer and tag: no name
--- is left, and no `cilk_for`.
+-- Programs with lowered loops, with a slot for each local and an index for each function, reducer and tag: there are no
+-- names and no `cilk_for`.
 --
--- How a later stage uses this. `slotted_functions` says what a `Core` is seen as, by the law `core_is_lowered`: its
--- source, lowered, with each name looked up as names are in the source (`Resolved` of `cw_tree`). The functions
--- of the source come first, at their indices there, and then those of the loops, by number. A loop's function has the
--- slots 0 and 1 for the two ends of its range, then its captured integers, then its variable or its middle, then what a
--- turn declares; and of arrays first those of the loop, then what a turn declares, or the two parts of each.
+-- How later stages use this: by the law `core_is_lowered`, a `Core` represents `slotted_functions`: its source,
+-- lowered, with each name looked up as in the source (`Resolved` of `cw_tree`). The functions of the source come first,
+-- at their indices there, and then the functions of the loops, by number. The integer slots of a loop's function are 0
+-- and 1 for the two ends of its range, then its captured integers, then its variable or its middle, then the integers
+-- that an iteration declares. Its array slots are the arrays of the loop first, then the arrays that an iteration
+-- declares or the two parts of each array.
 use Rattle.std.specs.Prelude.{ℕ, suc, ℤ, Bool, List, [], ◌∷◌, length, drop, map, Option, option_map, if◌then◌else◌}
 use Rattle.cw_model.specs.declared.syntax.CallKind.{CallKind}
 use Rattle.cw_model.specs.declared.syntax.NameKind.{NameKind}
@@ -28,12 +29,12 @@ pub data Expr : Type 0 where
   Not : Expr → Expr
   Binary : Operator → Expr → Expr → Expr
 
--- what is given for a parameter
+-- an argument of a call
 pub data Argument : Type 0 where
   Int : Expr → Argument
-  -- an array that is given away
+  -- an array that the callee owns until the call returns
   Array : ℕ → Argument
-  -- an array that is only read
+  -- an array that the callee only reads
   Shared : ℕ → Argument
 
 mutual
@@ -78,11 +79,11 @@ slotted_expr locals (model.Negative e) = Negative (slotted_expr locals e)
 slotted_expr locals (model.Not e) = Not (slotted_expr locals e)
 slotted_expr locals (model.Binary operator d e) = Binary operator (slotted_expr locals d) (slotted_expr locals e)
 
--- an array in the place of the first of these parameters
+-- an array as the argument for the first of these parameters
 abbrev pub slot_to : List Param → ℕ → Argument
 slot_to ps slot = if is_reader ps then Shared slot else Array slot
 
--- a name alone is an array where an array is known by it
+-- a name as an argument: an array if an array with this name is known, otherwise an integer
 abbrev pub slotted_name : Locals → List Param → Name → Argument
 slotted_name locals ps x =
     if is_among x locals.arrays then slot_to ps (slot_of x locals.arrays) else Int (Variable (slot_of x locals.ints))
@@ -92,13 +93,13 @@ abbrev pub slotted_argument : Locals → List Param → model.Expr → Argument
 slotted_argument locals ps (model.Variable x) = slotted_name locals ps x
 slotted_argument locals ps e = Int (slotted_expr locals e)
 
--- arguments for these parameters, in their order
+-- the arguments for these parameters, in order
 abbrev pub slotted_arguments : Locals → List Param → List model.Expr → List Argument
 slotted_arguments locals ps [] = []
 slotted_arguments locals ps (e ∷ es) = slotted_argument locals ps e ∷ slotted_arguments locals (drop 1 ps) es
 
 abbrev mutual
-  -- a statement with each name looked up, where these locals are known
+  -- a statement with each name looked up among these locals
   pub slotted_stmt : Lists → Locals → model.Stmt → Stmt
   slotted_stmt lists locals (model.Declare x e) = Declare (length locals.ints) (slotted_expr locals e)
   slotted_stmt lists locals (model.DeclareArray a e) = DeclareArray (length locals.arrays) (slotted_expr locals e)
@@ -119,7 +120,7 @@ abbrev mutual
   slotted_stmt lists locals (model.IfElse e b c) =
       IfElse (slotted_expr locals e) (slotted_block lists locals b) (slotted_block lists locals c)
   slotted_stmt lists locals (model.While e b) = While (slotted_expr locals e) (slotted_block lists locals b)
-  -- no lowered program has one
+  -- no lowered program contains this statement
   slotted_stmt lists locals (model.For x y z from to grain over b) = Sync
   slotted_stmt lists locals (model.Scope b) = Scope (slotted_block lists locals b)
   slotted_stmt lists locals (model.Cut a e l r b) =
@@ -129,7 +130,7 @@ abbrev mutual
   slotted_stmt lists locals (model.Print e) = Print (slotted_expr locals e)
   slotted_stmt lists locals (model.Return e) = Return (option_map (slotted_expr locals) e)
 
-  -- a block with each name looked up; its own names end with it
+  -- a block with each name looked up; the scope of its names ends with it
   pub slotted_block : Lists → Locals → model.Block → Block
   slotted_block lists locals model.End = End
   slotted_block lists locals (model.Then line s b) =
@@ -143,7 +144,7 @@ slotted_function lists f = record {
   body = slotted_block lists (locals_of f.params) f.body;
 }
 
--- what a program lists where its loops are lowered: tags are in the order of the source
+-- the names that a program with lowered loops lists; the tags are in the order of the source
 abbrev pub lowered_lists : Program → Lists
 lowered_lists program = record {
   callees = (lowered program).functions;

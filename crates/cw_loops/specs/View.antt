@@ -1,4 +1,4 @@
--- The lowered program that a tree of the code stands for.
+-- The abstraction functions from lowered trees to lowered programs.
 use Rattle.std.specs.Prelude.{ℕ, List, [], ◌∷◌, map, option_map}
 use Rattle.cw_loops.specs.declared.tree.Expr.{Expr}
 use Rattle.cw_loops.specs.declared.tree.Expr.TheVariants.{Number, Variable, Element', Length, Negative', Not', Binary'}
@@ -11,7 +11,7 @@ use Rattle.cw_loops.specs.declared.tree.Loop.{Loop}
 use Rattle.cw_loops.specs.Slotted as spec
 use Rattle.cw_loops.specs.Moved as moved
 
--- an expression of the code as one of the definitions
+-- the abstraction of an expression
 abbrev pub expr_of : Expr → spec.Expr
 expr_of (Number n) = spec.Number n
 expr_of (Variable u) = spec.Variable u
@@ -21,18 +21,18 @@ expr_of (Negative' p e) = spec.Negative (expr_of e)
 expr_of (Not' p e) = spec.Not (expr_of e)
 expr_of (Binary' o p d q e) = spec.Binary o (expr_of d) (expr_of e)
 
--- an argument of the code as one of the definitions
+-- the abstraction of an argument
 abbrev pub argument_of : Argument → spec.Argument
 argument_of (Int e) = spec.Int (expr_of e)
 argument_of (Array u) = spec.Array u
 argument_of (Shared u) = spec.Shared u
 
--- statements in order, each beside its line
+-- statements in order, each with its line, as a block
 abbrev pub block_from : List (ℕ × spec.Stmt) → spec.Block
 block_from [] = spec.End
 block_from (l ∷ ls) = spec.Then l.0 l.1 (block_from ls)
 
--- one level, with each statement inside already seen
+-- the abstraction of one level of a statement, given the abstractions of its inner statements
 abbrev pub stmt_step : Stmt-F spec.Stmt (ℕ × spec.Stmt) → spec.Stmt
 stmt_step (Stmt-F.Declare u e) = spec.Declare u (expr_of e)
 stmt_step (Stmt-F.DeclareArray u e) = spec.DeclareArray u (expr_of e)
@@ -54,23 +54,23 @@ stmt_step (Stmt-F.Region tag b) = spec.Region tag (block_from b.items)
 stmt_step (Stmt-F.Print e) = spec.Print (expr_of e)
 stmt_step (Stmt-F.Return e) = spec.Return (option_map expr_of e)
 
--- a statement that is already seen, beside its line
+-- a line, given the abstraction of its statement
 abbrev pub line_step : Line-F spec.Stmt (ℕ × spec.Stmt) → ℕ × spec.Stmt
 line_step l = (l.line, l.stmt)
 
--- a statement of the code as one of the definitions
+-- the abstraction of a statement
 abbrev pub stmt_of : Stmt → spec.Stmt
 stmt_of = fold-Stmt spec.Stmt (ℕ × spec.Stmt) stmt_step line_step
 
--- a statement beside its line
+-- the abstraction of a statement with its line
 abbrev pub line_of : Line → ℕ × spec.Stmt
 line_of = fold-Line spec.Stmt (ℕ × spec.Stmt) stmt_step line_step
 
--- lines of the code as a block of the definitions
+-- the abstraction of lines: a block
 abbrev pub block_of : List Line → spec.Block
 block_of ls = block_from (map line_of ls)
 
--- a loop of the code as one of the definitions
+-- the abstraction of a loop
 abbrev pub loop_of : Loop → moved.Loop
 loop_of l =
     record { line = l.line; grain = l.grain; captured = l.captured; over = l.over; body = block_of l.body.items }

@@ -1,4 +1,4 @@
--- Lemmas on these definitions, which proofs of this crate and of crates above cite.
+-- Lemmas on these definitions; the proofs of this crate and of the crates above cite them.
 pub mod Apart
 pub mod Naming
 pub mod Knowing

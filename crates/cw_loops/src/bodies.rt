@@ -13,7 +13,8 @@ use crate::tree::Loop;
 use cw_tree::resolved::{Cut, Head, Line, Stmt};
 use std::alloc::{AllocError, Global};
 
-/// Where a statement stands: how many functions are in the source, where its locals went, and how many arrays are known.
+/// Holds the context of a statement: the number of functions in the source, the new slots of its locals, and the
+/// number of known arrays.
 #[derive(Clone, Copy)]
 pub(crate) struct Here<'a> {
     pub functions: u32,
@@ -21,7 +22,7 @@ pub(crate) struct Here<'a> {
     pub arrays: u32,
 }
 
-// How many arrays are known after a statement.
+// Returns the number of known arrays after a statement.
 fn arrays_after(arrays: u32, stmt: &Stmt) -> u32
     ensures { result ≡ spec.arrays_after arrays (source.stmt_of stmt.now) }
 {
@@ -31,7 +32,11 @@ fn arrays_after(arrays: u32, stmt: &Stmt) -> u32
     }
 }
 
-/// The statements of a block, and the loops in it behind those so far.
+/// Lowers the statements of a block, and appends its loops.
+///
+/// # Errors
+///
+/// Returns an error if memory runs out.
 #[cycle(bodies)]
 pub(crate) fn block(
     alloc: Global,
@@ -60,7 +65,7 @@ pub(crate) fn block(
     Ok(made)
 }
 
-// A statement of a line, and the loops in it behind those so far.
+// Lowers a statement, and appends its loops.
 #[cycle(bodies)]
 fn statement(
     alloc: Global,
@@ -111,7 +116,7 @@ fn statement(
     }
 }
 
-// A loop of a line: its beginning, and its function behind those of the loops in its body.
+// Lowers a loop: returns the call that begins it, and appends the loops of its body and then its own function.
 #[cycle(bodies)]
 fn lowered(
     alloc: Global,
@@ -142,7 +147,7 @@ fn lowered(
     Ok(begun)
 }
 
-// A cut, and the block in which its two parts are known.
+// Lowers a cut with the block in which its two parts are known.
 #[cycle(bodies)]
 fn in_cut(
     alloc: Global,

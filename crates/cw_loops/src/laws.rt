@@ -1,4 +1,4 @@
-//! The laws of lowering: each function has one as its contract, and does nothing.
+//! Laws of lowering. Each law is the contract of a function that does nothing.
 
 ghost use Rattle.cw_loops.specs.Examples.{LoweredExamples};
 ghost use Rattle.cw_loops.specs.SlotExamples.{SlotExamples};
@@ -11,74 +11,79 @@ ghost use Rattle.cw_loops.specs.LoweringLaws.{DerivedIsSourceLike, LoweredAnswer
 use crate::program::Core;
 use cw_tree::laws::resolved_is_fitting;
 
-/// Worked examples, lowered: each answer is that of the source.
+/// States worked examples: each lowered program has the answer of its source.
 pub fn lowered_examples()
     ensures { LoweredExamples }
 {}
 
-/// A program whose loops are lowered answers as the program, on as many arguments of 64 bits as its main has parameters,
-/// within each limit: value, printed lines, totals, tree, trap with its line, and over the limit.
+/// States that lowering the loops of a program keeps its answer, for a list of 64-bit arguments as long as the
+/// parameter list of its main, and within each limit: value, printed lines, totals, tree, trap with its line, and
+/// over the limit.
 pub fn lowered_answers_as_its_source()
     ensures { LoweredAnswersAsItsSource }
 {}
 
-/// The static size counts the lowered text: that of a program is the size of the program with its loops lowered.
+/// States that the static size of a program is the size of the program with its loops lowered.
 pub fn lowered_is_as_long()
     ensures { LoweredIsAsLong }
 {}
 
-/// No `cilk_for` is left, and there are as many call statements as in the source.
+/// States that lowering leaves no `cilk_for`, and that it keeps the number of call statements.
 pub fn lowered_has_no_loop()
     ensures no_loop { LoweredHasNoLoop }
     ensures calls { LoweredHasItsCalls }
 {}
 
-/// A derived program has the names and the numbers of a source: no name begins with `#`, each number fits 64 bits.
+/// States that a derived program has the names and the numbers of a source: no name begins with `#`, and each number
+/// fits in 64 bits.
 pub fn derived_is_source_like()
     ensures { DerivedIsSourceLike }
 {}
 
-/// Every program of a source that types and ownership accept can be lowered.
+/// States that every program of a source that types and ownership accept can be lowered.
 pub fn owned_is_lowerable()
     ensures { OwnedIsLowerable }
 {}
 
-/// Such a program, lowered, answers as it does by its own text, on as many arguments of 64 bits as its main takes and
-/// within each limit: value, printed lines, totals, tree, trap with its line, and over the limit. It is as long as its
-/// static size says. Of a program that a text derives nothing is asked but that types and ownership accept it.
+/// States that lowering keeps the answers of a program of a source that types and ownership accept, for a list of
+/// 64-bit arguments as long as the parameter list of its main, and within each limit: value, printed lines, totals,
+/// tree, trap with its line, and over the limit. The lowered program has the static size of the program. A program
+/// that is derived from a text only needs to be accepted by types and ownership.
 pub fn lowering_keeps_answers()
     ensures answers { LoweringKeepsAnswers }
     ensures derived { LoweringKeepsDerivedAnswers }
     ensures size { LoweringKeepsSize }
 {}
 
-/// Worked examples, lowered by slot: each tree is the lowered program with each name looked up.
+/// States worked examples of lowering by slot: each tree is the lowered program with each name looked up.
 pub fn slot_examples()
     ensures { SlotExamples }
 {}
 
-/// What the test of lowered trees holds of is equal: a core's tree is what lowering makes of its source.
+/// States that trees that pass the equality test for lowered trees are equal: the tree of a core is the result of
+/// lowering its source.
 pub fn same_trees_are_equal()
     ensures { SameTreesAreEqual }
 {}
 
-/// Of a program of a source that types, ownership and limits accept, lowering by slot makes the lowered program with each
-/// name looked up.
+/// States that lowering by slot returns the lowered program with each name looked up, for a program of a source that
+/// types, ownership and limits accept.
 pub fn lowering_is_by_slot()
     ensures { LoweringIsBySlot }
 {
     resolved_is_fitting();
 }
 
-/// Every core is seen as the lowered program of its source, each name looked up, by its type alone.
+/// States that every core represents the lowered program of its source with each name looked up; the type of the core
+/// implies this.
 pub fn core_is_lowered(core: &Core)
     ensures { IsLowered core.now.source.typed.tree core.now.tree }
 {
     resolved_is_fitting();
 }
 
-/// A core has a body for each function of its source, at most 1,024 functions and 4,096 loops; a leaf of a loop has at most
-/// 1,000,000 turns, and a loop takes along at most 256 integers and 256 arrays.
+/// States that a core has a body for each function of its source, at most 1,024 functions and 4,096 loops, that a
+/// leaf of a loop has at most 1,000,000 iterations, and that a loop captures at most 256 integers and 256 arrays.
 pub fn core_is_small(core: &Core)
     ensures { IsSmallTree core.now.source.typed.tree core.now.tree }
 {}

@@ -1,4 +1,4 @@
-//! The limit on loops.
+//! The limit on the number of loops.
 
 ghost use Rattle.std.specs.Prelude.{◌≡◌, ◌∷◌, [], None};
 ghost use Rattle.cw_model.specs.Lines.{lowest};
@@ -11,7 +11,7 @@ use cw_model::limits::MOST_LOOPS;
 use cw_text::LeastLine;
 use cw_tree::resolved::{Function, Line, Stmt, Tree};
 
-/// The least line of the loops past the limit: by place, the 4,097th and those behind it.
+/// Returns the least line of the loops past the limit: the 4,097th loop by place and the loops after it.
 pub(crate) fn limits(tree: &Tree) -> LeastLine
     ensures { result.line ≡ lowest None (loop_faults (program_of tree.now)) }
 {
@@ -20,7 +20,7 @@ pub(crate) fn limits(tree: &Tree) -> LeastLine
     least
 }
 
-// Notes the lines of the loops in functions that pass the limit.
+// Records the lines of the loops of these functions that exceed the limit.
 fn functions_beyond(functions: &[Function], least: &mut LeastLine)
     ensures { Noted (loops_past functions.now) least.old least.new }
 {
@@ -30,7 +30,7 @@ fn functions_beyond(functions: &[Function], least: &mut LeastLine)
     }
 }
 
-// What room is left after the loops in statements; notes the line of what has no room.
+// Records the lines of the loops of these statements that have no room, and returns the room that is left after them.
 #[cycle(counting)]
 fn block_beyond(room: usize, lines: &[Line], least: &mut LeastLine) -> usize
     ensures { TakesRoom room result (lines_in_block lines.now) least.old least.new }
@@ -42,7 +42,7 @@ fn block_beyond(room: usize, lines: &[Line], least: &mut LeastLine) -> usize
     left
 }
 
-// The same of a statement of a line.
+// Records the lines of the loops of a statement that have no room, and returns the room that is left after them.
 #[cycle(counting)]
 fn statement_beyond(room: usize, line: u32, stmt: &Stmt, least: &mut LeastLine) -> usize
     ensures { TakesRoom room result (lines_in line stmt.now) least.old least.new }

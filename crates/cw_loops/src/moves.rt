@@ -1,4 +1,4 @@
-//! Where locals of a function of the source are in the function that its text goes to.
+//! The slots of locals of a source function in the function that executes them after lowering.
 
 ghost use Rattle.std.specs.Prelude.{◌≡◌, ◌+◌, [], map, length};
 ghost use Rattle.cw_tree.specs.Resolved.{is_slot_in};
@@ -8,29 +8,29 @@ ghost use Rattle.cw_loops.specs.Moving.{moves_view, uses_of};
 
 use cw_tree::resolved::{Head, Use};
 
-/// The greatest slot or index that a tree can tell.
+/// The maximum slot or index that a tree can hold.
 const MOST_SLOT: usize = 4_294_967_295;
 
-/// Where the locals of a function of the source went: outside loops each keeps its slot. In the body of a loop, those
-/// from before its head that it takes along have the first slots, integers behind the two ends of its range, and those of
-/// the body have the slots after them.
+/// Maps the locals of a source function to their new slots. Outside of loops each local keeps its slot. In the body
+/// of a loop, the captured locals have the first slots, with the integers after the two ends of the range, and the
+/// locals of the body have the slots after them.
 #[derive(Clone, Copy)]
 pub(crate) struct Moves<'a> {
-    /// How many integers are known before the loop's head.
+    /// The number of integers that are known before the loop's head.
     pub ints_before: u32,
-    /// The integers that the loop takes along.
+    /// The integers that the loop captures.
     pub captured: &'a [Use],
-    /// The new slot of the first integer behind them.
+    /// The new slot of the first integer of the body.
     pub first_int: u32,
-    /// How many arrays are known before the loop's head.
+    /// The number of arrays that are known before the loop's head.
     pub arrays_before: u32,
     /// The arrays of the loop.
     pub over: &'a [Use],
-    /// The new slot of the first array behind them.
+    /// The new slot of the first array of the body.
     pub first_array: u32,
 }
 
-/// Outside all loops.
+/// Returns the mapping outside of all loops.
 pub(crate) fn nothing_moved<'a>() -> Moves<'a>
     ensures { moves_view result ≡ spec.nothing_moved }
 {
@@ -44,7 +44,7 @@ pub(crate) fn nothing_moved<'a>() -> Moves<'a>
     }
 }
 
-/// In the body of a loop, before whose head so many arrays are known.
+/// Returns the mapping for the body of a loop; `arrays` is the number of arrays that are known before its head.
 pub(crate) fn moves_of<'a>(head: &'a Head, arrays: u32) -> Moves<'a>
     ensures { moves_view result ≡ spec.moves_of (head_of head.now) arrays }
 {
@@ -58,7 +58,7 @@ pub(crate) fn moves_of<'a>(head: &'a Head, arrays: u32) -> Moves<'a>
     }
 }
 
-/// A count as a slot.
+/// Returns a count as a slot, at most the maximum slot.
 pub(crate) fn slot(n: usize) -> u32
     ensures { result ≡ spec.slot n }
 {
@@ -69,7 +69,7 @@ pub(crate) fn slot(n: usize) -> u32
     }
 }
 
-// The first place of a slot among uses, counted from a number on.
+// Returns the first position of a slot among uses, counted from `first`.
 fn place_from(first: u32, slot: u32, uses: &[Use]) -> u32
     ensures { result ≡ spec.place_from first slot (spec.slots_of (uses_of uses.now)) }
 {
@@ -83,7 +83,7 @@ fn place_from(first: u32, slot: u32, uses: &[Use]) -> u32
     place
 }
 
-// Whether one of the uses has the slot.
+// Reports whether one of the uses has this slot.
 fn has_slot(uses: &[Use], slot: u32) -> bool
     ensures { result ≡ is_slot_in slot (spec.slots_of (uses_of uses.now)) }
 {
@@ -96,7 +96,7 @@ fn has_slot(uses: &[Use], slot: u32) -> bool
 }
 
 impl<'a> Moves<'a> {
-    /// The slot of an integer, where it went.
+    /// Returns the new slot of an integer.
     pub(crate) fn int(self, slot: u32) -> u32
         ensures { result ≡ spec.moved_int (moves_view self.entry) slot }
     {
@@ -107,7 +107,7 @@ impl<'a> Moves<'a> {
         }
     }
 
-    /// The slot of an array, where it went.
+    /// Returns the new slot of an array.
     pub(crate) fn array(self, slot: u32) -> u32
         ensures { result ≡ spec.moved_array (moves_view self.entry) slot }
     {
@@ -118,7 +118,7 @@ impl<'a> Moves<'a> {
         }
     }
 
-    /// Whether an array is one of the loop.
+    /// Reports whether an array is an array of the loop.
     pub(crate) fn is_over(self, slot: u32) -> bool
         ensures { result ≡ spec.is_over (moves_view self.entry) slot }
     {

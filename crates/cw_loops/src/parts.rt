@@ -1,4 +1,4 @@
-//! What stands in a statement beside its blocks, with each local where it went.
+//! Lowers the parts of a statement outside of its blocks; each local has its new slot.
 
 ghost use Rattle.std.specs.Prelude.{◌≡◌, IfOk};
 ghost use Rattle.cw_loops.specs.Made as moved;
@@ -11,7 +11,7 @@ use cw_model::syntax::Operator;
 use cw_tree::resolved::{Argument, Call, Expr, Head, Stmt, Use};
 use std::alloc::{AllocError, Global};
 
-// An index into an array, counted from the lower end of the range where the array is one of the loop.
+// Returns an index into an array; for an array of the loop the index counts from the lower end of the range.
 fn from_low(alloc: Global, is_over: bool, e: tree::Expr) -> Result<tree::Expr, AllocError>
     ensures { IfOk result (λ made. view.expr_of made ≡ spec.from_low is_over (view.expr_of e)) }
 {
@@ -23,7 +23,11 @@ fn from_low(alloc: Global, is_over: bool, e: tree::Expr) -> Result<tree::Expr, A
     Ok(tree::Expr::Binary(Operator::Minus, index, low))
 }
 
-/// An expression.
+/// Lowers an expression.
+///
+/// # Errors
+///
+/// Returns an error if memory runs out.
 #[cycle(expressions)]
 pub(crate) fn expression(alloc: Global, moves: Moves, e: &Expr) -> Result<tree::Expr, AllocError>
     ensures { IfOk result (moved.IsExpr moves.entry e.now) }
@@ -53,7 +57,7 @@ pub(crate) fn expression(alloc: Global, moves: Moves, e: &Expr) -> Result<tree::
     }
 }
 
-// Such an expression in a box.
+// Lowers an expression into a box.
 #[cycle(expressions)]
 fn boxed(alloc: Global, moves: Moves, e: &Expr) -> Result<Box<tree::Expr>, AllocError>
     ensures { IfOk result (λ made. moved.IsExpr moves.entry e.now made.value) }
@@ -63,7 +67,7 @@ fn boxed(alloc: Global, moves: Moves, e: &Expr) -> Result<Box<tree::Expr>, Alloc
     Ok(made)
 }
 
-// An argument.
+// Lowers an argument.
 fn argument(alloc: Global, moves: Moves, e: &Argument) -> Result<tree::Argument, AllocError>
     ensures { IfOk result (moved.IsArgument moves.entry e.now) }
 {
@@ -77,7 +81,7 @@ fn argument(alloc: Global, moves: Moves, e: &Argument) -> Result<tree::Argument,
     }
 }
 
-// Arguments in their order.
+// Lowers arguments in order.
 fn arguments(
     alloc: Global,
     moves: Moves,
@@ -93,7 +97,7 @@ fn arguments(
     Ok(made)
 }
 
-// The integer that a result goes to.
+// Returns the new slot of the integer that receives a result.
 fn target(moves: Moves, target: &Option<Use>) -> Option<u32>
     ensures { moved.IsTarget moves.entry target.now result }
 {
@@ -103,7 +107,7 @@ fn target(moves: Moves, target: &Option<Use>) -> Option<u32>
     }
 }
 
-// What is returned.
+// Lowers the expression of a return.
 fn returned(alloc: Global, moves: Moves, e: &Option<Expr>) -> Result<Option<tree::Expr>, AllocError>
     ensures { IfOk result (moved.IsReturned moves.entry e.now) }
 {
@@ -116,7 +120,7 @@ fn returned(alloc: Global, moves: Moves, e: &Option<Expr>) -> Result<Option<tree
     }
 }
 
-// The integers that a loop takes along, where they are as it begins.
+// Returns the slots of the integers that a loop captures, at its beginning.
 fn ints(alloc: Global, moves: Moves, uses: &[Use]) -> Result<Vec<u32>, AllocError>
     ensures { IfOk result (λ made. moved.AreInts moves.entry uses.now made.items) }
 {
@@ -127,7 +131,7 @@ fn ints(alloc: Global, moves: Moves, uses: &[Use]) -> Result<Vec<u32>, AllocErro
     Ok(made)
 }
 
-// The same of its arrays.
+// Returns the slots of the arrays of a loop, at its beginning.
 fn arrays(alloc: Global, moves: Moves, uses: &[Use]) -> Result<Vec<u32>, AllocError>
     ensures { IfOk result (λ made. moved.AreArrays moves.entry uses.now made.items) }
 {
@@ -138,7 +142,11 @@ fn arrays(alloc: Global, moves: Moves, uses: &[Use]) -> Result<Vec<u32>, AllocEr
     Ok(made)
 }
 
-/// The beginning of a loop, whose function has this index.
+/// Lowers the head of a loop to the call that begins it; `callee` is the index of the loop's function.
+///
+/// # Errors
+///
+/// Returns an error if memory runs out.
 pub(crate) fn beginning(
     alloc: Global,
     moves: Moves,
@@ -161,7 +169,7 @@ pub(crate) fn beginning(
     Ok(tree::Stmt::Begin(Box::new(alloc, begun)?))
 }
 
-// A call statement.
+// Lowers a call statement.
 fn call(alloc: Global, moves: Moves, c: &Call) -> Result<tree::Stmt, AllocError>
     ensures { IfOk result (moved.IsCall moves.entry c.now) }
 {
@@ -177,7 +185,11 @@ fn call(alloc: Global, moves: Moves, c: &Call) -> Result<tree::Stmt, AllocError>
     Ok(tree::Stmt::Call(made))
 }
 
-/// A statement without blocks.
+/// Lowers a statement without inner blocks.
+///
+/// # Errors
+///
+/// Returns an error if memory runs out.
 pub(crate) fn alone(alloc: Global, moves: Moves, stmt: &Stmt) -> Result<tree::Stmt, AllocError>
     ensures { IfOk result (moved.IsAlone moves.entry stmt.now) }
 {

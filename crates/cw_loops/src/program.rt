@@ -1,4 +1,4 @@
-//! Programs whose loops are lowered.
+//! Programs with lowered loops.
 
 ghost use Rattle.std.specs.Prelude.{◌≡◌, []};
 ghost use Rattle.cw_model.specs.Sizes.{loop_faults};
@@ -8,14 +8,14 @@ ghost use Rattle.cw_loops.specs.Seen.{IsMadeOf};
 use crate::tree::Tree;
 use cw_own::Owned;
 
-/// A program that types and ownership accept, as its source has it and with its loops lowered. Sites, reducers and tags
-/// are told by the source: there they stand by place.
+/// Holds a program that types and ownership accept, with the tree of its source and with its loops lowered. The
+/// source lists sites, reducers and tags by their positions.
 #[derive(Drop)]
 pub struct Core {
     pub source: Owned,
     pub tree: Tree,
-    // The tree is what lowering makes of the source, in which each slot is right.
+    // The tree is the result of lowering the source, in which each slot is correct.
     pub ghost lowered: { IsMadeOf source.typed.tree tree },
-    // The source has no more than 4,096 loops.
+    // The source has at most 4,096 loops.
     pub ghost few: { loop_faults (program_of source.typed.tree) ≡ [] },
 }

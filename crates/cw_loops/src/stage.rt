@@ -1,4 +1,4 @@
-//! Lowering of a whole program.
+//! The lowering of a whole program.
 
 ghost use Rattle.std.specs.Prelude.{◌≡◌, map, IfOk, MatchResult};
 ghost use Rattle.cw_tree.specs.ResolvedView.{param_of, program_of};
@@ -19,13 +19,15 @@ use cw_tree::laws::resolved_is_fitting;
 use cw_tree::resolved::{Function, Param};
 use std::alloc::{AllocError, Global};
 
-/// The program with each `cilk_for` lowered to a function that halves its range. The functions that it is seen as are
-/// those of the `lowered` program, each local by its slot and each function by its index: those of the source first, then
-/// those of the loops, each behind those of the loops in its body. So it answers as the source, by the law
-/// `lowering_keeps_answers`. It keeps its source.
+/// Lowers each `cilk_for` of the program to a function that halves its range. The result represents the functions of
+/// the `lowered` program, with a slot for each local and an index for each function: the functions of the source
+/// first, then the functions of the loops, in which inner loops precede outer ones. So it has the answers of the
+/// source, by the law `lowering_keeps_answers`. It keeps its source.
 ///
-/// Answers `Size` exactly where the program has more than 4,096 loops, at the line of the 4,097th by place, before
-/// anything is lowered, and `Memory` where memory runs out. The program is let go then.
+/// # Errors
+///
+/// Returns `Size` exactly if the program has more than 4,096 loops, at the line of the 4,097th by place, before it
+/// lowers anything, and `Memory` if memory runs out. Drops the program in each of these cases.
 pub fn lower(alloc: Global, owned: Owned) -> Result<Core, Fault>
     ensures { MatchResult result (IsCoreOf owned) (WhyNotLowered (program_of owned.typed.tree)) }
 {
@@ -43,7 +45,7 @@ pub fn lower(alloc: Global, owned: Owned) -> Result<Core, Fault>
     }
 }
 
-// The bodies of functions, and the loops in them.
+// Lowers the bodies of functions and the loops in them.
 fn functions(alloc: Global, functions: &[Function]) -> Result<Tree, AllocError>
     ensures { IfOk result (AreBodies functions.now) }
 {
@@ -62,7 +64,7 @@ fn functions(alloc: Global, functions: &[Function]) -> Result<Tree, AllocError>
     Ok(Tree { bodies, loops })
 }
 
-// How many of the parameters are arrays.
+// Returns the number of parameters that are arrays.
 fn arrays_taken(params: &[Param]) -> u32
     ensures { result ≡ arrays_from 0 (map param_of params.now) }
 {

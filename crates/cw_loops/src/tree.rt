@@ -1,85 +1,86 @@
-//! Programs whose loops are lowered: each local is a slot, each function, reducer and tag an index, and no `cilk_for` is
-//! left.
+//! Programs with lowered loops: each local is a slot, each function, reducer and tag is an index, and there is no
+//! `cilk_for`.
 //!
-//! Integers and arrays of a function have slots of their own, from 0. An index of a function counts those of the source
-//! first, in their order there, and then those of the loops; indices of reducers and tags are those of the source.
+//! The integers and the arrays of a function have separate slots, from 0. The indices of functions count the
+//! functions of the source first, in order, and then the functions of the loops; reducers and tags have the indices
+//! of the source.
 
 use cw_model::syntax::{CallKind, Operator, Reduction};
 
-/// An expression.
+/// Represents an expression.
 #[derive(Drop)]
 pub enum Expr {
     /// A number, from 0 to `i64::MAX`.
     Number(i64),
     /// The integer in a slot.
     Variable(u32),
-    /// An element of the array in a slot, by its index.
+    /// An element of the array in a slot: the slot and the index.
     Element(u32, Box<Expr>),
     /// The length of the array in a slot.
     Length(u32),
-    /// An operand with its sign turned.
+    /// The negation of an operand.
     Negative(Box<Expr>),
-    /// 1 for an operand of 0, and 0 for any other.
+    /// 1 if the operand is 0, otherwise 0.
     Not(Box<Expr>),
-    /// An operator, with its left and its right operand.
+    /// An operator with its left and its right operand.
     Binary(Operator, Box<Expr>, Box<Expr>),
 }
 
-/// What is given for a parameter.
+/// Represents an argument of a call.
 #[derive(Drop)]
 pub enum Argument {
     /// The value of an expression.
     Int(Expr),
-    /// The array in a slot itself, which is given away.
+    /// The array in a slot, which the callee owns until the call returns.
     Array(u32),
-    /// The array in a slot, which is only read.
+    /// The array in a slot, which the callee only reads.
     Shared(u32),
 }
 
-/// A call statement.
+/// Represents a call statement.
 #[derive(Drop)]
 pub struct Call {
     /// Whether the call is spawned.
     pub kind: CallKind,
-    /// The number of the call statement among all of the source, from 1.
+    /// The number of the call statement in the source, from 1.
     pub site: u32,
-    /// The slot of the integer that takes what the call gives.
+    /// The slot of the integer that receives the result of the call.
     pub target: Option<u32>,
     /// The index of the function.
     pub callee: u32,
-    /// The arguments in their order.
+    /// The arguments in order.
     pub arguments: Vec<Argument>,
 }
 
-/// The first call of a loop's function.
+/// Represents the first call of a loop's function.
 #[derive(Drop)]
 pub struct Begin {
     /// The index of the function.
     pub callee: u32,
     /// The first value of the loop's variable.
     pub from: Expr,
-    /// The upper bound, which the variable does not reach.
+    /// The exclusive upper bound of the variable.
     pub to: Expr,
-    /// The slots of the integers that the loop takes along.
+    /// The slots of the integers that the loop captures.
     pub captured: Vec<u32>,
-    /// The slots of the loop's arrays, each of which the function gets the range's slice of.
+    /// The slots of the loop's arrays; the function receives the slice of each array for the range.
     pub over: Vec<u32>,
 }
 
-/// Where an array is cut, and the slots of its two parts.
+/// Represents a cut of an array, with the slots of its two parts.
 #[derive(Drop)]
 pub struct Cut {
     /// The slot of the array that is cut.
     pub array: u32,
-    /// How many elements the left part has.
+    /// The number of elements of the left part.
     pub at: Expr,
     /// The part before the cut.
     pub left: u32,
-    /// The part behind it.
+    /// The part after the cut.
     pub right: u32,
 }
 
-/// A statement, with the line of its first token.
+/// Represents a statement with the line of its first token.
 #[cycle(stmt)]
 #[derive(Drop)]
 pub struct Line {
@@ -87,62 +88,63 @@ pub struct Line {
     pub stmt: Stmt,
 }
 
-/// A statement.
+/// Represents a statement.
 #[cycle(stmt)]
 #[derive(Drop)]
 pub enum Stmt {
-    /// A new integer and its first value.
+    /// Declares an integer with its first value.
     Declare(u32, Expr),
-    /// A new array and its length.
+    /// Declares an array with its length.
     DeclareArray(u32, Expr),
-    /// An integer and its new value.
+    /// Assigns a value to an integer.
     Assign(u32, Expr),
-    /// An array, an index, and the new value of the element there.
+    /// Assigns a value to the element of an array at an index.
     AssignElement(u32, Expr, Expr),
-    /// How a reducer reduces, the reducer, and what it is told.
+    /// Updates a reducer of this kind with a value.
     Reduce(Reduction, u32, Expr),
     /// A call, plain or spawned.
     Call(Box<Call>),
     /// The beginning of a loop.
     Begin(Box<Begin>),
-    /// A join of all that the innermost sync block has spawned.
+    /// Joins all calls that the innermost sync block has spawned.
     Sync,
-    /// A condition, and what is done where it is not 0.
+    /// Executes the block if the condition is not 0.
     If(Expr, Vec<Line>),
-    /// A condition, what is done where it is not 0, and what is done where it is.
+    /// Executes the first block if the condition is not 0, otherwise the second block.
     IfElse(Expr, Vec<Line>, Box<Vec<Line>>),
-    /// A condition, and what is done again and again while it is not 0.
+    /// Executes the block as long as the condition is not 0.
     While(Expr, Vec<Line>),
-    /// A block that joins what it has spawned.
+    /// A block that joins all calls that it has spawned.
     Scope(Vec<Line>),
-    /// A cut, and the block in which the two parts have their slots.
+    /// A cut, with the block in which the two parts have their slots.
     Cut(Box<Cut>, Vec<Line>),
-    /// A tag, and what is counted under it.
+    /// A region: its tag, and the block whose cost is counted for the tag.
     Region(u32, Vec<Line>),
-    /// What is printed.
+    /// Prints a value.
     Print(Expr),
-    /// The end of a call, with the value that it gives if it gives one.
+    /// Ends a call, with its result if it has one.
     Return(Option<Expr>),
 }
 
-/// The function of a loop. Its integers are the two ends of its range, then those that it takes along, then the loop's
-/// variable, then what a turn declares; its arrays are those of the loop, then what a turn declares.
+/// Represents the function of a loop. Its integers are the two ends of its range, then the captured integers, then
+/// the loop's variable, then the integers that an iteration declares; its arrays are the arrays of the loop, then the
+/// arrays that an iteration declares.
 #[derive(Drop)]
 pub struct Loop {
     /// The line of the `cilk_for`.
     pub line: u32,
-    /// The most turns in a leaf.
+    /// The maximum number of iterations in a leaf.
     pub grain: u64,
-    /// How many integers it takes along.
+    /// The number of captured integers.
     pub captured: u32,
-    /// How many arrays it is over.
+    /// The number of arrays of the loop.
     pub over: u32,
-    /// One turn.
+    /// One iteration.
     pub body: Vec<Line>,
 }
 
-/// The functions of a program: the bodies of those of the source, in their order, and the loops, each behind those in
-/// its body.
+/// Represents the functions of a program: the bodies of the source functions, in order, and the loops, each after the
+/// loops in its body.
 #[derive(Drop)]
 pub struct Tree {
     pub bodies: Vec<Vec<Line>>,

@@ -1,4 +1,4 @@
--- How rows come under their keys.
+-- Rows under their keys.
 use Rattle.std.proofs.Common.{◌≡◌, ◌⊎◌, inl, inr, ℕ, suc, ◌+◌, ◌<◌, Bool, true, false, not, List, [], ◌∷◌, ◌++◌}
 use Rattle.std.proofs.Common.{length, map, take, refl, sym, ap, ◌∙◌, subst, arith, nat_eq, append_assoc}
 use Rattle.std.proofs.Math.ListN.{get_or}
@@ -22,7 +22,7 @@ use Rattle.cw_machine.specs.Runs.{named}
 other_number : (n a k : ℕ) → n ≡ (a + 1) + k → nat_eq n a ≡ false
 other_number n a k e = grind (arith, nat_tests)
 
--- a row under the next number goes last
+-- a row under the next number is appended
 pub next_number : {X : Type 0} (a n : ℕ) (rows : List X) (row : X) → n ≡ a + length rows
     → insert_entry nat_eq (enumerate_from a rows) n row ≡ enumerate_from a (rows ++ row ∷ [])
 next_number a n [] row e = ap (λ k. (k, row) ∷ []) (omega (arith, e))
@@ -30,7 +30,7 @@ next_number a n (x ∷ rows) row e =
     let is : n ≡ (a + 1) + length rows = omega (arith, e) in
     rw (other_number n a (length rows) is) (ap (λ l. (a, x) ∷ l) (next_number (a + 1) n rows row is))
 
--- one row more
+-- a map from numbers to rows got one more row
 pub one_row_more : {X : Type 0} (old new : List (ℕ × X)) (n key : ℕ) (rows : List X) (d : X)
     → old ≡ enumerate_from 0 (take n rows) → n < length rows → key ≡ n
     → new ≡ insert_entry nat_eq old key (get_or rows n d) → new ≡ enumerate_from 0 (take (n + 1) rows)
@@ -53,20 +53,20 @@ rows_are a (row ∷ rows) = ap (λ l. row ∷ l) (rows_are (a + 1) rows)
 
 -- ---- tags
 
--- whether two tags are the same, as a map tests it
+-- whether two tags are equal, as a map tests it
 abbrev pub same_tag : Vec ℕ → Vec ℕ → Bool
 same_tag x y = bytes_eq x.items y.items
 
 abbrev pub texts : {X : Type 0} → List (Vec ℕ × X) → List Name
 texts entries = map (λ e. e.0.items) entries
 
--- a name that is among none of these is not one of them
+-- a name that is not in a list is not an element of it
 not_among : (name : Name) (front : List Name) (tag : Name) (rest : List Name)
     → is_among name (front ++ tag ∷ rest) ≡ false → bytes_eq name tag ≡ false
 not_among name [] tag rest h = (or_parts (bytes_eq name tag) _ h).0
 not_among name (x ∷ front) tag rest h = not_among name front tag rest (or_parts (bytes_eq name x) _ h).1
 
--- a row under a tag that differs from those before it goes last
+-- a row under a tag that differs from the earlier ones is appended
 pub next_tag : {X : Type 0} (entries : List (Vec ℕ × X)) (key : Vec ℕ) (row : X) (tag : Name) (rest : List Name)
     → key.items ≡ tag → are_apart (texts entries ++ tag ∷ rest) ≡ true
     → insert_entry same_tag entries key row ≡ entries ++ (key, row) ∷ []
@@ -77,7 +77,7 @@ next_tag (entry ∷ entries) key row tag rest e apart =
     let differs : bytes_eq key.items entry.0.items ≡ false = subst (λ k. bytes_eq k entry.0.items ≡ false) (sym e) other in
     rw differs (ap (λ l. entry ∷ l) (next_tag entries key row tag rest e split.1))
 
--- the tags so far and those that are left are all, and so are the rows under them
+-- the tags so far and the remaining ones are all tags, and so are the rows under them
 pub record TagsTowards {X : Type 0} (entries : List (Vec ℕ × X)) (left : List Name) (rows : List X) (tags : List Name) (whole : List X) : Type 0 where
   pub keys : texts entries ++ left ≡ tags
   pub pairs : named entries ++ zip left rows ≡ zip tags whole
@@ -85,7 +85,7 @@ pub record TagsTowards {X : Type 0} (entries : List (Vec ℕ × X)) (left : List
 one_behind : {A B : Type 0} (f : A → B) (xs : List A) (x : A) (left : List B) → map f (xs ++ x ∷ []) ++ left ≡ map f xs ++ f x ∷ left
 one_behind f xs x left = ap (λ l. l ++ left) (map-append f xs (x ∷ [])) ∙ append_assoc (map f xs) (f x ∷ []) left
 
--- one tag more
+-- a map from tags to rows got one more tag
 pub one_tag_more : {X : Type 0} (old new : List (Vec ℕ × X)) (tag : Name) (left : List Name) (row : X) (rows : List X) (tags : List Name) (whole : List X) (key : Vec ℕ)
     → TagsTowards old (tag ∷ left) (row ∷ rows) tags whole → are_apart tags ≡ true → key.items ≡ tag
     → new ≡ insert_entry same_tag old key row → TagsTowards new left rows tags whole
@@ -102,7 +102,7 @@ none_left (tag ∷ left) [] h = refl
 none_left (tag ∷ left) (row ∷ rows) (inl h) = cc
 none_left (tag ∷ left) (row ∷ rows) (inr h) = cc
 
--- nothing is left
+-- if no tag or no row remains, the map is complete
 pub all_tags : {X : Type 0} (entries : List (Vec ℕ × X)) (left : List Name) (rows : List X) (tags : List Name) (whole : List X)
     → TagsTowards entries left rows tags whole → (length left ≡ 0) ⊎ (length rows ≡ 0) → named entries ≡ zip tags whole
 all_tags entries left rows tags whole so_far none =
@@ -118,10 +118,10 @@ rows_named (entry ∷ entries) = ap (λ l. entry.1 ∷ l) (rows_named entries)
 
 module _ {X : Type 0} (entries : List (Vec ℕ × X)) (tags : List Name) (rows : List X) (is : named entries ≡ zip tags rows)
     (as_many : length rows ≡ length tags) where
-  -- where there is a row for each tag the keys are the tags
+  -- if there is a row for each tag, the keys are the tags
   pub tags_are : map (λ tag. tag.items) (map (λ e. e.0) entries) ≡ tags
   tags_are = tags_named entries ∙ ap (map (λ p. p.0)) is ∙ firsts-zip tags rows as_many
 
-  -- and the rows under them are those rows
+  -- the rows under the tags are those rows
   pub rows_under_tags : map (λ e. e.1) entries ≡ rows
   rows_under_tags = rows_named entries ∙ ap (map (λ p. p.1)) is ∙ seconds-zip tags rows as_many

@@ -1,4 +1,4 @@
--- What the effect of a whole run tells of the run.
+-- The facts that the effect of a whole run states about the run.
 use Rattle.std.proofs.Common.{◌≡◌, ◌⊎◌, inl, inr, ℕ, ◌+◌, ◌≤◌, ℤ, true, Option, Some, List, [], length, sym, ap, ◌∙◌, subst, arith}
 use Rattle.std.specs.Prelude.{slice_get}
 use Rattle.std.specs.Coded.{le_prop}
@@ -47,14 +47,14 @@ use Rattle.cw_machine.proofs.Given.{IsGiven, IsGiven-prop, is_given}
 use Rattle.cw_machine.proofs.FromMain.{Main, main_of, asked_of, measured, told, IsEnded, IsEnded-prop, IsTrapped, IsTrapped-prop, was_trapped, is_over, was_over, same_as}
 use Rattle.cw_machine.proofs.FromMain.{same_totals_as, first_is, asked_count, asked_limit, asked_burden, main_room, main_arrays, main_readers}
 
--- an effect that means the job of a whole run means what the definitions have as that job
+-- an effect that means the job of a whole run means the job that the definitions have for it
 pub means_root : (v : Verified) (args : List ℤ) (n : ℕ) (burden : Burden) (d : Detail) (root : Job) (e : Effect) → IsRootOf v args n burden d root.parts.value → IsMeaningOf root e
     → (ok : Ok v) (f : Func) → slice_get (code_view v.code).funcs v.code.main ≡ Some f → ∥ MeansIt v ok root.parts.value e (root_job f args n) ∥₁
 unfolding IsMeaningOf
 means_root v args n burden d root e r means ok f found =
     subst (λ (w : Verified). (ok : Ok w) (j : jobs.Job) → IsJob w ok root.parts.value j → ∥ MeansIt w ok root.parts.value e j ∥₁) r.code means ok (root_job f args n) (r.is ok f found)
 
--- the definition of the run of a whole call ends with a value only within the limit, and comes to no join
+-- by its definition, the run of a whole call ends with a value only within the limit, and reaches no join
 abbrev Few : ℕ → jobs.Effect → Type 0
 Few n (jobs.Ended x arrays t cost) = (length t.updates ≤ n) × (cost ≤ n)
 Few n (jobs.Joined frame t cost) = ⊥
@@ -80,7 +80,7 @@ module _ (laws : RootsAreSerial) (v : Verified) (ok : IsFit v) (f : Func) (args 
   begins : first_transition (slice_get (code_view v.code).funcs v.code.main) args ≡ On (first_state f args [] [])
   begins = first_is (code_view v.code) f args found (asked_count f args n burden asked) (main_room v f ok found) (main_arrays v f ok found) (main_readers v f ok found)
 
-  -- what the run answers is what the code gives, but where memory was wanting
+  -- the run answers what the code answers, except if memory ran out
   serial : (w : jobs.Effect) → JobMeaning (code_view v.code) (root_job f args n) w → (w ≡ jobs.Memory) ⊎ (jobs.answered (code_view v.code) w ≡ code_serial (code_view v.code) args n)
   serial w m = laws (code_view v.code) f args n w begins m
 
@@ -120,7 +120,7 @@ module _ (laws : RootsAreSerial) (v : Verified) (ok : IsFit v) (f : Func) (args 
       cases jobs.OverLimit h w = absurd h
       cases jobs.Memory h w = absurd h
 
-  -- a run that ended: within the limit, and with what the code gives
+  -- a run that ended is within the limit, and has the value of the code
   pub gave : (x : Option ℤ) (shown : Shown) (e : Values) → e.value ≡ int_given x → e.lines.items ≡ shown.lines.items → e.totals ≡ shown.totals
       → MeansIt v ok root.parts.value (effect.Ended x shown) (root_job f args n)
       → IsGiven e (code_serial (code_view v.code) args n)
@@ -144,7 +144,7 @@ module _ (laws : RootsAreSerial) (v : Verified) (ok : IsFit v) (f : Func) (args 
       cases jobs.OverLimit h w s = absurd h
       cases jobs.Memory h w s = absurd h
 
-  -- and with what its meter tells, where what is charged is in its range
+  -- a run that ended has the measures that its meter reads, if the charge is in its range
   pub finished : IsLight d → (x : Option ℤ) (shown : Shown) → MeansIt v ok root.parts.value (effect.Ended x shown) (root_job f args n)
       → (shown.cost ≤ n) × Finishes (code_view v.code) args n d x shown
   finished light x shown m = cases m.effect m.tells m.counts (few (code_view v.code) f args n m.effect m.means) (serial m.effect m.means)
@@ -178,7 +178,7 @@ module _ (laws : RootsAreSerial) (v : Verified) (ok : IsFit v) (f : Func) (args 
       cases jobs.OverLimit h counts w s = absurd h
       cases jobs.Memory h counts w s = absurd h
 
--- whatever is a proposition and holds of the job's meaning holds
+-- a proposition that holds for the job's meaning holds
 on_root : {P : Type 0} → IsProp P → (v : Verified) (args : List ℤ) (n : ℕ) (burden : Burden) (d : Detail) (root : Job) (e : Effect) → IsRootOf v args n burden d root.parts.value → IsMeaningOf root e
     → ((ok : IsFit v) (main : Main v) → is_asked main.func.params (length args) n burden ≡ true → MeansIt v ok root.parts.value e (root_job main.func args n) → P) → P
 on_root prop v args n burden d root e r means f = ∥∥₁_elim v.ok prop (λ ok.

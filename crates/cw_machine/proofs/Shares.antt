@@ -1,4 +1,4 @@
--- How many shares of a place are out.
+-- The number of shares of a place that are handed out.
 use Rattle.std.proofs.Common.{◌≡◌, ◌⊎◌, inl, inr, ⊎_elim, ℕ, suc, ◌+◌, ◌-◌, ◌<◌, ◌≤◌, Bool, true, false, if◌then◌else◌, Some, List, [], ◌∷◌, ◌++◌, length, refl, sym, ap, ◌∙◌, subst, arith}
 use Rattle.std.specs.Prelude.{◌&&◌, nat_eq, nat_le, nat_lt, slice_get}
 use Rattle.std.proofs.lemmas.Option.{slice_get_within}
@@ -9,12 +9,12 @@ use Rattle.cw_machine.specs.Arrays.{Out, view, Memory, whose, is_shared, lies_in
 use Rattle.cw_machine.proofs.Places.{less_or}
 use Rattle.cw_machine.proofs.Reading.{read_whose}
 
--- whether a slice with a number is a share of a place, as a count
+-- 1 if a slice of a call is a share of a place, otherwise 0
 abbrev pub share_of : List View → Out → (number : ℕ) → Placed → (block place : ℕ) → ℕ
 share_of views o n p b k = if is_shared o n && lies_in (view views (o.first + n)) (length p.items) b k then 1 else 0
 
 module _ (views : List View) (o : Out) (b k : ℕ) where
-  -- one slice more
+  -- one more slice adds its own shares of the place to the shares of the others
   pub shares_more : (n : ℕ) (ps : List Placed) (p : Placed) → shares_in views o n (ps ++ p ∷ []) b k ≡ shares_in views o n ps b k + share_of views o (n + length ps) p b k
   shares_more n [] p =
       let same : n + 0 ≡ n = omega arith in
@@ -26,7 +26,7 @@ module _ (views : List View) (o : Out) (b k : ℕ) where
       let one : share_of views o (suc n + length ps) p b k ≡ share_of views o (n + suc (length ps)) p b k = ap (λ x. share_of views o x p b k) same in
       omega (arith, rest, one)
 
-  -- none of them is one
+  -- none of the slices is a share of the place
   pub shares_none : (n : ℕ) (ps : List Placed) → ((j : ℕ) (p : Placed) → slice_get ps j ≡ Some p → share_of views o (n + j) p b k ≡ 0) → shares_in views o n ps b k ≡ 0
   shares_none n [] none = refl
   shares_none n (p ∷ ps) none =
@@ -35,7 +35,7 @@ module _ (views : List View) (o : Out) (b k : ℕ) where
       let rest = shares_none (suc n) ps (λ j q e. let next : suc n + j ≡ n + suc j = omega arith in ap (λ x. share_of views o x q b k) next ∙ none (suc j) q e) in
       omega (arith, first, rest)
 
--- other views, which are the same where the slices are of
+-- other views that agree for these slices
 pub shares_as : (views views' : List View) (o : Out) (b k n : ℕ) (ps : List Placed)
     → ((j : ℕ) → j < length ps → view views' (o.first + (n + j)) ≡ view views (o.first + (n + j))) → shares_in views' o n ps b k ≡ shares_in views o n ps b k
 shares_as views views' o b k n [] same = refl
@@ -48,7 +48,7 @@ shares_as views views' o b k n (p ∷ ps) same =
     ap (λ x. view views' (o.first + x)) next ∙ same (suc j) (omega (arith, lt)) ∙ ap (λ x. view views (o.first + x)) (sym next)) in
     omega (arith, first, rest)
 
--- of all that is out
+-- other views that agree for everything that is handed out
 pub all_shares_as : (views views' : List View) (outs : List Out) (b k : ℕ)
     → ((j : ℕ) (o : Out) → slice_get outs j ≡ Some o → (n : ℕ) → n < length o.slices → view views' (o.first + n) ≡ view views (o.first + n))
     → shares_at views' outs b k ≡ shares_at views outs b k
@@ -67,7 +67,7 @@ all_shares_none views (o ∷ outs) b k none =
     let rest = all_shares_none views outs b k (λ j q e. none (suc j) q e) in
     omega (arith, first, rest)
 
--- a place lies in so many numbers from a view
+-- a place is one of `count` numbers of a view
 pub lies_at : (w : View) (count b k : ℕ) → lies_in w count b k ≡ true → (w.block ≡ b) × (w.from ≤ k) × (k < w.from + count)
 lies_at w count b k e =
     let rest = second_true (nat_eq w.block b) (nat_le w.from k && nat_lt k (w.from + count)) e in (
@@ -76,7 +76,7 @@ lies_at w count b k e =
       lt_of k (w.from + count) (second_true (nat_le w.from k) (nat_lt k (w.from + count)) rest),
     )
 
--- a slice that is a share of a place, else there is no share
+-- a slice is a share of a place, or counts 0
 pub share_or : (views : List View) (o : Out) (n : ℕ) (p : Placed) (b k : ℕ)
     → ((is_shared o n ≡ true) × (lies_in (view views (o.first + n)) (length p.items) b k ≡ true)) ⊎ (share_of views o n p b k ≡ 0)
 share_or views o n p b k = at (is_shared o n) (lies_in (view views (o.first + n)) (length p.items) b k) refl refl
@@ -89,7 +89,7 @@ share_or views o n p b k = at (is_shared o n) (lies_in (view views (o.first + n)
     at false y e e' = inr (not_taken (is_shared o n && lies_in (view views (o.first + n)) (length p.items) b k) 1 0
         (first_false (is_shared o n) (lies_in (view views (o.first + n)) (length p.items) b k) e))
 
--- the cell below a call whose array a share is of, and where that lies
+-- the cell below a call whose array a share is made of, and its view
 pub record SharedBy (m : Memory) (first b k : ℕ) : Type 0 where
   pub cell : ℕ
   pub low : cell < first
@@ -120,14 +120,14 @@ module _ (m : Memory) (first round : ℕ) (outs : List Out) (floors : Floored ou
       record { cell = r.cell; low = omega (arith, low, slot, ends, f); owned = place ∙ read_whose m outs o.first (o.first + n) p.items r i within })
       (less_or n o.slots)
 
-  -- of a place of a cell of the call that runs no share is out
+  -- no share of a place of the running call is handed out
   pub none_shared : (b k : ℕ) → first ≤ m.owner b k → shares_at m.views outs b k ≡ 0
   none_shared b k le = all_shares_none m.views outs b k (λ j o is_out n p is. ⊎_elim
       (λ x. let s = shared_by j o is_out n p is b k x.0 x.1 in let low = s.low in let own = s.owned in absurd (omega (arith, low, own, le)))
       (λ z. z)
       (share_or m.views o n p b k))
 
-  -- nor of one in a block of a cell of it
+  -- no share of a place in a block of the running call is handed out
   pub none_high : (b k : ℕ) → first ≤ b → shares_at m.views outs b k ≡ 0
   none_high b k le = all_shares_none m.views outs b k (λ j o is_out n p is. ⊎_elim
       (λ x.

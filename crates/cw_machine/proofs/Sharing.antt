@@ -1,4 +1,4 @@
--- Whose places are out of a memory, as shares or not, and how often a place is shared, whatever state the memory is of.
+-- Whose places are handed out, as shares or not, and how often a place is shared, in any state.
 use Rattle.std.proofs.Common.{◌≡◌, ◌⊎◌, inl, inr, ⊎_elim, ℕ, zero, suc, ◌+◌, ◌-◌, ◌<◌, ◌≤◌, ℤ, true, false, not, ◌||◌, Option, Some, None, List, [], ◌∷◌, length, refl, sym, ap, ◌∙◌, subst, arith}
 use Rattle.std.specs.Prelude.{◌&&◌, nat_eq, nat_le, nat_lt, drop, slice_get, slice_index_or}
 use Rattle.std.proofs.lemmas.Option.{slice_get_within}
@@ -14,15 +14,15 @@ use Rattle.cw_machine.proofs.Places.{less_or}
 use Rattle.cw_machine.proofs.Reading.{read_len, read_here}
 use Rattle.cw_machine.proofs.Shares.{share_of, share_or, lies_at, all_shares_none}
 
--- the slices of each call that is out lie where they lay
+-- the slices of each call that are handed out are at their places
 abbrev pub AllLie : Memory → List Out → Type 0
 AllLie m outs = (j : ℕ) (o : Out) → slice_get outs j ≡ Some o → SlicesLie m outs (drop (suc j) outs) o
 
--- what a call reads is a share
+-- the arrays that a call reads are shares
 pub reader_shared : (o : Out) (k : ℕ) → o.slots ≤ k → is_shared o k ≡ true
 reader_shared o k le = ap (λ t. not t || is_among k o.lent) (not_below k o.slots le)
 
--- the cell whose array a share is of: that of its slot, or one below its call
+-- the cell whose array a share is made of: the cell of its slot, or one below its call
 pub record Owning (m : Memory) (o : Out) (k : ℕ) (p : Placed) : Type 0 where
   pub cell : ℕ
   pub which : (cell ≡ o.first + k) ⊎ (cell < o.first)
@@ -49,7 +49,7 @@ owned_in m o k p h b place e =
     let same : w.from + i ≡ place = omega (arith, lo) in
     ap (λ c. m.owner c place) (sym at.0) ∙ ap (m.owner w.block) (sym same) ∙ own_place m o k p h i (omega (arith, lo, hi))
 
--- a share of a place has numbers
+-- a slice that is a share of a place has numbers
 pub some_in : (w : View) (count b k : ℕ) → lies_in w count b k ≡ true → 0 < count
 some_in w count b k e =
     let at = lies_at w count b k e in
@@ -57,7 +57,7 @@ some_in w count b k e =
     let hi = at.2 in
     omega (arith, lo, hi)
 
--- a place that lies there does so
+-- a place within a view is in the view
 pub lies_in_is : (w : View) (count i : ℕ) → i < count → lies_in w count w.block (w.from + i) ≡ true
 lies_in_is w count i lt =
     both_true (nat_eq w.block w.block) (nat_le w.from (w.from + i) && nat_lt (w.from + i) (w.from + count)) (equal w.block w.block refl)
@@ -67,12 +67,12 @@ pub share_one : (views : List View) (o : Out) (n : ℕ) (p : Placed) (b k : ℕ)
 share_one views o n p b k e e' = taken (is_shared o n && lies_in (view views (o.first + n)) (length p.items) b k) 1 0
     (both_true (is_shared o n) (lies_in (view views (o.first + n)) (length p.items) b k) e e')
 
--- what is lent is no share
+-- a slice that is lent is no share
 pub share_not : (views : List View) (o : Out) (n : ℕ) (p : Placed) (b k : ℕ) → is_shared o n ≡ false → share_of views o n p b k ≡ 0
 share_not views o n p b k e = not_taken (is_shared o n && lies_in (view views (o.first + n)) (length p.items) b k) 1 0
     (first_false (is_shared o n) (lies_in (view views (o.first + n)) (length p.items) b k) e)
 
--- of a place that does not lie in a slice that is no share
+-- a slice that does not contain a place is no share of it
 pub share_beside : (views : List View) (o : Out) (n : ℕ) (p : Placed) (b k : ℕ)
     → ((at : ℕ) → at < length p.items → b ≡ (view views (o.first + n)).block → k ≡ (view views (o.first + n)).from + at → ⊥) → share_of views o n p b k ≡ 0
 share_beside views o n p b k apart = ⊎_elim
@@ -86,7 +86,7 @@ share_beside views o n p b k apart = ⊎_elim
     (λ z. z)
     (share_or views o n p b k)
 
--- places that are shared alike by each slice are so by all
+-- places that each slice shares equally often are shared equally often in total
 shares_eq : (views : List View) (o : Out) (b k k' n : ℕ) (ps : List Placed)
     → ((j : ℕ) (p : Placed) → slice_get ps j ≡ Some p → share_of views o (n + j) p b k ≡ share_of views o (n + j) p b k')
     → shares_in views o n ps b k ≡ shares_in views o n ps b k'
@@ -108,7 +108,7 @@ all_shares_eq views (o ∷ outs) b k k' same =
     omega (arith, first, rest)
 
 module _ (m : Memory) (outs : List Out) (lie : AllLie m outs) where
-  -- no share is out of a place of a cell past all whose slices are out
+  -- no share is handed out of a place of a cell above all slices that are handed out
   pub none_past : (c b k : ℕ) → LieBelow outs c → m.owner b k ≡ c → shares_at m.views outs b k ≡ 0
   none_past c b k past own = all_shares_none m.views outs b k (λ j o is_out n p is. ⊎_elim
       (λ x.
@@ -120,7 +120,7 @@ module _ (m : Memory) (outs : List Out) (lie : AllLie m outs) where
       (λ z. z)
       (share_or m.views o n p b k))
 
-  -- nor of one that is out
+  -- no share is handed out of a place that is handed out
   pub none_out : (b k : ℕ) → IsOut m.views outs b k → shares_at m.views outs b k ≡ 0
   none_out b k out = all_shares_none m.views outs b k (λ j o is_out n p is. ⊎_elim
       (λ x. absurd (clash j o is_out n p is x.0 x.1))
@@ -139,14 +139,14 @@ module _ (m : Memory) (outs : List Out) (lie : AllLie m outs) where
           ((lie j o is_out n p is (some_in w (length p.items) b k inside)).shared shared).still i (omega (arith, lo, hi))
           (subst (λ c. IsOut m.views outs c (w.from + i)) (sym at.0) (subst (λ c. IsOut m.views outs b c) (sym same) out))
 
-  -- a place that is out is of the cell of its slot
+  -- a place that is handed out belongs to the cell of its slot
   pub out_owner : (b k : ℕ) (y : IsOut m.views outs b k) → m.owner b k ≡ y.out.first + y.slot
   out_owner b k y =
       let lt = y.within in
       let own = ((lie y.index y.out y.is_out y.slot y.slice y.is_slice (omega (arith, lt))).lent y.moved).has.own y.at y.within in
       ap (λ c. m.owner c k) y.in_block ∙ ap (m.owner (view m.views (y.out.first + y.slot)).block) y.in_place ∙ own
 
-  -- so none is out of a cell past all whose slices are
+  -- no place of a cell above all slices that are handed out is handed out
   pub not_past : (c b k : ℕ) → LieBelow outs c → m.owner b k ≡ c → IsOut m.views outs b k → ⊥
   not_past c b k past own y =
       let is = out_owner b k y in
@@ -158,7 +158,7 @@ module _ (m : Memory) (outs : List Out) (lie : AllLie m outs) where
     abbrev w : View
     w = view m.views c
 
-    -- a share of one place of an array is of each
+    -- a share of one place of an array is a share of each
     all_of_it : (j : ℕ) (o : Out) → slice_get outs j ≡ Some o → (n : ℕ) (p : Placed) → slice_get o.slices n ≡ Some p → is_shared o n ≡ true → (i i' : ℕ) → i < length xs → i' < length xs
         → lies_in (view m.views (o.first + n)) (length p.items) w.block (w.from + i) ≡ true → lies_in (view m.views (o.first + n)) (length p.items) w.block (w.from + i') ≡ true
     all_of_it j o is_out n p is shared i i' lt lt' inside =
@@ -169,7 +169,7 @@ module _ (m : Memory) (outs : List Out) (lie : AllLie m outs) where
         let len' : w.len ≡ length p.items = ap (λ (d : ℕ). (view m.views d).len) (sym cell_is) ∙ h.has.len in
         subst (λ (v : View). lies_in v (length p.items) w.block (w.from + i') ≡ true) (sym seen) (lies_in_is w (length p.items) i' (omega (arith, lt', len, len')))
 
-    -- as often as others share one place of it they share each
+    -- all places of an array are shared equally often
     pub alike : (i i' : ℕ) → i < length xs → i' < length xs → shares_at m.views outs w.block (w.from + i) ≡ shares_at m.views outs w.block (w.from + i')
     alike i i' lt lt' = all_shares_eq m.views outs w.block (w.from + i) (w.from + i') (λ j o is_out n p is. ⊎_elim
         (λ x. share_one m.views o n p w.block (w.from + i) x.0 x.1 ∙ sym (share_one m.views o n p w.block (w.from + i') x.0 (all_of_it j o is_out n p is x.0 i i' lt lt' x.1)))
@@ -179,12 +179,12 @@ module _ (m : Memory) (outs : List Out) (lie : AllLie m outs) where
         (share_or m.views o n p w.block (w.from + i')))
         (share_or m.views o n p w.block (w.from + i)))
 
--- an array is seen by a cell: it lies there, and no place of it is out
+-- a cell sees an array: the array is in its view, and no place of it is handed out
 pub record Seen (m : Memory) (outs : List Out) (c : ℕ) (xs : List ℤ) : Type 0 where
   pub len : (view m.views c).len ≡ length xs
   pub lies : (i : ℕ) (x : ℤ) → slice_get xs i ≡ Some x → here m c i ≡ Some x
   pub still : (i : ℕ) → i < length xs → IsOut m.views outs (view m.views c).block ((view m.views c).from + i) → ⊥
-  -- the cell that has it
+  -- the cell that has the array
   pub cell : ℕ
   pub same : view m.views c ≡ view m.views cell
   pub has : Has m cell xs
@@ -209,7 +209,7 @@ seen_reader m outs first c xs h = record {
   has = h.has;
 }
 
--- and so it is by the cell of a share that is out
+-- the cell of a share that is handed out sees the array
 pub seen_share : (m : Memory) (outs older : List Out) (o : Out) (k : ℕ) (p : Placed) → LiesAway m outs older o k p → is_shared o k ≡ true → Seen m outs (o.first + k) p.items
 seen_share m outs older o k p y e =
     let h = owning m outs older o k p y e in record {
@@ -221,13 +221,13 @@ seen_share m outs older o k p y e =
       has = h.has;
     }
 
--- what is got at an index that is there, whatever stands for none
+-- the element at an existing index does not depend on the default value
 pub index_is : {A : Type 0} (xs : List A) (k : ℕ) (x d : A) → x ≡ slice_index_or xs k x → k < length xs → x ≡ slice_index_or xs k d
 index_is [] k x d e lt = absurd (omega (arith, lt))
 index_is (y ∷ xs) zero x d e lt = e
 index_is (y ∷ xs) (suc k) x d e lt = index_is xs k x d e (omega (arith, lt))
 
--- so it is in in the blocks of the machine, and each place has its right
+-- an array that a cell sees is in the blocks of the machine, and each place has its right
 module _ (m : Memory) (outs : List Out) (real : List Lodged) (u : LiesUnder outs m.views real m.blocks) (c : ℕ) (xs : List ℤ) (h : Seen m outs c xs) where
   abbrev w' : View
   w' = view m.views c
@@ -272,7 +272,7 @@ module _ (m : Memory) (outs : List Out) (real : List Lodged) (u : LiesUnder outs
       let got = there_at (block real w'.block).rights (w'.from + k) (omega (arith, inside, many)) in
       got.1 ∙ ap (λ d. Some d) (u.rights w'.block (w'.from + k) got.0 got.1)
 
-  -- that to each is the same
+  -- the rights to all places of the array are equal
   pub rights_alike : AllLie m outs → (k : ℕ) → k < length xs → slice_get (block real w'.block).rights (w'.from + k)
       ≡ Some ((block real w'.block).spot.halved + shares_at m.views outs w'.block (w'.from + 0))
   rights_alike lie k lt =

@@ -1,4 +1,4 @@
--- What a spawn lends, its caller has, and keeps up to a join.
+-- The caller has what a spawn lends, and keeps it until a join.
 use Rattle.std.proofs.Common.{◌≡◌, ℕ, zero, suc, ◌+◌, ℤ, Bool, true, false, nat_lt, if◌then◌else◌, Option, Some, None, List, [], ◌∷◌, refl, sym, ap, ◌∙◌, subst, arith, inl}
 use Rattle.std.specs.Prelude.{nat_eq, slice_get, slice_set}
 use Rattle.std.proofs.lemmas.List.{length-map}
@@ -27,14 +27,14 @@ use Rattle.cw_jobs.specs.Jobs.{IsFrozenBy}
 use Rattle.cw_runnable.specs.declared.verified.Verified.{Verified}
 use Rattle.cw_machine.specs.Arrays.{IsFit, is_among, slots_lent_by, KeepsLent}
 
--- arrays are all there, where there is a list of them
+-- all arrays exist if there is a list of them
 and_some : (o : Option (Option (List ℤ))) (r : Option (List (List ℤ))) (all : List (List ℤ)) → and_array o r ≡ Some all → (is_full o ≡ true) × ((others : List (List ℤ)) × (r ≡ Some others))
 and_some None r all e = cc
 and_some (Some None) r all e = cc
 and_some (Some (Some xs)) None all e = cc
 and_some (Some (Some xs)) (Some others) all e = (refl, (others, refl))
 
--- an array that is lent is there
+-- an array that is lent exists
 pub full_lent : (loans : List Loan) (arrays : Slots (List ℤ)) (readers lent : Readers) (a : ℕ) → lent_in loans arrays readers ≡ Some lent
     → is_among a (slots_lent loans) ≡ true → is_full (slice_get arrays a) ≡ true
 full_lent [] arrays readers lent a e among = cc
@@ -51,7 +51,7 @@ full_lent (Array b ∷ loans) arrays readers lent a e among = at (λ others is h
     at more true is h = ap (λ k. is_full (slice_get arrays k)) (sym (eq_of b a is)) ∙ x.0
     at more false is h = more x.1.0 x.1.1 h
 
--- a slot that is marked is not thawed, and stays so
+-- a slot that is marked is not thawed, and stays marked
 mark_here : (row : Row) (a : ℕ) → is_full_in (slice_get (slice_set row a true) a) ≡ false
 mark_here [] a = refl
 mark_here (x ∷ row) zero = refl
@@ -110,7 +110,7 @@ module _ (s s' : State) (kind : CallKind) (c : Callee) (passed : List ℕ) (loan
   began None e = cc
   began (Some f) e = by_depth f (nat_lt MOST_DEPTH (s.depth + 1)) trap.TooDeep c.line e
 
--- a spawn of such a call was done
+-- a spawn was executed, and its waiting call keeps what it lent
 call_keeps : (v : Verified) (is : IsFit v) (s s' : State) (good : GoodState (code_view v.code) is.fits s) (c : Callee)
     → slice_get (code_view v.code).instrs s.place ≡ Some (Call Spawned c) → step (code_view v.code) s ≡ On s' →
     (w : Waiting) (around : List Around) → s'.around ≡ Caller w ∷ around → KeepsLent v is w (slots_lent (lent_by (code_view v.code) c.lent))
@@ -137,7 +137,7 @@ call_keeps v is s s' good c instr steps w around e a among =
 none_among : (a : ℕ) → is_among a [] ≡ true → ⊥
 none_among a e = cc
 
--- whatever instruction spawned
+-- an instruction that spawns was executed, and its waiting call keeps what it lent
 pub spawn_keeps : (v : Verified) (is : IsFit v) (s s' : State) (good : GoodState (code_view v.code) is.fits s) (i : Instr)
     → slice_get (code_view v.code).instrs s.place ≡ Some i → (before : List Around) (target : Option ℕ) (taken : List Taken)
     → turn_of (code_view v.code) (Some i) before ≡ HandsOut target taken → step (code_view v.code) s ≡ On s' →

@@ -1,4 +1,4 @@
--- What a run was given as shares stays, whatever changes beside it.
+-- The shares that a run was given remain when other things change.
 use Rattle.std.proofs.Common.{◌≡◌, ◌≢◌, ℕ, ◌+◌, ◌<◌, ℤ, true, Some, None, List, [], ◌∷◌, length, refl, ap, ◌∙◌, arith}
 use Rattle.std.specs.Prelude.{slice_get, slice_set}
 use Rattle.cw_facts.specs.Lists.{set_other}
@@ -16,7 +16,7 @@ abbrev pub KeepsShared : (given : List Placed) → (slots : ℕ) → (arrays arr
 KeepsShared given slots arrays arrays' =
     (a : ℕ) → a < slots → 0 < (placed given a).spot.halved → slice_get arrays a ≡ Some (Some (placed given a).items) → slice_get arrays' a ≡ Some (Some (placed given a).items)
 
--- other views, which are the same where shares lie
+-- other views that agree where shares are
 abbrev pub SeesShared : (given : List Placed) → (slots : ℕ) → (views views' : List View) → Type 0
 SeesShared given slots views views' =
     (a : ℕ) → a < length given → (a < slots → 0 < (placed given a).spot.halved) → view views' (length given + a) ≡ view views (length given + a)
@@ -32,7 +32,7 @@ module _ (given : List Placed) (slots : ℕ) (views : List View) where
     readers_lie = h.readers_lie;
   }
 
-  -- other arrays in the call that runs: those of the first one, where no call waits
+  -- other arrays in the running call: arrays of the first call, if no call waits
   pub stay_round : (arrays arrays' : Slots (List ℤ)) (readers : Readers) (around : List Around) → (AreBlocks around → KeepsShared given slots arrays arrays')
       → SharesStay given slots views (outermost_arrays arrays around) (outermost_readers readers around)
       → SharesStay given slots views (outermost_arrays arrays' around) (outermost_readers readers around)
@@ -40,7 +40,7 @@ module _ (given : List Placed) (slots : ℕ) (views : List View) where
   stay_round arrays arrays' readers (Caller w ∷ around) keeps h = h
   stay_round arrays arrays' readers (Block o ∷ around) keeps h = stay_round arrays arrays' readers around keeps h
 
-  -- and other views
+  -- the given shares stay in their slots if the views change, but not the views of these shares
   pub stay_seen : (views' : List View) (arrays : Slots (List ℤ)) (readers : Readers) → SeesShared given slots views views'
       → SharesStay given slots views arrays readers → SharesStay given slots views' arrays readers
   stay_seen views' arrays readers seen h = record {
@@ -51,17 +51,17 @@ module _ (given : List Placed) (slots : ℕ) (views : List View) where
     readers_lie = λ a le lt. seen a lt (λ l. absurd (omega (arith, l, le))) ∙ h.readers_lie a le lt;
   }
 
--- what waits for a join goes back into slots that are empty
+-- the shares that were given stay in their slots at a join, because no array waits for a full slot
 pub keeps_settled : (given : List Placed) (slots : ℕ) (arrived : Results (List ℤ)) (arrays : Slots (List ℤ))
     → ((a : ℕ) → is_full (slice_get arrays a) ≡ true → IsNotAmong a (slots_in arrived)) → KeepsShared given slots arrays (settled arrived arrays)
 keeps_settled given slots arrived arrays apart a lt some e = settled_beside arrived arrays a (apart a (ap is_full e)) ∙ e
 
--- another slot was written
+-- the shares that were given stay in their slots if another slot is written
 pub keeps_set : (given : List Placed) (slots : ℕ) (arrays : Slots (List ℤ)) (b : ℕ) (xs : List ℤ)
     → ((a : ℕ) → a < slots → 0 < (placed given a).spot.halved → a ≢ b) → KeepsShared given slots arrays (slice_set arrays b (Some xs))
 keeps_set given slots arrays b xs apart a lt some e = set_other arrays b a (Some xs) (apart a lt some) ∙ e
 
--- others were moved out
+-- other slots were moved out
 pub moved_beside : (passed : List ℕ) (arrays : Slots (List ℤ)) (a : ℕ) → IsNotAmong a passed → slice_get (moved_out passed arrays) a ≡ slice_get arrays a
 moved_beside [] arrays a none = refl
 moved_beside (b ∷ passed) arrays a none = set_other (moved_out passed arrays) b a None none.0 ∙ moved_beside passed arrays a none.1

@@ -1,4 +1,4 @@
--- What is out, and what a run was given, after a change of the memory.
+-- The arrays that are handed out, and the slices that a run was given, after a change of the memory.
 use Rattle.std.proofs.Common.{◌≡◌, ◌≢◌, ◌⊎◌, inl, inr, ⊎_elim, ℕ, zero, suc, ◌+◌, ◌<◌, ◌≤◌, ℤ, Bool, Option, Some, None, List, [], ◌∷◌, ◌++◌, length, refl, ap, ◌∙◌, subst, sym, arith}
 use Rattle.std.specs.Prelude.{map, take, drop, is_some, slice_get, slice_set}
 use Rattle.std.proofs.lemmas.List.{get_or-set_other}
@@ -15,22 +15,22 @@ use Rattle.cw_machine.proofs.Places.{less_or, Steady, has_steady}
 use Rattle.cw_machine.proofs.Reading.{reads_steady}
 use Rattle.cw_machine.proofs.Shares.{all_shares_as}
 
--- all that is out is so below the call that runs
+-- everything that is handed out is below the running call
 pub floored : (m : Memory) (first round : ℕ) (outs : List Out) → AllAbove outs round → AreAway m first round outs → Floored outs first
 floored m first round outs above away = λ j o e. (away j o e).floor (above j o e)
 
--- none is of a call with more blocks and calls round it
+-- nothing that is handed out belongs to a call with more enclosing blocks and calls
 pub none_up : (m : Memory) (first round first' : ℕ) (outs : List Out) → AreAway m first round outs → AllFrom outs (suc round) first'
 none_up m first round first' outs away j o e is = absurd (let le = (away j o e).level in omega (arith, le, is))
 
--- what is out of the call that runs has its cells
+-- the arrays that are handed out of the running call have its cells
 pub outs_here : (outs : List Out) (first : ℕ) (frames : List Frame) (around : List Around) → OutsAt outs first frames around → AllFrom outs (length around) first
 outs_here outs first frames [] h = h
 outs_here outs first frames (Block o ∷ around) h = h.0
 outs_here outs first [] (Caller w ∷ around) h = absurd h
 outs_here outs first (f ∷ frames) (Caller w ∷ around) h = h.0
 
--- what is out is seen where it was
+-- the views of what is handed out are unchanged
 abbrev pub OutsSeen : (views views' : List View) → List Out → Type 0
 OutsSeen views views' outs = (j : ℕ) (o : Out) → slice_get outs j ≡ Some o → (n : ℕ) → n < length o.slices → view views' (o.first + n) ≡ view views (o.first + n)
 
@@ -82,7 +82,7 @@ get_drop zero outs k o e = let same : 0 + k ≡ k = omega arith in ap (slice_get
 get_drop (suc n) [] k o e = cc
 get_drop (suc n) (x ∷ outs) k o e = let same : suc n + k ≡ suc (n + k) = omega arith in ap (slice_get (x ∷ outs)) same ∙ get_drop n outs k o e
 
--- an array that is out is so still where arrays and blocks below the call are as they were
+-- an array that is handed out still is, if arrays and blocks below the call are unchanged
 module _ (m m' : Memory) (first round : ℕ) (outs : List Out) (floors : Floored outs first) (steady : (c : ℕ) → c < first → Steady m m' c)
     (kept : (c : ℕ) → c < first → kept_of m'.blocks c ≡ kept_of m.blocks c) (away : AreAway m first round outs) where
   seen : OutsSeen m.views m'.views outs
@@ -137,7 +137,7 @@ module _ (m m' : Memory) (first round : ℕ) (outs : List Out) (floors : Floored
       reads = λ le. reads_steady m m' outs o.first (o.first + k) p.items (λ d lt. steady d (omega (arith, lt, within))) same (outs_back m.views m'.views outs seen) (y.reads le);
     }
 
--- what is out is so still
+-- the arrays that are handed out are still handed out
 pub away_on : (m m' : Memory) (first first' round round' : ℕ) (outs : List Out) → Floored outs first
     → ((j : ℕ) (o : Out) → slice_get outs j ≡ Some o → o.level ≤ round → (o.level ≤ round') × (o.level < round' → o.floor ≤ first'))
     → ((c : ℕ) → c < first → Steady m m' c) → ((c : ℕ) → c < first → kept_of m'.blocks c ≡ kept_of m.blocks c) → AreAway m first round outs → AreAway m' first' round' outs
@@ -150,18 +150,18 @@ away_on m m' first first' round round' outs floors up steady kept h = λ j o e.
       each = λ k p e' some. lies_on m m' first round outs floors steady kept h j o e k p e' (x.each k p e' some);
     }
 
--- the same with the call where it is
+-- the arrays that are handed out are still handed out, and the call has the same cells
 pub away_here : (m m' : Memory) (first round : ℕ) (outs : List Out) → Floored outs first → ((c : ℕ) → c < first → Steady m m' c)
     → ((c : ℕ) → c < first → kept_of m'.blocks c ≡ kept_of m.blocks c) → AreAway m first round outs → AreAway m' first round outs
 away_here m m' first round outs floors = away_on m m' first first round round outs floors (λ j o e le. (le, λ lt. floors j o e))
 
--- with one block more round it
+-- the arrays that are handed out are still handed out, with one more enclosing block
 pub away_up : (m m' : Memory) (first first' round : ℕ) (outs : List Out) → Floored outs first → first ≤ first'
     → ((c : ℕ) → c < first → Steady m m' c) → ((c : ℕ) → c < first → kept_of m'.blocks c ≡ kept_of m.blocks c) → AreAway m first round outs
     → AreAway m' first' (suc round) outs
 away_up m m' first first' round outs floors le = away_on m m' first first' round (suc round) outs floors (λ j o e l. (omega (arith, l), λ lt. (let f = floors j o e in omega (arith, f, le))))
 
--- no share that was given is written, and no other block comes to be a share
+-- no share that was given is written, and no other block becomes a share
 abbrev pub GivenStill : (blocks blocks' : List Lodged) → (given : List Placed) → Type 0
 GivenStill blocks blocks' given =
     ((k : ℕ) (p : Placed) → slice_get given k ≡ Some p → 0 < p.spot.halved → (block blocks' k).cells ≡ (block blocks k).cells)
@@ -170,7 +170,7 @@ GivenStill blocks blocks' given =
 pub still_same : (blocks : List Lodged) (given : List Placed) → GivenStill blocks blocks given
 still_same blocks given = ((λ k p e some. refl), λ b le. inr refl)
 
--- what is given is so still
+-- the given slices are still given
 pub given_on : (blocks blocks' : List Lodged) (first first' : ℕ) (given : List Placed) → length given ≤ first' → ((c : ℕ) → c < first → kept_of blocks' c ≡ kept_of blocks c)
     → GivenStill blocks blocks' given → AreGiven blocks first given → AreGiven blocks' first' given
 given_on blocks blocks' first first' given le kept still h = record {
@@ -204,11 +204,11 @@ kept_put blocks b k x y e c = at blocks b c (found_is blocks b k y e).1
     at (w ∷ blocks) (suc b) zero e = refl
     at (w ∷ blocks) (suc b) (suc c) e = at blocks b c e
 
--- another block
+-- a write of one block does not change the place of another block, nor which of its cells are in
 pub kept_set : (blocks : List Lodged) (b c : ℕ) (w : Lodged) → c ≢ b → kept_of (slice_set blocks b w) c ≡ kept_of blocks c
 kept_set blocks b c w n = ap (λ (v : Lodged). (v.spot, map is_some v.cells)) (get_or-set_other blocks b c w no_block n)
 
--- more blocks, and fewer
+-- appending blocks does not change the place of an old block, nor which of its cells are in
 pub kept_more : (blocks more : List Lodged) (c : ℕ) → c < length blocks → kept_of (blocks ++ more) c ≡ kept_of blocks c
 kept_more [] more c lt = absurd (omega (arith, lt))
 kept_more (w ∷ blocks) more zero lt = refl
@@ -221,7 +221,7 @@ kept_take (w ∷ blocks) zero c lt = absurd (omega (arith, lt))
 kept_take (w ∷ blocks) (suc n) zero lt = refl
 kept_take (w ∷ blocks) (suc n) (suc c) lt = kept_take blocks n c (omega (arith, lt))
 
--- fewer blocks
+-- a block below `n` is unchanged if only the first `n` blocks are kept
 pub block_take : (bs : List Lodged) (n c : ℕ) → c < n → block (take n bs) c ≡ block bs c
 block_take [] zero c lt = refl
 block_take [] (suc n) c lt = refl
@@ -236,7 +236,7 @@ block_past (w ∷ bs) zero c le = refl
 block_past (w ∷ bs) (suc n) zero le = absurd (omega (arith, le))
 block_past (w ∷ bs) (suc n) (suc c) le = block_past bs n c (omega (arith, le))
 
--- what was given is so still in fewer blocks, and in more
+-- the given slices are unchanged in fewer blocks and in more
 pub still_take : (blocks : List Lodged) (n : ℕ) (given : List Placed) → length given ≤ n → GivenStill blocks (take n blocks) given
 still_take blocks n given le = (
   (λ k p e some. let lt = slice_get_within given k p e in ap (λ (w : Lodged). w.cells) (block_take blocks n k (omega (arith, lt, le)))),
@@ -259,7 +259,7 @@ still_more blocks more given bare le = (
   (λ b le'. ⊎_elim (λ lt. inr (ap (λ (w : Lodged). w.spot) (block_more blocks more b lt))) (λ past. inl (block_beyond blocks more b bare past)) (less_or b (length blocks))),
 )
 
--- and where another block is a new one, with one owner
+-- the given slices are unchanged if another block is a new one, with one owner
 pub still_set : (blocks : List Lodged) (given : List Placed) (c : ℕ) (w : Lodged) → w.spot.halved ≡ 0 → length given ≤ c → GivenStill blocks (slice_set blocks c w) given
 still_set blocks given c w own le = (
   (λ k p e some. ap (λ (x : Lodged). x.cells) (get_or-set_other blocks c k w no_block (λ is. (let lt = slice_get_within given k p e in omega (arith, lt, is, le))))),

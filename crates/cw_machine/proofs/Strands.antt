@@ -1,4 +1,4 @@
--- What is kept of the strands of a tree is a proposition.
+-- The record of the strands of a tree is a proposition.
 use Rattle.std.proofs.Common.{◌≡◌, ℕ, zero, suc, ◌+◌, ◌<◌, ◌≤◌, true, false, Ok, Err, List, [], ◌∷◌, refl, sym, ap, ◌∙◌, subst}
 use Rattle.std.specs.Coded.{le_prop}
 use native.Mathlib.Nat.{ℕ_set}
@@ -11,7 +11,7 @@ use Rattle.cw_greedy.specs.Records.{merged}
 use Rattle.cw_greedy.specs.Blocks.{AsChild, codes_of, strand_count}
 use Rattle.cw_recorded.specs.Recording.{IsKept}
 
--- codes by number
+-- the number of a code
 abbrev pub number_of : greedy.Code → ℕ
 number_of codes.Ended = 0
 number_of codes.Joined = 1
@@ -36,7 +36,7 @@ numbered (codes.Spawned false) = refl
 numbered (codes.Spawned true) = refl
 numbered (codes.Instructions n) = refl
 
--- the same codes in order
+-- two lists have the same codes in order
 abbrev pub AreSameCodes : (a b : List greedy.Code) → Type 0
 AreSameCodes [] [] = Unit {0}
 AreSameCodes [] (d ∷ b) = ⊥
@@ -62,7 +62,7 @@ codes_as a b e = subst (AreSameCodes a) e (itself a)
     itself [] = tt
     itself (c ∷ a) = (refl, itself a)
 
--- what is kept of the strands of a tree
+-- the record of the strands of a tree
 abbrev pub KeepsStrands : Recorded → Tree → Type 0
 KeepsStrands (Err n) t = (MOST_STRANDS < strand_count t) × (capped (1 + n) ≡ capped (strand_count t))
 KeepsStrands (Ok kept) t = (strand_count t ≤ MOST_STRANDS) × AreSameCodes (merged kept) (merged (codes_of AsChild t))

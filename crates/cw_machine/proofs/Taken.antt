@@ -1,4 +1,4 @@
--- What is taken out of the effect of a whole run.
+-- The values that are taken out of the effect of a whole run.
 use Rattle.std.proofs.Common.{◌≡◌, ℕ, ℤ, Option, List, Some, sym, ap, ◌∙◌, subst}
 use Rattle.std.specs.Prelude.{Result, Ok, Err}
 use Rattle.cw_model.specs.declared.burden.Burden.{Burden}
@@ -23,7 +23,7 @@ abbrev out : Option ℤ × Shown → Result (Option ℤ × Shown) Fault → Opti
 out z (Ok w) = w
 out z (Err f) = z
 
--- of which value and what was shown are taken out has ended so
+-- an effect from which a value and an output are taken has ended with them
 pub ended_is : (e : Effect) (x : Option ℤ) (shown : Shown) → TakesOut e (Ok (x, shown)) → e ≡ effect.Ended x shown
 ended_is (effect.Ended y other) x shown told =
     let value : x ≡ y = ap (λ (z : Option ℤ × Shown). z.0) (ap (out (x, shown)) told) in
@@ -35,7 +35,7 @@ ended_is (effect.OverLimit back) x shown told = cc
 ended_is (effect.Memory back) x shown told = cc
 ended_is (effect.GivenUp back) x shown told = cc
 
--- why a run has not ended is told, whatever would be told of one that has
+-- why a run has not ended does not depend on what is returned for a run that has ended
 pub fault_told : (A : Type 0) (ended : Option ℤ → Shown → Type 0) (e : Effect) (f : Fault) → TakesOut e (Err f) → TellsOf {A = A} ended e (Err f)
 fault_told A ended (effect.Ended value shown) f told = cc
 fault_told A ended (effect.Joined frame replaced shown) f told = absurd told
@@ -54,7 +54,7 @@ pub values_fail : (A : Type 0) (e : Effect) (f : Fault) → TakesOut e (Err f) �
 values_fail A e f told = fault_told A (λ value shown. ⊥) e f told
 
 module _ (laws : RootsAreSerial) (v : Verified) (args : List ℤ) (n : ℕ) (burden : Burden) (d : Detail) (root : Job) (r : IsRootOf v args n burden d root.parts.value) where
-  -- and is so
+  -- a fault taken out of the effect is a failure of the code's run
   pub fails_as_code : (e : Effect) (f : Fault) → TakesOut e (Err f) → IsMeaningOf root e → IsFailure (code_view v.code) args n burden f
   fails_as_code (effect.Ended value shown) f told means = cc
   fails_as_code (effect.Joined frame replaced shown) f told means = absurd told

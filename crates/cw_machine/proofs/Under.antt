@@ -1,4 +1,4 @@
--- The blocks of a machine under those that its state is shown in, after a change of both.
+-- The blocks of a machine below those that represent its state, after a change of both.
 use Rattle.std.proofs.Common.{◌≡◌, ◌≢◌, ◌⊎◌, inl, inr, ⊎_elim, ℕ, zero, suc, ◌+◌, ◌^◌, ◌<◌, ◌≤◌, ℤ, Bool, Option, Some, None}
 use Rattle.std.proofs.Common.{List, [], ◌∷◌, ◌++◌, length, refl, sym, ap, ◌∙◌, subst, arith, length-append}
 use Rattle.std.specs.Prelude.{take, replicate, is_some, slice_get, slice_set}
@@ -22,7 +22,7 @@ never x e = cc
 never_in : (x : ℤ) → Some (Some x) ≡ Some None → ⊥
 never_in x e = cc
 
--- what is out has its view below a cell
+-- an array that is handed out has its view below a cell
 pub out_low : (m : Memory) (first round : ℕ) (outs : List Out) (b k : ℕ) → Floored outs first → AreAway m first round outs → IsOut m.views outs b k → b < first
 out_low m first round outs b k floors away o =
     let f = floors o.index o.out o.is_out in
@@ -31,7 +31,7 @@ out_low m first round outs b k floors away o =
     let e = o.in_block in
     omega (arith, f, low, e)
 
--- a place of an array of the call that runs is not out
+-- a place of an array of the running call is not handed out
 pub out_owned : (m : Memory) (first round : ℕ) (outs : List Out) (b k : ℕ) → Floored outs first → AreAway m first round outs → IsOut m.views outs b k → m.owner b k < first
 out_owned m first round outs b k floors away o =
     let f = floors o.index o.out o.is_out in
@@ -43,7 +43,7 @@ out_owned m first round outs b k floors away o =
     let e : m.owner b k ≡ o.out.first + o.slot = ap (λ c. m.owner c k) o.in_block ∙ ap (m.owner (view m.views (o.out.first + o.slot)).block) o.in_place ∙ own in
     omega (arith, f, ends, slot, e)
 
--- other views above what is out
+-- other views above what is handed out
 pub under_views : (m : Memory) (views' : List View) (real blocks : List Lodged) (first round : ℕ) (outs : List Out) → Floored outs first
     → AreAway m first round outs → ((c : ℕ) → c < first → view views' c ≡ view m.views c) → LiesUnder outs m.views real blocks → LiesUnder outs views' real blocks
 under_views m views' real blocks first round outs floors away same u = record {
@@ -60,11 +60,11 @@ under_views m views' real blocks first round outs floors away same u = record {
     seen : OutsSeen m.views views' outs
     seen = seen_below m views' first round outs floors away same
 
--- what is found in a block is found in the one that it lies under
+-- a number that is found in a block is found in the block above it
 pub found_under : (outs : List Out) (views : List View) (real blocks : List Lodged) (b k : ℕ) (x : ℤ) → LiesUnder outs views real blocks → found real b k ≡ Some x → found blocks b k ≡ Some x
 found_under outs views real blocks b k x u e = let f = found_is real b k x e in is_found blocks b k x f.0 (u.same b k x f.1)
 
--- and the other way round where it is not out
+-- a number is found in the machine's block if its place is not handed out
 pub found_beside : (outs : List Out) (views : List View) (real blocks : List Lodged) (b k : ℕ) (x : ℤ) → LiesUnder outs views real blocks
     → (IsOut views outs b k → ⊥) → found blocks b k ≡ Some x → found real b k ≡ Some x
 found_beside outs views real blocks b k x u none e = at (slice_get (block real b).cells k) refl
@@ -88,7 +88,7 @@ pub found_in : (m : Memory) (real : List Lodged) (first round : ℕ) (outs : Lis
     → AreAway m first round outs → LiesUnder outs m.views real m.blocks → first ≤ m.owner b k → found m.blocks b k ≡ Some x → found real b k ≡ Some x
 found_in m real first round outs b k x floors away u le e = found_beside outs m.views real m.blocks b k x u (λ o. let lt = out_owned m first round outs b k floors away o in omega (arith, lt, le)) e
 
--- an array of the call that runs lies in the machine's own blocks
+-- an array of the running call is in the machine's own blocks
 pub has_in : (m : Memory) (real : List Lodged) (first round : ℕ) (outs : List Out) (c : ℕ) (xs : List ℤ) → Floored outs first
     → AreAway m first round outs → LiesUnder outs m.views real m.blocks → first ≤ c → Has m c xs
     → Has (record { views = m.views; blocks = real; owner = m.owner }) c xs
@@ -188,13 +188,13 @@ under_more outs views real blocks more none u =
       rights = λ c k d is. u.rights c k d (sym (ap (λ l. slice_get l k) (t c)) ∙ is) ∙ ap (λ n. n + shares_at views outs c k) (sym (more_halved real more c none));
     }
 
--- of rights that are all alike each is
+-- each element of a constant list is equal to the constant
 pub replicated : (n d k x : ℕ) → slice_get (replicate n d) k ≡ Some x → x ≡ d
 replicated zero d k x e = cc
 replicated (suc n) d zero x e = sym (same_Some d x e)
 replicated (suc n) d (suc k) x e = replicated n d k x e
 
--- a new block, all in, at a cell of the call that runs
+-- a new block, all in, at a cell of the running call
 pub under_set : (m : Memory) (views' : List View) (real : List Lodged) (first round : ℕ) (outs : List Out) (c : ℕ) (w : Lodged) (xs : List ℤ)
     → w.cells ≡ ins xs → IsWhole w → first ≤ c → Floored outs first → AreAway m first round outs
     → ((d : ℕ) → d < first → view views' d ≡ view m.views d) → LiesUnder outs m.views real m.blocks

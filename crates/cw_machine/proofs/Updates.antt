@@ -1,4 +1,4 @@
--- How many values a run can add to its reducers, and what their totals can come to.
+-- How many values a run can add to its reducers, and how large their totals can become.
 use Rattle.std.proofs.Common.{◌≡◌, ℕ, zero, suc, ◌+◌, ◌*◌, ◌≤◌, ℤ, pos, negsuc, ◌+ℤ◌, Bool, true, false, if◌then◌else◌, Option, Some, None, List}
 use Rattle.std.proofs.Common.{[], ◌∷◌, ◌++◌, length, refl, sym, ap, ◌∙◌, arith, length-append, unsigned_abs, FitsSigned, w64}
 use Rattle.std.specs.Prelude.{map, slice_get}
@@ -22,14 +22,14 @@ use Rattle.cw_code.specs.lemmas.Acts.{acts_both, closing, uncutting, returning}
 use Rattle.cw_strand_laws.specs.Jobs.{WholeCall, Came, Arrives, Returns, Falls, Beyond, Lost, moved, travel}
 use Rattle.cw_jobs.specs.Totals.{kept, AllFit, HoldsTotals}
 
--- after a move no more values were added than these
+-- after a move, at most `k` values were added
 abbrev pub Within : ℕ → Transition → Type 0
 Within k (On s) = length s.trace.updates ≤ k
 Within k (Ends v arrays t) = length t.updates ≤ k
 Within k (Stops trap line lines) = Unit {0}
 Within k Stuck = Unit {0}
 
--- an instruction adds one value at most
+-- an instruction adds at most one value
 pub adds_one : (code : Code) (s : State) (o : Option Instr) → Within (suc (length s.trace.updates)) (act code s o)
 adds_one code s o = acts_both code s s.results s.arrived s.around s.trace (λ o w w'. Within (suc (length s.trace.updates)) w) (record {
   stuck = λ o. tt;
@@ -57,7 +57,7 @@ adds_one code s o = acts_both code s s.results s.arrived s.around s.trace (λ o 
     back_within v = returning (Within (suc (length s.trace.updates))) tt s.around v (settled s.arrived s.arrays) (synced s.trace) (λ e. same)
         (λ w others e slots homes results arrived. same)
 
--- a run that ends has added no more values than it was given instructions
+-- a run that ends has added at most one value for each instruction that it was given
 pub counted : (code : Code) (n : ℕ) (s : State) (r : Returned) (left : ℕ) (t : Trace) → steps code n s ≡ Some (Done r left t) → length t.updates ≤ length s.trace.updates + n
 counted code zero s r left t e = cc
 counted code (suc n) s r left t e = cases (step code s) (adds_one code s (slice_get code.instrs s.place)) (λ s'. counted code n s' r left t) e
@@ -69,7 +69,7 @@ counted code (suc n) s r left t e = cases (step code s) (adds_one code s (slice_
     cases (Stops trap line lines) h from e = cc
     cases Stuck h from e = cc
 
--- the end of a whole call has no more values than these
+-- the end of a whole call has at most `k` values
 abbrev pub ReturnsWithin : ℕ → Came → Type 0
 ReturnsWithin k (Arrives frame t left) = ⊥
 ReturnsWithin k (Returns v arrays t left) = length t.updates ≤ k
@@ -77,7 +77,7 @@ ReturnsWithin k (Falls trap line lines left) = Unit {0}
 ReturnsWithin k Beyond = Unit {0}
 ReturnsWithin k Lost = Unit {0}
 
--- a whole call comes to no join, and where it ends it has added no more values than it was given instructions
+-- a whole call reaches no join, and at its end it has added at most one value for each instruction that it was given
 pub travelled : (code : Code) (n : ℕ) (s : State) → ReturnsWithin (length s.trace.updates + n) (travel WholeCall code n s)
 travelled code zero s = tt
 travelled code (suc n) s = cases (step code s) (adds_one code s (slice_get code.instrs s.place)) (λ s'. travelled code n s')
@@ -96,11 +96,11 @@ travelled code (suc n) s = cases (step code s) (adds_one code s (slice_get code.
     cases (Stops trap line lines) h more = tt
     cases Stuck h more = tt
 
--- a value of 64 bits is at most so far from 0
+-- the maximum absolute value of a 64-bit integer
 abbrev most_abs : ℕ
 most_abs = 9223372036854775808
 
--- no sum is farther from 0 than all that was added
+-- the absolute value of a sum is at most the sum of the absolute values
 abs_more : (a b : ℤ) (m n : ℕ) → unsigned_abs a ≤ m → unsigned_abs b ≤ n → unsigned_abs (a +ℤ b) ≤ m + n
 abs_more a b m n h h' = omega (arith, ints)
 
@@ -116,16 +116,16 @@ bounded name (a ∷ ts) h = cases (same_name name a.0) (bounded name ts h.1)
     cases true le = let more = abs_more a.1 (sum_to name ts) most_abs (length ts * most_abs) (abs_fits a.1 h.0) le in omega (arith, more)
     cases false le = omega (arith, le)
 
--- the totals of so many values are kept whole, within 128 bits
+-- the totals of this many values fit into 128 bits
 pub kept_whole : (how : Reduction) (name : Name) (ts : List (Name × ℤ)) → AllFit ts → length ts ≤ MOST_LIMIT → kept (total_to how name ts) ≡ total_to how name ts
 kept_whole Sum name ts h le = ap (λ z. total.Sum z) (int_wrap_fits w128 (sum_to name ts) (fits_signed_from_abs w128 (sum_to name ts) (let b = bounded name ts h in omega (arith, b, le))))
 kept_whole Max name ts h le = refl
 
--- what each reducer comes to
+-- the total of each reducer
 abbrev pub totals_of : List (Name × ℤ) → List Reducer → List Total
 totals_of ts reducers = map (λ (r : Reducer). total_to r.how r.name ts) reducers
 
--- the totals that a machine has are those of its run
+-- the totals of a machine are the totals of its run
 pub totals_are : (code : Code) (totals : List Total) (ts : List (Name × ℤ)) → HoldsTotals code totals ts → length ts ≤ MOST_LIMIT → totals_of ts (reducers_of code) ≡ totals
 totals_are code totals ts h le = each code.reducers totals h.as_many h.are
   where

@@ -1,4 +1,4 @@
--- Where the arrays of the call that waits nearest lie, and which of them stay here when it is handed out.
+-- The place of the caller's arrays, and the arrays that stay when the caller is handed out.
 use Rattle.std.proofs.Common.{◌≡◌, ◌≢◌, ◌⊎◌, inl, inr, ⊎_elim, ℕ, zero, suc, ◌+◌, ◌-◌, ◌<◌, ◌≤◌, ℤ, pos, Bool, true, false, Option, Some, None}
 use Rattle.std.proofs.Common.{List, [], ◌∷◌, ◌++◌, length, map, refl, sym, ap, ◌∙◌, subst, arith, if◌then◌else◌, nat_lt}
 use Rattle.std.specs.Prelude.{reverse, drop, nat_eq, nat_le, slice_get, slice_index_or}
@@ -29,7 +29,7 @@ use Rattle.cw_machine.proofs.Order.{full_value}
 use Rattle.cw_machine.proofs.Places.{same_or}
 use Rattle.cw_machine.proofs.Rights.{same_head}
 
--- a slot that is not found among some is none of them, and the other way round
+-- a slot that is not found in a list is not one of its elements, and conversely
 among_not : (a : ℕ) (bs : List ℕ) → is_among a bs ≡ false → IsNotAmong a bs
 among_not a [] e = tt
 among_not a (b ∷ bs) e = ⊎_elim
@@ -65,7 +65,7 @@ past_cut cell c first cells le n =
 ends_cut : (cell c first : ℕ) (cells : List ℕ) → c < first → is_cut_among cell first (c ∷ cells) ≡ false
 ends_cut cell c first cells lt = taken (nat_lt c first) false (if nat_eq c cell then true else is_cut_among cell first cells) (below c first lt)
 
--- the newest of the arrays that are cut, but for so many
+-- the arrays that are cut, the newest first, from index `k` on
 cut_here : (cuts : List ℕ) (k c : ℕ) → k < length cuts → c ≡ slice_index_or cuts (length cuts - 1 - k) c → drop k (reverse cuts) ≡ c ∷ drop (k + 1) (reverse cuts)
 cut_here cuts k c lt e = at (reverse cuts) k (let n = length-reverse cuts in omega (arith, lt, n)) (e ∙ sym (get_or-reverse cuts k c lt))
   where
@@ -94,7 +94,7 @@ module _ (v : Verified) (ok : Ok v) (m : Memory) where
       (λ ne. ⊎_elim (λ none. inl (ne, none)) (λ has. inr has) (coming_or first n results h.2 a))
       (same_or a r.0)
 
-  -- a slot that stays for no cut, and has elements, has no cut's array
+  -- a slot that does not stay for a cut, and has elements, is not the slot of a cut array
   cut_or : (first n a : ℕ) (c : Option Halves) (parts : List ℕ) (given round : ℕ) (rest : List ℕ) → CutIn m first n c parts given ok.home ok.outer round
       → is_cut_among (first + a) first (cut_cell ok.outer round first c ++ rest) ≡ false → 0 < (view m.views (first + a)).len
       → IsNotAmong a (slot_cut c) × (is_cut_among (first + a) first rest ≡ false)
@@ -117,7 +117,7 @@ module _ (v : Verified) (ok : Ok v) (m : Memory) where
           (λ ne. ((ne, tt), is))
           (same_or a h.array)
 
-  -- a slot that stays for no cut waits for nothing in the open blocks, or its array lies here already
+  -- a slot that does not stay for a cut is not waited for in the open blocks, or its array is already here
   pub round_or : (place first n : ℕ) (frames : List Frame) (around : List Around) → RoundOn v ok m place first n frames around → (a : ℕ)
       → is_cut_among (first + a) first (cut_cells ok.outer first frames around) ≡ false → 0 < (view m.views (first + a)).len
       → IsNotAmong a (all_of (arrays_round around)) ⊎ ((xs : List ℤ) × Has m (first + a) xs)
@@ -153,7 +153,7 @@ module _ (v : Verified) (ok : Ok v) (m : Memory) where
               ∙ ends_cut cell (first + k.array) top (cut_cells ok.outer first frames around) (let lt = cut.array_there in omega (arith, lt, le))
           own false q = ap (λ l. is_cut_among cell top (l ++ cut_cells ok.outer first frames around)) (not_taken (nat_le ok.outer (length around)) ((first + k.array) ∷ []) [] q) ∙ more
 
-  -- a slot that waits for nothing in the open blocks stays for no cut
+  -- a slot that is not waited for in the open blocks does not stay for a cut
   pub none_cut : (place first n : ℕ) (frames : List Frame) (around : List Around) → RoundOn v ok m place first n frames around → (a : ℕ)
       → IsNotAmong a (all_of (arrays_round around)) → is_cut_among (first + a) first (cut_cells ok.outer first frames around) ≡ false
   none_cut place first n frames [] h a none = refl
@@ -229,7 +229,7 @@ slots_both : (xs ys : Results (List ℤ)) → slots_in (xs ++ ys) ≡ slots_in x
 slots_both [] ys = refl
 slots_both (r ∷ xs) ys = ap (λ l. r.0 ∷ l) (slots_both xs ys)
 
--- some value that a call may give, and arrays for all that it took
+-- some value that a call may return, and arrays for all that it took
 pub value_for : (b : Bool) → (x : Option ℤ) × IsGiven b x
 value_for true = (Some (pos 0), tt)
 value_for false = (None, tt)
@@ -278,7 +278,7 @@ module _ (v : Verified) (ok : Ok v) (m : Machine) (s : State) (w : Waiting) (aro
   unfolding on_arrays waiting_frame frames_beyond
   beyond = on_arrays.6
 
-  -- what the call that waits reads lies behind its arrays
+  -- the arrays that the caller reads follow its own arrays
   pub reads_waiting : ReadsAll memory ok.outs waiting_frame.first_array (length w.arrays) m.first_array w.readers
   reads_waiting = (subst (λ fs. RoundReads (code_view v.code) memory ok.outs m.first_array fs (Caller w ∷ around)) frames_are
       (subst (λ a. RoundReads (code_view v.code) memory ok.outs m.first_array (reverse m.frames.items) a) is_waiting shows.arrays.4.round)).0
@@ -298,12 +298,12 @@ module _ (v : Verified) (ok : Ok v) (m : Machine) (s : State) (w : Waiting) (aro
   pub round_cells : Round v ok m.cells.items waiting_frame.first (length w.slots) in_cells.1 around
   round_cells = subst (λ (f : Frame). Round v ok m.cells.items f.first (length w.slots) in_cells.1 around) same_frame in_cells.4
 
-  -- the arrays that are cut now, the newest first, are those of the calls that wait
+  -- the arrays that are cut now, the newest first, belong to the waiting calls
   pub cuts_are : reverse m.cuts.items ≡ cut_cells ok.outer waiting_frame.first_array frames_beyond around
   cuts_are = ap reverse shows.cuts ∙ reverse-reverse (cut_cells ok.outer m.first_array (reverse m.frames.items) s.around) ∙ ap (cut_cells ok.outer m.first_array (reverse m.frames.items)) is_waiting
       ∙ ap (λ fs. cut_cells ok.outer m.first_array fs (Caller w ∷ around)) frames_are
 
-  -- each slot is full, or waited for once
+  -- each slot is full, or is waited for once
   abbrev pub waits : List ℕ
   waits = (passed ++ slots_in w.arrived) ++ all_of (arrays_round around)
 
@@ -341,7 +341,7 @@ module _ (v : Verified) (ok : Ok v) (m : Machine) (s : State) (w : Waiting) (aro
   stays_cut a e = not_taken (is_among a passed) true (is_cut_among (waiting_frame.first_array + a) waiting_frame.first_array (reverse m.cuts.items)) e
       ∙ ap (is_cut_among (waiting_frame.first_array + a) waiting_frame.first_array) cuts_are
 
-  -- an array that does not stay, and has elements, lies here
+  -- an array that does not stay, and has elements, is here
   pub lies_here : (a : ℕ) → a < length w.arrays → stays_here m.cuts.items waiting_frame.first_array passed a ≡ false
       → 0 < (view m.views.items (waiting_frame.first_array + a)).len → (xs : List ℤ) × Has memory (waiting_frame.first_array + a) xs
   lies_here a lt e some = cases (is_among a passed) refl
@@ -359,7 +359,7 @@ module _ (v : Verified) (ok : Ok v) (m : Machine) (s : State) (w : Waiting) (aro
           (λ has. has)
           (coming_or v ok memory waiting_frame.first_array (length w.arrays) w.arrived stands_on.coming a)
 
-  -- an array that is there does not stay
+  -- an array that exists does not stay
   pub full_goes : (a : ℕ) (xs : List ℤ) → slice_get w.arrays a ≡ Some (Some xs) → stays_here m.cuts.items waiting_frame.first_array passed a ≡ false
   full_goes a xs e =
       let apart = rests.apart a (ap is_full e) in
@@ -367,7 +367,7 @@ module _ (v : Verified) (ok : Ok v) (m : Machine) (s : State) (w : Waiting) (aro
       stays_cut a none ∙ none_cut v ok memory w.place waiting_frame.first_array (length w.arrays) frames_beyond around beyond a
       (not_in_second a (passed ++ slots_in w.arrived) (all_of (arrays_round around)) apart)
 
-  -- nothing is lent of an array that the spawn took, or that an open cut has
+  -- no elements are lent of an array that the spawn took, or that an open cut has
   pub passed_stays : (k a : ℕ) → slice_get passed k ≡ Some a → lent_count (stays_here m.cuts.items waiting_frame.first_array passed a) (view m.views.items (waiting_frame.first_array + a)).len ≡ 0
   passed_stays k a e = ap (λ t. lent_count t (view m.views.items (waiting_frame.first_array + a)).len)
       (taken (is_among a passed) true (is_cut_among (waiting_frame.first_array + a) waiting_frame.first_array (reverse m.cuts.items)) (is_there a passed k e))
@@ -388,7 +388,7 @@ module _ (v : Verified) (ok : Ok v) (m : Machine) (s : State) (w : Waiting) (aro
           (λ bare. ap (lent_count (stays_here m.cuts.items waiting_frame.first_array passed a)) bare ∙ none (stays_here m.cuts.items waiting_frame.first_array passed a))
           (cut_stays v ok memory w.place waiting_frame.first_array (length w.arrays) frames_beyond around beyond k a e)
 
-  -- what waits for the joins of the call lies in its cells
+  -- the values that wait for the joins of the call are in its cells
   comes_round : (frames : List Frame) (first n : ℕ) (around : List Around) → Round v ok m.cells.items first n frames around → ComesRound m.cells.items first n around
   comes_round frames first n [] r = tt
   comes_round frames first n (Caller w ∷ around) r = tt

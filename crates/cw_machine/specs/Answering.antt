@@ -14,7 +14,7 @@ use Rattle.cw_jobs.specs.declared.job.Job.{Job}
 use Rattle.cw_jobs.specs.Jobs.{IsRootOf}
 use Rattle.cw_jobs.specs.Means.{IsMeaningOf}
 
--- an effect means the job of some whole run of this code, however much is kept of it
+-- an effect means the job of some whole run of this code, with any `Detail`
 pub record IsOfWhole (v : Verified) (e : Effect) : Type 0 where
   pub args : List ℤ
   pub limit : ℕ
@@ -24,16 +24,16 @@ pub record IsOfWhole (v : Verified) (e : Effect) : Type 0 where
   pub is : IsRootOf v args limit burden detail root.parts.value
   pub means : IsMeaningOf root e
 
--- of some code
+-- an effect means the job of some whole run of some code
 abbrev pub IsOfRun : Effect → Type 0
 IsOfRun e = (v : Verified) × IsOfWhole v e
 
--- something is told of a run that ended, or memory, where there was none for it
+-- there is a result for a run that ended, or `Memory` if there was not enough memory for the result
 abbrev pub IsEndOrMemory : {A : Type 0} → Result A Fault → Type 0
 IsEndOrMemory (Ok e) = Unit {0}
 IsEndOrMemory (Err f) = f ≡ fault.Memory
 
--- something is told of it in any case
+-- there is a result
 abbrev pub IsEnd : {A : Type 0} → Result A Fault → Type 0
 IsEnd (Ok e) = Unit {0}
 IsEnd (Err f) = ⊥
@@ -43,7 +43,8 @@ abbrev pub IsTrapAfter : {A : Type 0} → Trap → (line : ℕ) → (lines : Lis
 IsTrapAfter trap line lines r =
     (output : Vec ℤ) × (r ≡ Err (fault.Trap trap line output)) × (output.items ≡ lines)
 
--- WHAT IS TOLD OF AN EFFECT, where this is told of a run that ended: memory where the effect says that it was wanting
+-- THE RESULT OF AN EFFECT, if `ended` is the result of a run that ended: `Memory` if the effect says that memory ran
+-- out
 abbrev pub TellsOf : {A : Type 0} → (ended : Option ℤ → Shown → Type 0) → Effect → Result A Fault → Type 0
 TellsOf ended (effect.Ended value shown) r = ended value shown
 TellsOf ended (effect.Joined frame replaced shown) r = ⊥
@@ -52,14 +53,14 @@ TellsOf ended (effect.OverLimit back) r = r ≡ Err fault.OverLimit
 TellsOf ended (effect.Memory back) r = r ≡ Err fault.Memory
 TellsOf ended (effect.GivenUp back) r = r ≡ Err fault.Memory
 
--- of a run that ended its value and what it has shown
+-- the result of a run that ended is its value and what it has printed and counted
 abbrev pub TakesOut : Effect → Result (Option ℤ × Shown) Fault → Type 0
 TakesOut e r = TellsOf (λ value shown. r ≡ Ok (value, shown)) e r
 
--- memory only where the effect says that it was wanting, or of a run that ended
+-- the result is `Memory` only if the effect says so, or for a run that ended
 abbrev pub IsAnswerOf : {A : Type 0} → Effect → Result A Fault → Type 0
 IsAnswerOf e r = TellsOf (λ value shown. IsEndOrMemory r) e r
 
--- memory only where the effect says so
+-- the result is `Memory` only if the effect says so
 abbrev pub AreValuesOf : {A : Type 0} → Effect → Result A Fault → Type 0
 AreValuesOf e r = TellsOf (λ value shown. IsEnd r) e r

@@ -1,4 +1,4 @@
--- A rest of the call that runs, which ran elsewhere, comes back: the machine goes on from where it came to.
+-- A continuation of the running call that was executed elsewhere is given back: the machine continues from its join.
 use Rattle.std.specs.Prelude.{◌≡◌, ◌≢◌, ℕ, zero, suc, ◌+◌, ◌<◌, ◌≤◌, ◌^◌, ℤ, true, if◌then◌else◌, List, [], ◌∷◌, ◌++◌}
 use Rattle.std.specs.Prelude.{length, Option, Some, None, slice_get, slice_set}
 use Rattle.std.specs.Option.{option_flatten}
@@ -21,7 +21,8 @@ use Rattle.cw_machine.specs.Arrays.{Out, Ok, AllAbove, taken_round}
 use Rattle.cw_machine.specs.Shows.{cell, Shows, StaysBut}
 use Rattle.cw_machine.specs.Rests.{lending}
 
--- what a slot of new arrays holds once its array has gone home: the new one, where one was made
+-- the entry of the list of new arrays for a slot after the slot's own array is returned: the new array, if one was
+-- made
 abbrev pub new_in : Option (Option Placed) → Placed → Option (Option Placed)
 new_in (Some (Some own)) p = Some (Some p)
 new_in (Some None) p = Some None
@@ -33,40 +34,40 @@ pub record IsTaken (slices : List Placed) (a : ℕ) (slices' : List Placed) : Ty
   pub bare : left.items ≡ []
   pub rest : slices' ≡ slice_set slices a left
 
--- the new array of a slot is taken in exchange for the slot's own
+-- the new array of a slot is taken in exchange for the slot's own array
 pub record IsExchanged (slices : List Placed) (replaced : List (Option Placed)) (a : ℕ)
     (replaced' : List (Option Placed))
     : Type 0 where
   pub here : slice_get replaced' a ≡ new_in (slice_get replaced a) (placed slices a)
   pub others : (b : ℕ) → b ≢ a → slice_get replaced' b ≡ slice_get replaced b
 
--- each new array in exchange for the own one of its slot
+-- each new array is taken in exchange for the own array of its slot
 abbrev pub AreMade : (back : List Placed) → (replaced made : List (Option Placed)) → Type 0
 AreMade back replaced made =
     (a : ℕ) → a < length back → slice_get made a ≡ new_in (slice_get replaced a) (placed back a)
 
--- other numbers in the array of a slot that has one
+-- other numbers in the array of a slot, if the slot has an array
 abbrev pub refilled : Slots (List ℤ) → (slot : ℕ) → List ℤ → Slots (List ℤ)
 refilled arrays a xs = if is_full (slice_get arrays a) then slice_set arrays a (Some xs) else arrays
 
--- the arrays of the first slots, so many of them, have the numbers that came home to them
+-- the arrays of the first `count` slots have the numbers that were returned to them
 abbrev pub homed : Slots (List ℤ) → (back : List Placed) → (replaced : List (Option Placed)) → (count : ℕ)
     → Slots (List ℤ)
 homed arrays back replaced zero = arrays
 homed arrays back replaced (suc n) = refilled (homed arrays back replaced n) n (home_of back replaced n).items
 
--- a slot has a new array, where there is one for it
+-- a slot has a new array, if there is one for it
 abbrev pub with_new : Slots (List ℤ) → (slot : ℕ) → Option Placed → Slots (List ℤ)
 with_new arrays a (Some p) = slice_set arrays a (Some p.items)
 with_new arrays a None = arrays
 
--- the first slots, so many of them, have their new arrays
+-- the first `count` slots have their new arrays
 abbrev pub remade : Slots (List ℤ) → (made : List (Option Placed)) → (count : ℕ) → Slots (List ℤ)
 remade arrays made zero = arrays
 remade arrays made (suc n) = with_new (remade arrays made n) n (option_flatten (slice_get made n))
 
--- a machine holds a state while slices of the call that runs are out, and these come home to them: as many, as long and
--- in the same places; and where the call has no array, with the same numbers
+-- a machine represents a state while slices of the running call are handed out, and these slices are returned:
+-- equally many, of the same lengths and at the same places; if the call has no array there, with the same numbers
 pub record ComesBack (v : Verified) (ok : Ok v) (o : Out) (m : Machine) (s : State) (back : List Placed)
     (replaced : List (Option Placed)) : Type 0 where
   pub shows : Shows v (lending ok o) m s
@@ -79,7 +80,7 @@ pub record ComesBack (v : Verified) (ok : Ok v) (o : Out) (m : Machine) (s : Sta
   pub homes : KeepsHomes o.slices back replaced
   pub empty : (a : ℕ) → slice_get s.arrays a ≡ Some None → (home_of back replaced a).items ≡ (placed o.slices a).items
 
--- a machine holds some state while these slices come home
+-- a machine represents some state while these slices are returned
 pub record MayHome (m : Machine) (slots : ℕ) (lent : List ℕ) (back : List Placed) (replaced : List (Option Placed))
     : Type 0 where
   pub code : Verified
@@ -90,28 +91,29 @@ pub record MayHome (m : Machine) (slots : ℕ) (lent : List ℕ) (back : List Pl
   pub slots_are : out.slots ≡ slots
   pub lent_are : out.lent ≡ lent
 
--- each state that it held it holds with the numbers that came home
+-- each state that the machine represented it represents with the returned numbers
 abbrev pub LaysHomes : Machine → (slots : ℕ) → (lent : List ℕ) → List Placed → List (Option Placed) → Machine → Type 0
 LaysHomes m slots lent back replaced m' =
     (v : Verified) (ok : Ok v) (o : Out) (s : State) → ComesBack v ok o m s back replaced → o.slots ≡ slots
     → o.lent ≡ lent → Shows v ok m' (record s { arrays = homed s.arrays back replaced slots })
 
--- the same, by what was lent
+-- `MayHome` and `LaysHomes` for the slots that were lent by these loans
 abbrev pub MayLayHomes : Machine → (slots : ℕ) → List Loan → List Placed → List (Option Placed) → Type 0
 MayLayHomes m slots lent back replaced = MayHome m slots (slots_lent lent) back replaced
 
 abbrev pub Homes : Machine → (slots : ℕ) → List Loan → List Placed → List (Option Placed) → Machine → Type 0
 Homes m slots lent back replaced m' = LaysHomes m slots (slots_lent lent) back replaced m'
 
--- a slot of the call that runs may have a new array: no cut has its part there, no call that waits its array, and the
--- run was given no share for it
+-- a slot of the running call may get a new array: no part of a cut is there, no array that a waiting call passed, and
+-- the run was given no share for it
 pub record IsFree (v : Verified) (ok : Ok v) (s : State) (a : ℕ) : Type 0 where
   pub full : is_full (slice_get s.arrays a) ≡ true
   pub apart : IsNotAmong a (parts_round s.around)
   pub past : taken_round ok.params s.around ≤ a
   pub spared : AreBlocks s.around → a < ok.slots → 0 < (placed ok.given a).spot.halved → ⊥
 
--- a machine holds a state with nothing out of the call that runs, whose slots are so many, and may have these arrays
+-- a machine represents a state with nothing handed out of the running call, which has `count` array slots and may get
+-- these arrays
 pub record MakesNew (v : Verified) (ok : Ok v) (m : Machine) (s : State) (made : List (Option Placed)) (count : ℕ)
     : Type 0 where
   pub shows : Shows v ok m s
@@ -119,20 +121,20 @@ pub record MakesNew (v : Verified) (ok : Ok v) (m : Machine) (s : State) (made :
   pub wide : length s.arrays ≡ count
   pub each : (a : ℕ) (p : Placed) → slice_get made a ≡ Some (Some p) → a < count → IsFree v ok s a × IsOwn p
 
--- a machine holds some state that may have these new arrays
+-- a machine represents some state that may get these new arrays
 pub record MayMake (m : Machine) (made : List (Option Placed)) (count : ℕ) : Type 0 where
   pub code : Verified
   pub ok : Ok code
   pub state : State
   pub makes : MakesNew code ok m state made count
 
--- each state that it held it holds with the new arrays
+-- each state that the machine represented it represents with the new arrays
 abbrev pub LaysMade : Machine → List (Option Placed) → (count : ℕ) → Machine → Type 0
 LaysMade m made count m' =
     (v : Verified) (ok : Ok v) (s : State) → MakesNew v ok m s made count
     → Shows v ok m' (record s { arrays = remade s.arrays made count })
 
--- a new array lies in the block of a cell, and nothing else changed
+-- a new array is in the block of a cell, and nothing else changed
 pub record HasMade (m : Machine) (cell : ℕ) (xs : List ℤ) (m' : Machine) : Type 0 where
   pub block : Lodged
   pub are : block.cells ≡ ins xs
@@ -149,17 +151,17 @@ pub record HasStayed (m m' : Machine) : Type 0 where
   pub views : m'.views.items ≡ m.views.items
   pub rest : StaysBut m m'
 
--- a new array may become that of a cell, where there is one
+-- a new array, if there is one, may become the array of a cell
 abbrev pub MayTakeNew : Machine → (cell : ℕ) → Option Placed → Type 0
 MayTakeNew m cell (Some p) = IsOwn p × (cell < length m.views.items) × (cell < length m.blocks.items)
 MayTakeNew m cell None = Unit {0}
 
--- and it is that
+-- a new array, if there is one, is the array of a cell
 abbrev pub HasNew : Machine → (cell : ℕ) → Option Placed → Machine → Type 0
 HasNew m cell (Some p) m' = HasMade m cell p.items m'
 HasNew m cell None m' = HasStayed m m'
 
--- a cell of a call has a value that came back, but for the slot that has the result of its call already
+-- a cell of a call has a value that came back, except the slot that already has the result of its call
 pub record HasCell (first k : ℕ) (x : ℤ) (target : Option ℕ) (old new : List ℤ) : Type 0 where
   pub kept : target ≡ Some k → new ≡ old
   pub laid : Some k ≢ target → new ≡ slice_set old (first + k) x
@@ -167,7 +169,7 @@ pub record HasCell (first k : ℕ) (x : ℤ) (target : Option ℕ) (old new : Li
 abbrev pub LaysCell : Machine → (k : ℕ) → ℤ → (target : Option ℕ) → Machine → Type 0
 LaysCell m k x target m' = HasCell m.first k x target m.cells.items m'.cells.items
 
--- the cells of a call have the values that came back, but for the slot that has the result of its call already
+-- the cells of a call have the values that came back, except the slot that already has the result of its call
 pub record HasFilled (first : ℕ) (back : List ℤ) (target : Option ℕ) (old new : List ℤ) : Type 0 where
   pub as_many : length new ≡ length old
   pub below : (k : ℕ) → k < first → cell new k ≡ cell old k
@@ -177,7 +179,8 @@ pub record HasFilled (first : ℕ) (back : List ℤ) (target : Option ℕ) (old 
 abbrev pub LaysCells : Machine → (back : List ℤ) → (target : Option ℕ) → Machine → Type 0
 LaysCells m back target m' = HasFilled m.first back target m.cells.items m'.cells.items
 
--- what waits for the join of a block: the newest came of its own spawns, and the others waited before its run began
+-- the values and arrays that wait for the join of a block: the newest results come from its own spawns, the others
+-- waited before its run began
 pub record Waits (s : State) : Type 0 where
   pub newest : Results ℤ
   pub others : Results ℤ
@@ -186,7 +189,7 @@ pub record Waits (s : State) : Type 0 where
   pub other_arrays : Results (List ℤ)
   pub are_arrays : s.arrived ≡ newest_arrays ++ other_arrays
 
--- the block goes on from a join: what came of its own spawns goes back into its slots, and the others wait on
+-- the block continues after a join: the results of its own spawns go into their slots, and the others still wait
 abbrev pub went_on : (s : State) → Standing → Waits s → State
 went_on s frame waits = record s {
   place = frame.place;
@@ -197,42 +200,43 @@ went_on s frame waits = record s {
   arrived = waits.other_arrays;
 }
 
--- each result that waits lies in the cell of its slot, but for that of one slot
+-- each waiting result is in the cell of its slot, except for one slot
 abbrev pub ComesBut : (target : Option ℕ) → List ℤ → Results ℤ → Type 0
 ComesBut target cells [] = Unit {0}
 ComesBut target cells (r ∷ results) = (Some r.0 ≢ target → cell cells r.0 ≡ r.1) × ComesBut target cells results
 
--- and so does each that the open blocks of a call wait for
+-- `ComesBut` for each open block of a call
 abbrev pub RoundComesBut : (target : Option ℕ) → List ℤ → List Around → Type 0
 RoundComesBut target cells [] = Unit {0}
 RoundComesBut target cells (Caller w ∷ around) = Unit {0}
 RoundComesBut target cells (Block o ∷ around) = ComesBut target cells o.results × RoundComesBut target cells around
 
--- two places lie in the same function
+-- two pcs are in the same function
 abbrev pub AreTogether : (v : Verified) → Ok v → (place place' : ℕ) → Type 0
 AreTogether v ok place place' =
     (seat : Seat (code_view v.code) ok.verified.fits place) (seat' : Seat (code_view v.code) ok.verified.fits place')
     → seat'.index ≡ seat.index
 
--- what came back for the array slots that were empty: what they had, and no new array
+-- the array slots that were empty keep what they had, and get no new array
 pub record KeepsSlots (s : State) (o : Out) (back : Rest) (replaced : List (Option Placed)) : Type 0 where
   pub own : (a : ℕ) → slice_get s.arrays a ≡ Some None → IsOwnIn replaced a
   pub items : (a : ℕ) → slice_get s.arrays a ≡ Some None
       → (placed back.slices.items a).items ≡ (placed o.slices a).items
 
--- a machine holds a state while slices of the call that runs are out, and their rest came back at this frame
+-- a machine represents a state while slices of the running call are handed out, and the continuation has come back
+-- with this frame
 pub record IsGiving (v : Verified) (ok : Ok v) (o : Out) (m : Machine) (s : State) (frame : Standing) (waits : Waits s)
     (back : Rest) (replaced : List (Option Placed)) (count : ℕ) (lent : List ℕ) (target : Option ℕ) : Type 0 where
   pub slots_are : o.slots ≡ count
   pub lent_are : o.lent ≡ lent
-  -- as many as the call has
+  -- `o.slots` is the number of array slots that the call has
   pub wide : o.slots ≡ length s.arrays
-  -- the rest reads what the call does
+  -- the continuation reads what the call reads
   pub readers : frame.readers ≡ s.readers
   pub shows : Shows v (lending ok o) m s
   pub above : AllAbove ok.outs (length s.around)
   pub level : o.level ≡ length s.around
-  -- what went out was the arrays that the call has
+  -- the handed-out slices were the arrays that the call has
   pub had : HasArrays o.slices s.arrays
   pub together : AreTogether v ok s.place frame.place
   pub good : GoodState (code_view v.code) ok.verified.fits (went_on s frame waits)
@@ -240,19 +244,20 @@ pub record IsGiving (v : Verified) (ok : Ok v) (o : Out) (m : Machine) (s : Stat
   pub homes : KeepsHomes o.slices back.slices.items replaced
   pub fixed : KeepsFixed v ok.verified s.place replaced
   pub slots : KeepsSlots s o back replaced
-  -- what waited as the rest went out lies in its cells still
+  -- the values that waited when the continuation was handed out are still in its cells
   pub comes : ComesBut target back.cells.items s.results
   pub round : RoundComesBut target back.cells.items s.around
-  -- the result of the call that was spawned waits for its slot
+  -- the result of the spawned call waits for its slot
   pub awaits : (a : ℕ) → target ≡ Some a → IsNotAmong a (slots_in waits.newest) → ⊥
 
--- each state that a machine held while the rest ran it holds now at the join to which the rest came
+-- each state that the machine represented while the continuation was executed it now represents at the continuation's
+-- join
 abbrev pub Gives : Machine → Rest → List (Option Placed) → (slots : ℕ) → (lent : List ℕ) → Option ℕ → Machine → Type 0
 Gives m back replaced slots lent target m' =
     (v : Verified) (ok : Ok v) (o : Out) (s : State) (frame : Standing) (waits : Waits s)
     → IsGiving v ok o m s frame waits back replaced slots lent target → Shows v ok m' (went_on s frame waits)
 
--- a machine holds some state while the rest ran that comes back
+-- a machine represents some state, and the continuation that comes back was executed in that state
 pub record MayGive (m : Machine) (back : Rest) (replaced : List (Option Placed)) (slots : ℕ) (lent : List ℕ)
     (target : Option ℕ) : Type 0 where
   pub code : Verified
@@ -263,7 +268,7 @@ pub record MayGive (m : Machine) (back : Rest) (replaced : List (Option Placed))
   pub waits : Waits state
   pub gives : IsGiving code ok out m state frame waits back replaced slots lent target
 
--- the same, by what was lent
+-- `MayGive` and `Gives` for the slots that were lent by these loans
 abbrev pub MayGiveRest : Machine → Rest → List (Option Placed) → (slots : ℕ) → List Loan → Option ℕ → Type 0
 MayGiveRest m back replaced slots lent target = MayGive m back replaced slots (slots_lent lent) target
 

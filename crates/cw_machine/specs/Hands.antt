@@ -1,5 +1,5 @@
--- The rest of a block is handed out at a spawn: arrays of the call that waits are out, and the machine goes on showing
--- the same state.
+-- The continuation of a block is handed out at a spawn: arrays of the caller are handed out, and the machine still
+-- represents the same state.
 use Rattle.std.specs.Prelude.{◌≡◌, ◌⊎◌, ℕ, zero, suc, ◌+◌, ◌-◌, ◌<◌, ◌≤◌, ℤ, Bool, true, false, if◌then◌else◌, nat_lt}
 use Rattle.std.specs.Prelude.{nat_eq, List, [], ◌∷◌, ◌++◌, length, map, replicate, reverse, Some, slice_get}
 use Rattle.std.specs.Prelude.{slice_set}
@@ -25,38 +25,38 @@ use Rattle.cw_machine.specs.Shows.{cell, Comes, Shows, SharesFrozen, StaysBut}
 use Rattle.cw_machine.specs.Rests.{lending, AreBare}
 use Rattle.cw_machine.specs.declared.hands.Lender.{Lender}
 
--- a cell is among those of arrays that are cut, the newest first, before the first one below another cell: the newest
--- are those of the call that waits nearest, and those of the calls below it lie below its first cell
+-- a cell is one of the cells of arrays that are cut, the newest first, before the first one below `first`: the newest
+-- belong to the nearest waiting call, and the cells of older calls are below its first cell
 abbrev pub is_cut_among : (cell first : ℕ) → List ℕ → Bool
 is_cut_among cell first [] = false
 is_cut_among cell first (c ∷ cells) =
     if nat_lt c first then false else (if nat_eq c cell then true else is_cut_among cell first cells)
 
--- the array in a slot of the call at a first cell stays here: a spawn took it, or an open cut of that call has it
+-- the array in a slot of the call at `first` is not handed out: the spawn took it, or an open cut of that call has it
 abbrev pub stays_here : (cuts : List ℕ) (first : ℕ) (passed : List ℕ) (slot : ℕ) → Bool
 stays_here cuts first passed a =
     if is_among a passed then true else is_cut_among (first + a) first (reverse cuts)
 
--- the frame at the end of those of the calls that wait
+-- the last of the frames of the waiting calls
 abbrev pub IsLast : List Frame → Frame → Type 0
 IsLast frames f = slice_get frames (length frames - 1) ≡ Some f
 
--- so many numbers of an array are lent
+-- how many numbers of an array are lent
 abbrev pub lent_count : (stays : Bool) (len : ℕ) → ℕ
 lent_count true len = 0
 lent_count false len = len
 
--- an array lies in a machine's own blocks, all in
+-- an array is in a machine's own blocks, all of it in
 pub record HasAll (views : List View) (blocks : List Lodged) (cell : ℕ) : Type 0 where
   pub there : (view views cell).block < length blocks
   pub within : (view views cell).from + (view views cell).len ≤ length (block blocks (view views cell).block).cells
   pub all : AreIn (block blocks (view views cell).block).cells (view views cell).from (view views cell).len
 
--- the rights to so many places from where a view lies
+-- the rights to the places of the block of a view
 abbrev pub rights_at : List Lodged → View → List ℕ
 rights_at blocks w = (block blocks w.block).rights
 
--- the array of a cell may be lent, where there is one to lend: no share of it is out
+-- the array of a cell may be lent, if there is one to lend: no share of it is out
 pub record MayLend (m : Machine) (cell : ℕ) (stays : Bool) : Type 0 where
   pub seen : cell < length m.views.items
   pub there : 0 < lent_count stays (view m.views.items cell).len → HasAll m.views.items m.blocks.items cell
@@ -64,14 +64,14 @@ pub record MayLend (m : Machine) (cell : ℕ) (stays : Bool) : Type 0 where
       let w = view m.views.items cell in
       AreHalved (rights_at m.blocks.items w) w.from w.len (block m.blocks.items w.block).spot.halved
 
--- the array of a cell may be shared, where there is one: as often as others share one place of it they share each
+-- the array of a cell may be shared, if there is one: all its places are shared equally often
 pub record MayShare (m : Machine) (cell : ℕ) : Type 0 where
   pub seen : cell < length m.views.items
   pub there : 0 < (view m.views.items cell).len → HasAll m.views.items m.blocks.items cell
   pub alike : 0 < (view m.views.items cell).len →
       let w = view m.views.items cell in AreAlike (rights_at m.blocks.items w) w.from w.len
 
--- so many numbers from where a view lies are out
+-- the blocks after `count` numbers from the beginning of a view on were lent
 abbrev pub parted : List Lodged → View → (count : ℕ) → List Lodged
 parted blocks w zero = blocks
 parted blocks w (suc n) =
@@ -79,7 +79,7 @@ parted blocks w (suc n) =
     slice_set blocks w.block
     (record { cells = patched w.from (outs (suc n)) old.cells; rights = old.rights; spot = old.spot })
 
--- the right to so many places from where a view lies was halved, so often in all
+-- the blocks after the right to `count` places from the beginning of a view on was halved, `times` times in total
 abbrev pub shared_by : List Lodged → View → (count times : ℕ) → List Lodged
 shared_by blocks w zero d = blocks
 shared_by blocks w (suc n) d =
@@ -87,7 +87,7 @@ shared_by blocks w (suc n) d =
     slice_set blocks w.block
     (record { cells = old.cells; rights = patched w.from (replicate (suc n) d) old.rights; spot = old.spot })
 
--- the array of a cell was lent, if it does not stay, and nothing else changed
+-- the array of a cell is lent, unless it stays, and nothing else changed
 pub record HasLentOut (m : Machine) (cell : ℕ) (stays : Bool) (p : Placed) (m' : Machine) : Type 0 where
   pub bare : length p.items ≡ 0 → IsOwn p
   pub count : length p.items ≡ lent_count stays (view m.views.items cell).len
@@ -99,7 +99,7 @@ pub record HasLentOut (m : Machine) (cell : ℕ) (stays : Bool) (p : Placed) (m'
   pub views : m'.views.items ≡ m.views.items
   pub rest : StaysBut m m'
 
--- the array of a cell was shared, and nothing else changed
+-- the array of a cell is shared, and nothing else changed
 pub record HasShared (m : Machine) (cell : ℕ) (p : Placed) (m' : Machine) : Type 0 where
   pub bare : length p.items ≡ 0 → IsOwn p
   pub count : length p.items ≡ (view m.views.items cell).len
@@ -115,33 +115,33 @@ pub record HasShared (m : Machine) (cell : ℕ) (p : Placed) (m' : Machine) : Ty
   pub views : m'.views.items ≡ m.views.items
   pub rest : StaysBut m m'
 
--- the slice with this number of a call at a first cell may be handed out, as a share or not
+-- the slice of this number of a call at `first` may be handed out, as a share or not
 abbrev pub MayHandOne : Machine → (first slice : ℕ) → (shared : Bool) → (passed : List ℕ) → Type 0
 MayHandOne m first a true passed = MayShare m (first + a)
 MayHandOne m first a false passed = MayLend m (first + a) (stays_here m.cuts.items first passed a)
 
--- and it was
+-- the slice of this number was handed out
 abbrev pub HasHanded : Machine → (first slice : ℕ) → (shared : Bool) → (passed : List ℕ) → Placed → Machine → Type 0
 HasHanded m first a true passed p m' = HasShared m (first + a) p m'
 HasHanded m first a false passed p m' = HasLentOut m (first + a) (stays_here m.cuts.items first passed a) p m'
 
--- slices of a call that waits are out, from a cell on below another, with so many blocks and calls round it: so many of
--- them are of slots, and these slots the spawned call was lent
+-- the slices of a waiting call that are handed out: `level` blocks and calls enclose it, its cells are from `first`
+-- to `floor`, `slots` of the slices belong to slots, and the slots `lent` were lent to the spawned call
 abbrev pub out_of : (level first floor slots : ℕ) → (lent : List ℕ) → List Placed → Out
 out_of level first floor slots lent slices =
     record { level = level; first = first; floor = floor; slots = slots; lent = lent; slices = slices }
 
--- what waits for the joins of the open blocks of a call lies in the cells of its slots
+-- the values that wait for the joins of the open blocks of a call are in the cells of its slots
 abbrev pub ComesRound : List ℤ → (first slots : ℕ) → List Around → Type 0
 ComesRound cells first slots [] = Unit {0}
 ComesRound cells first slots (Caller w ∷ around) = Unit {0}
 ComesRound cells first slots (Block o ∷ around) =
     Comes cells first slots o.results × ComesRound cells first slots around
 
--- the call that waits nearest is handed out, whose first array slot has this cell: the machine shows the same state
--- with
--- its arrays out; the rest, as parts that go to the join, is the job of the rest of the block; what waits for the joins
--- of that call lies in the rest too; and the rest has nothing of what the spawn took
+-- the caller, whose first array slot has cell `first`, is handed out: the machine represents the same state with the
+-- caller's arrays handed out; the continuation, as parts with extent `ToJoin`, is the job of the remaining block;
+-- what waits for the joins of that call is also in the continuation; and the continuation has nothing that the spawn
+-- took
 pub record HandedOut (v : Verified) (ok : Ok v) (m : Machine) (s : State) (w : Waiting) (around : List Around)
     (passed : List ℕ) (lent : List Loan) (first slots : ℕ) (m' : Machine) (r : Rest) : Type 0 where
   pub slots_are : slots ≡ length w.arrays
@@ -151,9 +151,9 @@ pub record HandedOut (v : Verified) (ok : Ok v) (m : Machine) (s : State) (w : W
   pub comes : Comes r.cells.items 0 (length w.slots) w.results × ComesRound r.cells.items 0 (length w.slots) around
   pub taken : AreNone r.slices.items passed
 
--- a spawn has just begun its call: the call that spawned waits nearest, with no operand, these slots were taken, these
--- arrays were lent, and that call keeps them, all that is out is of calls below it, and what the run was given as shares
--- its first call only reads
+-- a spawn has just begun its call: the caller waits, without operands, these slots were taken, these arrays were lent
+-- and the caller keeps them, everything that is handed out belongs to calls below the caller, and the first call of
+-- the run only reads the shares that it was given
 pub record Hands (v : Verified) (ok : Ok v) (m : Machine) (s : State) (w : Waiting) (around : List Around)
     (passed : List ℕ) (lent : List Loan) : Type 0 where
   pub shows : Shows v ok m s
@@ -166,7 +166,7 @@ pub record Hands (v : Verified) (ok : Ok v) (m : Machine) (s : State) (w : Waiti
   pub above : AllAbove ok.outs (length around)
   pub frozen : SharesFrozen v ok s
 
--- a machine may hand out the call that waits nearest
+-- a machine may hand out its caller
 pub record MayHand (code : Verified) (m : Machine) (passed : List ℕ) (lent : List Loan) : Type 0 where
   pub ok : Ok code
   pub state : State
@@ -174,8 +174,8 @@ pub record MayHand (code : Verified) (m : Machine) (passed : List ℕ) (lent : L
   pub around : List Around
   pub hands : Hands code ok m state waiting around passed lent
 
--- a machine may hand out the arrays of the call that waits nearest, which has so many, from a cell on: so many of its
--- slots, and those that it reads
+-- a machine may hand out the arrays of its caller, which has `count` arrays from cell `first` on: `slots` of them are
+-- of its slots, the others it reads
 pub record MayHandArrays (m : Machine) (first : ℕ) (passed : List ℕ) (lent : List Loan) (slots count : ℕ) : Type 0
   where
     pub code : Verified
@@ -184,16 +184,16 @@ pub record MayHandArrays (m : Machine) (first : ℕ) (passed : List ℕ) (lent :
     pub slots_are : slots ≡ length may.waiting.arrays
     pub as_many : count ≡ length may.waiting.arrays + length may.waiting.readers
 
--- so many numbers of an array are in its slice: of a share all, else what does not stay here
+-- the number of elements in the slice of an array: all of a share, otherwise what does not stay
 abbrev pub handed_count : (shared stays : Bool) → (len : ℕ) → ℕ
 handed_count true stays len = len
 handed_count false stays len = lent_count stays len
 
--- a slice has the right to its places that a machine has, or has no places and is its own
+-- a slice has the machine's right to its places, or it has no places and one owner
 abbrev pub IsAsOwn : Machine → (cell : ℕ) → Placed → Type 0
 IsAsOwn m cell p = IsOwn p ⊎ (p.spot.halved ≡ (block m.blocks.items (view m.views.items cell).block).spot.halved)
 
--- the arrays of that call are out as these slices, each with what its array has that does not stay here
+-- the arrays of the caller are handed out as these slices, each with the part of its array that does not stay
 pub record HandsArrays (m : Machine) (first : ℕ) (passed : List ℕ) (lent : List Loan) (slots : ℕ) (m' : Machine)
     (slices : List Placed) : Type 0 where
   pub stays : StaysBut m m'
@@ -210,14 +210,14 @@ pub record HandsArrays (m : Machine) (first : ℕ) (passed : List ℕ) (lent : L
       → length slices ≡ length w.arrays + length w.readers
       → Shows v (lending ok (out_of (length around) first m.first_array slots (slots_lent lent) slices)) m' s
 
--- the same, of this call
+-- `MayHandArrays` and `HandsArrays` for this lender
 abbrev pub MayHandAll : Machine → Lender → List ℕ → List Loan → List Placed → Type 0
 MayHandAll m lender passed lent slices = MayHandArrays m lender.first passed lent lender.slots (length slices)
 
 abbrev pub HandsAll : Machine → Lender → List ℕ → List Loan → Machine → List Placed → Type 0
 HandsAll m lender passed lent m' slices = HandsArrays m lender.first passed lent lender.slots m' slices
 
--- whatever state of this code it held, it holds it while the call is out
+-- each state of this code that the machine represented it represents with the caller handed out
 abbrev pub HandsOut : Verified → Machine → List ℕ → List Loan → (first slots : ℕ) → Machine → Rest → Type 0
 HandsOut v m passed lent first slots m' r =
     (ok : Ok v) (s : State) (w : Waiting) (around : List Around)
@@ -226,11 +226,11 @@ HandsOut v m passed lent first slots m' r =
 abbrev pub Lends : Verified → Machine → List ℕ → List Loan → Machine → Rest → Lender → Type 0
 Lends v m passed lent m' r lender = HandsOut v m passed lent lender.first lender.slots m' r
 
--- more slices, which have no numbers
+-- slices without numbers are appended
 abbrev pub HasMoreBare : List Placed → List Placed → Type 0
 HasMoreBare slices slices' = (more : List Placed) × AreBare more × (slices' ≡ slices ++ more)
 
--- a rest is as it was, but that it may have more slices without numbers
+-- a continuation is unchanged, but may have more slices without numbers
 pub record HasGrown (r r' : Rest) : Type 0 where
   pub place : r'.place ≡ r.place
   pub depth : r'.depth ≡ r.depth

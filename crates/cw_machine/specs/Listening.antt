@@ -1,4 +1,4 @@
--- What a listener keeps of a run: whoever is told of each instruction that begins, ends or joins a part of it.
+-- The record of a listener: each instruction that begins, ends or joins a part of the run is reported to it.
 use Rattle.std.specs.Prelude.{◌≡◌, ◌<◌, ℕ, ◌+◌, ℤ, Bool, List, [], Option, Some}
 use Rattle.cw_model.specs.declared.limits.TheConstants.{MOST_LIMIT}
 use Rattle.cw_model.specs.Frames.{no_frame}
@@ -23,17 +23,17 @@ use Rattle.cw_machine.specs.Arrays.{IsFit, Ok, alone}
 use Rattle.cw_machine.specs.Shows.{Shows, MayGo, Follows}
 use Rattle.cw_machine.specs.Telling.{opens_round, After, Tells}
 
--- what is kept of a run so far, of so many instructions: the parts that are open, and the events of the innermost one
+-- the record of a run so far, after this number of instructions: the open parts, and the events of the innermost one
 abbrev pub Keeping : Type 0 → Type 1
 Keeping W = ℕ → List Open → List Event → W → Type 0
 
--- what is kept goes from one run so far to another, by an instruction
+-- an instruction takes what is recorded from one run so far to another
 abbrev pub Goes : {W : Type 0} → Keeping W → (old new : W) → (count : ℕ) → (os os' : List Open) → (es es' : List Event)
     → Type 0
 Goes keeps old new count os os' es es' =
     count < MOST_LIMIT → IsOpen Main os → keeps count os es old → keeps (count + 1) os' es' new
 
--- a part begins, or an instruction begins, ends and joins nothing
+-- a part begins; or an instruction begins, ends and joins nothing
 abbrev pub Begins : {W : Type 0} → Keeping W → (old new : W) → (count : ℕ) → (spawned : Bool) → Option Mark → Type 0
 Begins keeps old new count spawned mark =
     (os : List Open) (es : List Event) → Goes keeps old new count os (begun spawned mark es os) es []
@@ -42,46 +42,46 @@ abbrev pub NeedsNoCall : {W : Type 0} → Keeping W → Type 0
 NeedsNoCall {W = W} keeps =
     (w : W) (count : ℕ) (os : List Open) (es : List Event) → Goes keeps w w count os os es (ticked es)
 
--- a listener was told of this instruction, after so many: whatever parts are open, it keeps the run up to where the
--- instruction leads
+-- this instruction was reported to a listener after `count` others: for all open parts, the listener records the run
+-- up to where the instruction leads
 abbrev pub IsToldOf : {W : Type 0} → Keeping W → (old new : W) → (count : ℕ) → Op → Type 0
 IsToldOf keeps old new count o =
     (code : Code) (os : List Open) (es : List Event)
     → count < MOST_LIMIT → IsOpen Main os → keeps count os es old
     → Tells (λ os es. keeps (count + 1) os es new) code o os es
 
--- a listener keeps the run up to where a move leads; nothing is said of it where memory was refused
+-- a listener records the run up to where a move leads; nothing is stated if memory ran out
 abbrev pub KeepsMove : {W : Type 0} → Keeping W → (count : ℕ) → Moved → W → Transition → Type 0
 KeepsMove keeps count moved.NoMemory w went = Unit {0}
 KeepsMove keeps count _ w went = After (λ os es. keeps count os es w) went
 
--- a machine holds this state after so many instructions, and the listener beside it keeps the run up to it
+-- a machine represents this state after `count` instructions, and its listener records the run up to it
 pub record ShowsKept {W : Type 0} (keeps : Keeping W) (v : Verified) (ok : Ok v) (count : ℕ) (m : Machine) (w : W)
     (s : State) : Type 0 where
   pub shows : Shows v ok m s
   pub kept : keeps count (opens_round s.around) s.trace.events w
 
--- the machine went where the code goes, which was the last of so many instructions
+-- the machine follows the code by the last of `count` instructions, and the listener records it
 pub record FollowsKept {W : Type 0} (keeps : Keeping W) (v : Verified) (ok : Ok v) (count : ℕ) (to : Moved)
     (m : Machine) (w : W) (went : Transition) : Type 0 where
   pub follows : Follows v ok to m went
   pub kept : KeepsMove keeps count to w went
 
--- from each state that it may hold after so many instructions, the machine went where the code goes
+-- from each state that it may represent after `count` instructions, the machine follows the code
 abbrev pub DoesKept : {W : Type 0} → Keeping W → Verified → (m : Machine) → W → (count : ℕ) → Moved → (m' : Machine) → W
     → Type 0
 DoesKept keeps v m w count to m' w' =
     (ok : Ok v) (s : State) → count < MOST_LIMIT → ShowsKept keeps v ok count m w s → MayGo v ok m s
     → FollowsKept keeps v ok (count + 1) to m' w' (step (code_view v.code) s)
 
--- a run came to its end after so many instructions, with what the code has shown
+-- a run ended after `count` instructions, with the output of the code
 pub record CameTo {W : Type 0} (keeps : Keeping W) (v : Verified) (count : ℕ) (m : Machine) (w : W) (t : Trace)
     : Type 0 where
   pub lines : m.lines.items ≡ t.lines
   pub totals : HoldsTotals (code_view v.code) m.totals.items t.updates
   pub kept : keeps count [] (whole t) w
 
--- all of so many instructions are done, and the machine holds the state that they lead to; or the run ended before
+-- all `n` instructions are executed, and the machine represents the state to which they lead; or the run ended before
 abbrev pub Reaches : {W : Type 0} → Keeping W → (v : Verified) → Ok v → (count : ℕ) → Moved → Machine → W → (n : ℕ)
     → State → Type 0
 Reaches keeps v ok count moved.On m w n s =
@@ -94,25 +94,25 @@ Reaches keeps v ok count (moved.Trapped c l) m w n s =
     steps (code_view v.code) n s ≡ Some (Trapped c l m.lines.items)
 Reaches keeps v ok count moved.NoMemory m w n s = Unit {0}
 
--- a run from main on holds some state, after so many instructions
+-- a run of `main` represents some state, after `count` instructions
 pub record IsUnderWay {W : Type 0} (keeps : Keeping W) (v : Verified) (count : ℕ) (m : Machine) (w : W) : Type 0 where
   pub verified : IsFit v
   pub state : State
   pub shows : ShowsKept keeps v (alone v verified) count m w state
 
--- whatever is asked of it
+-- a run of `main` is under way, for some request
 pub record IsGoing {A W : Type 0} (keeps : A → Keeping W) (v : Verified) (count : ℕ) (m : Machine) (w : W) : Type 0 where
   pub asked : A
   pub under_way : IsUnderWay (keeps asked) v count m w
 
--- a run did at most so many instructions, from each state that it may hold before its first one, and counted those it
--- did
+-- from each state that it may represent at its beginning, a run executed at most `n` instructions, and `count` is the
+-- number of those that it executed
 abbrev pub ReachesAny : {W : Type 0} → Keeping W → Verified → (m : Machine) → W → (n count : ℕ) → Moved
     → (m' : Machine) → W → Type 0
 ReachesAny keeps v m w n count to m' w' =
     (is : IsFit v) (s : State) → ShowsKept keeps v (alone v is) 0 m w s → Reaches keeps v (alone v is) count to m' w' n s
 
--- a run ends, after so many instructions, with what a listener keeps of its events
+-- a run ends after `count` instructions, with what a listener records of its events
 pub record EndsRun {W : Type 0} (keeps : Keeping W) (code : Code) (args : List ℤ) (n count : ℕ) (w : W) : Type 0 where
   pub value : ℤ
   pub lines : List ℤ

@@ -1,4 +1,4 @@
--- Which parts of a run each instruction begins, ends and joins.
+-- The parts of a run that each instruction begins, ends and joins.
 use Rattle.std.specs.Prelude.{◌≡◌, false, List, [], ◌∷◌, Some, None, slice_get}
 use Rattle.cw_model.specs.Syntax.{Name}
 use Rattle.cw_model.specs.Trees.{Invocation, Execution, Event}
@@ -18,27 +18,27 @@ use Rattle.cw_meter_laws.specs.Opens.{is_spawned}
 abbrev pub opens_round : List Around → List Open
 opens_round around = opens.opens_round Main around
 
--- the open parts and the events where a move leads are such, or those of the whole run where it ends
+-- `P` holds for the open parts and the events after a move, or for the events of the whole run if it ends
 abbrev pub After : (List Open → List Event → Type 0) → Transition → Type 0
 After P (On s) = P (opens_round s.around) s.trace.events
 After P (Ends v arrays t) = P [] (opens.whole t)
 After P (Stops trap line lines) = Unit {0}
 After P Stuck = Unit {0}
 
--- what holds of the parts that are open and of the events of the innermost holds once a block has ended, or a call
+-- `P` holds for the open parts and the events of the innermost one after a block has ended, or a call
 abbrev pub BlockEnds : (List Open → List Event → Type 0) → List Open → List Event → Type 0
 BlockEnds P os es = (o : Open) (outer : List Open) → os ≡ o ∷ outer → o.spawned ≡ false → P outer (ticked (closed o es))
 
 abbrev pub CallEnds : (List Open → List Event → Type 0) → List Open → List Event → Type 0
 CallEnds P os es = (o : Open) (outer : List Open) → os ≡ o ∷ outer → P outer (closed o (synced es))
 
--- once a block has begun
+-- `P` holds after a block has begun
 abbrev pub BlockBegins : (List Open → List Event → Type 0) → Code → BlockKind → List Open → List Event → Type 0
 BlockBegins P code Scope os es = P (begun false None es os) []
 BlockBegins P code (Region k) os es =
     (tag : Name) → slice_get code.tags k ≡ Some tag → P (begun false (Some (Execution tag)) es os) []
 
--- and after each instruction that does not stop the run
+-- `P` holds after each instruction that does not stop the run
 abbrev pub Tells : (List Open → List Event → Type 0) → Code → Op → List Open → List Event → Type 0
 Tells P code (op.Call d kind c) os es = P (begun (is_spawned kind) (Some (Invocation c.site)) es os) []
 Tells P code (op.Recur d kind c) os es = P (begun (is_spawned kind) None es os) []

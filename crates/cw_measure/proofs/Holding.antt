@@ -1,4 +1,4 @@
--- Counters in numbers up to a greatest one are the exact ones, cut at that number.
+-- Saturating counters are the exact counters, limited to the maximum.
 use Rattle.std.specs.Prelude.{◌≡◌, ℕ, ◌+◌, ◌<◌, max, min, zero, suc}
 use Rattle.std.proofs.Common.{sym, ◌∙◌, ap, arith}
 use Rattle.cw_measure.specs.Counters.{exactly, up_to, Counters, Unsynced, Synced, later, onward, heaviest, held}

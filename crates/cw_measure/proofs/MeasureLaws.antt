@@ -1,4 +1,4 @@
--- What a measure holds of events, one event after another.
+-- The measure of a list of events, event by event.
 use Rattle.std.specs.Prelude.{◌≡◌, ℕ, ◌+◌, ◌^◌, ◌<◌, min, List, [], ◌∷◌, ◌++◌, refl}
 use Rattle.std.proofs.Common.{sym, ◌∙◌, ap, subst, arith}
 use Rattle.cw_model.specs.declared.burden.Burden.{Burden}
@@ -13,7 +13,7 @@ use Rattle.cw_measure.specs.CounterLaws.{ticked_onward, forked_onward, onward-fr
 use Rattle.cw_measure.proofs.Holding.{held-sum, held-onward, held-heaviest}
 use Rattle.cw_measure.specs.lemmas.OpenParts.{work-append}
 
--- the work of each event
+-- the work of an event
 abbrev pub work_of : Event → ℕ
 work_of (Work k) = k
 work_of (Series t) = work t
@@ -45,7 +45,7 @@ measure_of-append burden es fs =
     ∙ sym (held-onward most_burdened (of_events burden es) (of_events burden fs) (omega arith)) in
     cc
 
--- the measure of one event alone
+-- the measure of a single event
 abbrev pub event_measure : (burden : Burden) → Event → Measured
 event_measure burden e = record { work = min most (work_of e); plain = held most (of_event no_burden e); burdened = held most_burdened (of_event burden e) }
 

@@ -1,4 +1,4 @@
--- A piece that ran apart is joined on: the strand keeps what it would keep if the piece's events had come one after another.
+-- A piece that was executed separately joins as if its events had followed in the strand.
 use Rattle.std.specs.Prelude.{◌≡◌, ℕ, ◌+◌, ◌<◌, ◌≤◌, ◌^◌, max, Bool, true, false, not, List, [], ◌∷◌, ◌++◌, refl}
 use Rattle.std.proofs.Common.{sym, ◌∙◌, ap, subst, arith}
 use Rattle.std.specs.Global.{Vec}
@@ -18,7 +18,7 @@ use Rattle.cw_measure.proofs.StrandWeightLaws.{weighs, top_in, weight_within}
 same_split : (l l' n n' : ℕ) → l ≡ l' → n ≡ n' → Split l n ≡ Split l' n'
 same_split l l' n n' e f = ap (λ (x : ℕ). Split x n) e ∙ ap (Split l') f
 
--- the piece goes on, and a child of it ends
+-- one more event in the piece: instructions, or the end of a child
 joined_more : (k : ℕ) (L M : BlockWeight) → joined_on L (gone_on k M) ≡ gone_on k (joined_on L M)
 joined_more k (Straight n) (Straight m) = ap Straight (omega arith)
 joined_more k (Split j n) (Straight m) = ap (Split j) (omega arith)
@@ -47,7 +47,7 @@ joined_all burden L M (Fork t ∷ fs) n = joined_all burden L (child_ended burde
     ∙ ap (λ (K : BlockWeight). after_all burden K fs) (joined_forked burden (burdened_span burden t) L M)
 joined_all burden L M (Join ∷ fs) n = cc
 
--- THE LAW OF PIECES
+-- the law of pieces
 pub piece_joined : (burden : Burden) (L : BlockWeight) (fs : List Event) → no_joins fs ≡ true → joined_on L (after_all burden (Straight 0) fs) ≡ after_all burden L fs
 piece_joined burden L fs n = joined_all burden L (Straight 0) fs n ∙ ap (λ (K : BlockWeight). after_all burden K fs) (joined_nothing L)
 
@@ -55,7 +55,7 @@ block_append : (burden : Burden) (os : List Open) (es fs : List Event) → block
 block_append burden [] es fs = after_all-append burden (Straight 0) es fs
 block_append burden (o ∷ os) es fs = after_all-append burden (enters o.spawned (block_weight burden os o.outer)) es fs
 
--- what a strand keeps shows the piece joined on
+-- the paths of a strand represent the run with the piece
 abbrev is_none : List BurdenedBlock → Type 0
 is_none bs = bs ≡ []
 
@@ -88,7 +88,7 @@ shows_piece burden os es fs u v first s n h g =
     (appended_at (Under burden os) first L (after_all burden (Straight 0) fs) u.now u.blocks v (split-block burden os es ∙ s)
     (record { now_is = h.now_is; blocks_are = h.blocks_are }) g.now_is g.blocks_are)
 
--- its paths fit
+-- the paths of the piece fit
 longest_top : (L : BlockWeight) (bs : List BurdenedBlock) → StandsOn is_none L bs → longest_of bs ≤ top_of L
 longest_top (Straight n) [] h = omega arith
 longest_top (Straight n) (b ∷ bs) h = cc
@@ -112,7 +112,7 @@ appended_weight old piece new first f m = λ burden os es fs s n small fits h g.
       noted_is = let a = work_append os es fs in let b = h.noted_is in let c = g.noted_is in let d = m (omega arith) in omega arith;
     }
 
--- what the code does
+-- the effect of the code
 pub paths_appended : (first : Bool) (old mid piece new : BurdenedPath) (longest : ℕ) (b : BurdenedBlock) (rest : List BurdenedBlock)
     → reversed piece.blocks.items [] ≡ b ∷ rest → strand_weight mid ≡ record
     { now = old.weight; blocks = lengthened first longest old.weight (strand_weight old).blocks }

@@ -1,4 +1,4 @@
--- A strand's weight shows a run so far, and the calls of a run keep it so.
+-- The weights of a strand represent a run so far, and each step of a run preserves this.
 use Rattle.std.specs.Prelude.{◌≡◌, ℕ, zero, suc, ◌+◌, ◌-◌, ◌<◌, ◌≤◌, ◌^◌, max, Bool, true, false, not, List, [], ◌∷◌, ◌++◌, Option, length, take, refl}
 use Rattle.std.proofs.Common.{sym, ◌∙◌, ap, subst, set, get_or, arith}
 use Rattle.cw_model.specs.declared.burden.Burden.{Burden}
@@ -146,13 +146,13 @@ top_in burden (o ∷ os) es =
 pub weight_within : (burden : Burden) (os : List Open) (es : List Event) → weight_in burden os es ≤ burdened_work_in burden os es
 weight_within burden os es = let a = top_in burden os es in let b = now_top (block_weight burden os es) in omega arith
 
--- the path of the strand that runs with the one up to its spawn
+-- the path of the current strand with the path up to its spawn
 saved_rests : (below : List BurdenedBlock → Type 0) (L : BlockWeight) (bs : List BurdenedBlock) → RestsOn below L bs → saved_of bs ≡ now_of L
 saved_rests below L [] h = absurd h
 saved_rests below (Straight n) (b ∷ bs) h = h.1
 saved_rests below (Split l n) (b ∷ bs) h = h.1
 
--- a spawned part whose block has joined: with the path up to its spawn and what it is charged its path fits
+-- the path of a spawned part whose block has joined fits, with the path up to its spawn and its charge
 pub child_fits : (burden : Burden) (mark : Option Mark) (outer : List Event) (os : List Open) (es : List Event) (v : StrandWeight)
     → has_spawned es ≡ false → FitsRun burden (in_fork mark outer os) es → ShowsWeight burden (in_fork mark outer os) es v → Fits burden v
 child_fits burden mark outer os es v e fits h =
@@ -165,7 +165,7 @@ child_fits burden mark outer os es v e fits h =
     let d = now_top (after_all burden (Straight 0) es) in
     let g = child_charge burden in let n = h.now_is in (omega arith, omega arith)
 
--- THE CALLS
+-- The methods.
 
 pub noted_weight : (burden : Burden) (os : List Open) (es fs : List Event) (old new : BurdenedPath) (count : ℕ) → Since old.noted count es fs
     → FitsRun burden os (es ++ fs) → TellsWeight burden os es old → (old.weight + (count - old.noted) < 2 ^ 128
@@ -260,7 +260,7 @@ pub weight_read : (burden : Burden) (es : List Event) (path : BurdenedPath) → 
 weight_read burden es path e h =
     h.shows.now_is ∙ straight (block_weight burden [] es) (split-block burden [] es ∙ e) ∙ top-after_all burden 0 es ∙ omega arith
 
--- blocks in a vector, the last of which is changed
+-- blocks in a vector, of which the last is changed
 pub reversed-push : (fs : List BurdenedBlock) (f : BurdenedBlock) (ls : List BurdenedBlock) → reversed (fs ++ f ∷ []) ls ≡ f ∷ reversed fs ls
 reversed-push [] f ls = refl
 reversed-push (g ∷ fs) f ls = reversed-push fs f (g ∷ ls)

@@ -1,4 +1,4 @@
--- Counters of pieces join in any grouping, and read the burdened span of the tree of their events.
+-- Counters of pieces join in any grouping, and give the burdened span of the tree of their events.
 use Rattle.std.specs.Prelude.{◌≡◌, ℕ, ◌+◌, max, List, [], ◌∷◌, ◌++◌, refl, zero, suc}
 use Rattle.std.proofs.Common.{sym, ◌∙◌, ap, arith}
 use Rattle.cw_model.specs.declared.burden.Burden.{Burden}
@@ -8,13 +8,13 @@ use Rattle.cw_measure.specs.Counters.{Sum, exactly, Counters, Unsynced, Synced, 
 use Rattle.cw_measure.specs.Counters.{synced, heaviest, of_event, of_events}
 use Rattle.cw_measure.specs.SumLaws.{IsSum, exactly_is, later-later, later-max, later-under}
 
--- the longest of two pieces and of a third
+-- the longest child of three pieces, for both groupings
 longest_regroup : (add : Sum) (S : IsSum add) (l l1 l2 k k1 : ℕ)
     → max (max l (later add k l1)) (later add (add k k1) l2) ≡ max l (later add k (max l1 (later add k1 l2)))
 longest_regroup add S l l1 l2 k k1 =
     let one = later-later add S k k1 l2 in let two = later-max add S k l1 (later add k1 l2) in omega arith
 
--- what closes after two pieces
+-- the weight up to a join after two pieces, for both groupings
 closed_regroup : (add : Sum) (S : IsSum add) (l l1 k k1 p2 : ℕ)
     → max (max l (later add k l1)) (add (add k k1) p2) ≡ max l (add k (max l1 (add k1 p2)))
 closed_regroup add S l l1 k k1 p2 =
@@ -59,7 +59,7 @@ pub onward-fresh_last : (add : Sum) (S : IsSum add) (a : Counters) → onward ad
 onward-fresh_last add S (Unsynced l k) = let e = S.last k in let f : max l 0 ≡ l = omega arith in cc
 onward-fresh_last add S (Synced p l k) = let e = S.last k in let f : max l 0 ≡ l = omega arith in cc
 
--- each call is a join with one event's counters
+-- each operation is a join with the counters of one event
 pub ticked_onward : (add : Sum) (n : ℕ) (c : Counters) → ticked add n c ≡ onward add c (Unsynced 0 n)
 ticked_onward add n (Unsynced l k) = let f : max l 0 ≡ l = omega arith in cc
 ticked_onward add n (Synced p l k) = let f : max l 0 ≡ l = omega arith in cc
@@ -73,7 +73,7 @@ pub synced_onward : (add : Sum) (S : IsSum add) (c : Counters) → synced c ≡ 
 synced_onward add S (Unsynced l k) = let e = S.last k in cc
 synced_onward add S (Synced p l k) = let e = S.last k in let f = S.last (max l k) in cc
 
--- events in two pieces
+-- the counters of a concatenation of events
 pub of_events-append : (burden : Burden) (a b : List Event)
     → of_events burden (a ++ b) ≡ onward exactly (of_events burden a) (of_events burden b)
 of_events-append burden [] b = sym (onward-fresh_first exactly exactly_is (of_events burden b))
@@ -81,7 +81,7 @@ of_events-append burden (e ∷ a) b =
     ap (onward exactly (of_event burden e)) (of_events-append burden a b) ∙ sym
     (onward-assoc exactly exactly_is (of_event burden e) (of_events burden a) (of_events burden b))
 
--- what counters say of the two parts of a tree
+-- the counters give the burdened spans of the two parts of a tree
 abbrev pub Reads : Counters → (first second : ℕ) → Type 0
 Reads (Unsynced l k) first second = (max l k ≡ first) × (0 ≡ second)
 Reads (Synced p l k) first second = (p ≡ first) × (max l k ≡ second)
@@ -126,7 +126,7 @@ reads_reading : (c : Counters) (first second : ℕ) → Reads c first second →
 reads_reading (Unsynced l k) first second h = omega arith
 reads_reading (Synced p l k) first second h = omega arith
 
--- the counters read the span of the tree of the events so far
+-- the counters give the burdened span of the tree of the events so far
 pub heaviest-of_events : (burden : Burden) (events : List Event)
     → heaviest exactly (of_events burden events) ≡ burdened_span burden (tree_of events)
 heaviest-of_events burden events =

@@ -1,36 +1,38 @@
--- Counters of a piece of one sync block: how heavy its paths are so far.
+-- Counters for a piece of one sync block: the weights of its paths so far.
 use Rattle.std.specs.Prelude.{◌≡◌, ℕ, zero, suc, ◌+◌, max, min, List, [], ◌∷◌, ◌++◌, Option, Some, None}
 use Rattle.cw_model.specs.declared.burden.Burden.{Burden}
 use Rattle.cw_model.specs.Burdens.{at_child, at_rest}
 use Rattle.cw_model.specs.Trees.{Event, Work, Series, Fork, Join, burdened_span, tree_of}
 
--- the path into the longest child, which is 0 where there is none, and the continuation; after a join what the first
--- join closed too
+-- the path through the longest child (0 if there is none) and the continuation; after a join also the heaviest path
+-- up to the first join
 pub data Counters : Type 0 where
   Unsynced : (longest continuation : ℕ) → Counters
   Synced : (prefix longest continuation : ℕ) → Counters
 
--- counters as they are stored: nothing is closed before the first join
+-- counters as they are stored: there is no prefix before the first join
 abbrev pub counters_of : (prefix : Option ℕ) → (longest continuation : ℕ) → Counters
 counters_of None l k = Unsynced l k
 counters_of (Some p) l k = Synced p l k
 
--- how two weights are added: numbers of a type stop at a greatest one
+-- addition of weights, which may saturate
 abbrev pub Sum : Type 0
 Sum = ℕ → ℕ → ℕ
 
+-- exact addition
 abbrev pub exactly : Sum
 exactly a b = a + b
 
+-- addition that saturates at a maximum
 abbrev pub up_to : (greatest : ℕ) → Sum
 up_to greatest a b = max (max a b) (min greatest (a + b))
 
--- a longest child, after so much
+-- the longest child of a later piece, after a path of weight `by`
 abbrev pub later : Sum → (by longest : ℕ) → ℕ
 later add by zero = zero
 later add by (suc longest) = add by (suc longest)
 
--- one piece of a block, and the next
+-- a piece of a block followed by the next piece
 abbrev pub onward : Sum → Counters → Counters → Counters
 onward add (Unsynced l k) (Unsynced l' k') = Unsynced (max l (later add k l')) (add k k')
 onward add (Unsynced l k) (Synced p l' k') = Synced (max l (add k p)) l' k'
@@ -42,20 +44,20 @@ onward add (Synced p l k) (Synced p' l' k') =
 abbrev pub fresh : Counters
 fresh = Unsynced 0 0
 
--- so many instructions more
+-- adds instructions
 abbrev pub ticked : Sum → ℕ → Counters → Counters
 ticked add n (Unsynced l k) = Unsynced l (add k n)
 ticked add n (Synced p l k) = Synced p l (add k n)
 
--- a child of this span more: with what its path is charged it is taken into the longest, and then what the rest's is
--- charged is added to the continuation
+-- adds a child with this span: its path, with the charge for a child, may become the longest; then the continuation
+-- gets its charge
 abbrev pub forked : Sum → Burden → (child : ℕ) → Counters → Counters
 forked add burden child (Unsynced l k) =
     Unsynced (max l (later add k (add (at_child burden) child))) (add k (at_rest burden))
 forked add burden child (Synced p l k) =
     Synced p (max l (later add k (add (at_child burden) child))) (add k (at_rest burden))
 
--- a join: what the first one closes is the prefix, and what a later one closes stays in the continuation
+-- a join: the first one ends the prefix; a later one leaves the heaviest path in the continuation
 abbrev pub synced : Counters → Counters
 synced (Unsynced l k) = Synced (max l k) 0 0
 synced (Synced p l k) = Synced p 0 (max l k)
@@ -65,23 +67,24 @@ abbrev pub heaviest : Sum → Counters → ℕ
 heaviest add (Unsynced l k) = max l k
 heaviest add (Synced p l k) = add p (max l k)
 
--- the same counters in numbers up to a greatest one
+-- the same counters with saturation at a maximum
 abbrev pub held : (greatest : ℕ) → Counters → Counters
 held g (Unsynced l k) = Unsynced (min g l) (min g k)
 held g (Synced p l k) = Synced (min g p) (min g l) (min g k)
 
--- the exact counters of one event, and of a list of events
+-- the exact counters of one event
 abbrev pub of_event : Burden → Event → Counters
 of_event burden (Work k) = Unsynced 0 k
 of_event burden (Series t) = Unsynced 0 (burdened_span burden t)
 of_event burden (Fork t) = Unsynced (at_child burden + burdened_span burden t) (at_rest burden)
 of_event burden Join = Synced 0 0 0
 
+-- the exact counters of a list of events
 abbrev pub of_events : Burden → List Event → Counters
 of_events burden [] = fresh
 of_events burden (e ∷ events) = onward exactly (of_event burden e) (of_events burden events)
 
--- exact counters read the span of the tree of their events, and those of two pieces make those of the whole
+-- exact counters give the burdened span of the tree of their events, and counters of two pieces compose
 pub record CountersReadSpans : Type 0 where
   pub reads : (burden : Burden) (es : List Event)
       → heaviest exactly (of_events burden es) ≡ burdened_span burden (tree_of es)

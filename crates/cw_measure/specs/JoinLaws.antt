@@ -1,10 +1,11 @@
--- Measures make a monoid.
+-- Measures form a monoid.
 use Rattle.std.specs.Prelude.{◌≡◌, ℕ}
 use Rattle.cw_measure.specs.Counters.{Counters, up_to}
 use Rattle.cw_measure.specs.Measured.{Measured, most, most_burdened, nothing, joined}
 use Rattle.cw_measure.specs.SumLaws.{up_to_is}
 use Rattle.cw_measure.specs.CounterLaws.{onward-assoc, onward-fresh_first, onward-fresh_last}
 
+-- a measure, by its parts
 abbrev pub record_of : ℕ → Counters → Counters → Measured
 record_of w p b = record { work = w; plain = p; burdened = b }
 

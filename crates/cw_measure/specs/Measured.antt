@@ -1,24 +1,25 @@
--- What a measure holds of the events of a piece of one sync block.
+-- The measure of the events of a piece of one sync block.
 use Rattle.std.specs.Prelude.{◌≡◌, ℕ, ◌-◌, ◌^◌, min, List, [], ◌∷◌, ◌++◌}
 use Rattle.cw_model.specs.declared.burden.Burden.{Burden}
 use Rattle.cw_model.specs.Burdens.{no_burden}
 use Rattle.cw_model.specs.Trees.{Tree, Event, Series, Fork, tree_of, work, span, burdened_span}
 use Rattle.cw_measure.specs.Counters.{Counters, up_to, onward, fresh, ticked, forked, synced, heaviest, held, of_events}
 
--- the greatest numbers that a measure holds
+-- the maximum of work and span
 abbrev pub most : ℕ
 most = 2 ^ 64 - 1
 
+-- the maximum of a burdened span
 abbrev pub most_burdened : ℕ
 most_burdened = 2 ^ 128 - 1
 
--- the work, and the counters without a burden and with it
+-- the work, and the counters without and with a burden
 pub record Measured : Type 0 where
   pub work : ℕ
   pub plain : Counters
   pub burdened : Counters
 
--- what is held of events, with what is charged at each fork
+-- the measure of events, with the charge for each fork
 abbrev pub measure_of : Burden → List Event → Measured
 measure_of burden events =
     record {
@@ -27,9 +28,11 @@ measure_of burden events =
       burdened = held most_burdened (of_events burden events);
     }
 
+-- the measure of an empty piece
 abbrev pub nothing : Measured
 nothing = record { work = 0; plain = fresh; burdened = fresh }
 
+-- the measure of two consecutive pieces
 abbrev pub joined : Measured → Measured → Measured
 joined a b =
     record {
@@ -38,14 +41,15 @@ joined a b =
       burdened = onward (up_to most_burdened) a.burdened b.burdened;
     }
 
--- the readings
+-- the span of a measure
 abbrev pub span_read : Measured → ℕ
 span_read m = heaviest (up_to most) m.plain
 
+-- the burdened span of a measure
 abbrev pub burdened_read : Measured → ℕ
 burdened_read m = heaviest (up_to most_burdened) m.burdened
 
--- so many instructions more
+-- adds instructions
 abbrev pub after_work : ℕ → Measured → Measured
 after_work n m =
     record {
@@ -54,7 +58,7 @@ after_work n m =
       burdened = ticked (up_to most_burdened) n m.burdened;
     }
 
--- a part in series, which is measured
+-- adds a part in series, given its measure
 abbrev pub after_part : Measured → Measured → Measured
 after_part part m =
     record {
@@ -63,7 +67,7 @@ after_part part m =
       burdened = ticked (up_to most_burdened) (burdened_read part) m.burdened;
     }
 
--- a spawned child, which is measured
+-- adds a spawned child, given its measure
 abbrev pub after_child : Burden → Measured → Measured → Measured
 after_child burden child m =
     record {
@@ -72,43 +76,47 @@ after_child burden child m =
       burdened = forked (up_to most_burdened) burden (burdened_read child) m.burdened;
     }
 
+-- adds a join
 abbrev pub after_join : Measured → Measured
 after_join m = record { work = m.work; plain = synced m.plain; burdened = synced m.burdened }
 
--- the readings are those of a tree: a reading above its type's greatest number is that number
+-- the readings are the measures of a tree; a reading above the maximum of its type is this maximum
 pub record ReadsTree (burden : Burden) (m : Measured) (t : Tree) : Type 0 where
   pub work_is : m.work ≡ min most (work t)
   pub span_is : span_read m ≡ min most (span t)
   pub burdened_is : burdened_read m ≡ min most_burdened (burdened_span burden t)
 
--- the measure of the events so far
+-- `m` is the measure of the events so far
 abbrev pub Measures : Burden → Measured → List Event → Type 0
 Measures burden m events = m ≡ measure_of burden events
 
--- what each call on a measure does: it was the measure of some events, and is that of what they have come to
+-- adds an event: the measure of some events becomes the measure of these events and one more
 abbrev pub AddsEvent : Measured → Measured → Event → Type 0
 AddsEvent old new e = (burden : Burden) (es : List Event) → Measures burden old es → Measures burden new (es ++ e ∷ [])
 
+-- adds a part in series: the measure of some events becomes the measure of these events and the part
 abbrev pub AddsPart : Measured → Measured → (part : Measured) → Type 0
 AddsPart old new part =
     (burden : Burden) (es : List Event) (t : Tree) → Measures burden old es → ReadsTree burden part t
     → Measures burden new (es ++ Series t ∷ [])
 
+-- adds a spawned child: the measure of some events becomes the measure of these events and the child
 abbrev pub AddsChild : Burden → Measured → Measured → (child : Measured) → Type 0
 AddsChild burden old new child =
     (es : List Event) (t : Tree) → Measures burden old es → ReadsTree burden child t
     → Measures burden new (es ++ Fork t ∷ [])
 
+-- the measures of two lists of events are joined to the measure of their concatenation
 abbrev pub JoinsEvents : Measured → Measured → (whole : Measured) → Type 0
 JoinsEvents left right whole =
     (burden : Burden) (es fs : List Event) → Measures burden left es → Measures burden right fs
     → Measures burden whole (es ++ fs)
 
--- the readings are those of the tree of the events so far
+-- the readings are the measures of the tree of the events so far
 abbrev pub ReadsEvents : Measured → Type 0
 ReadsEvents m = (burden : Burden) (es : List Event) → Measures burden m es → ReadsTree burden m (tree_of es)
 
--- the measure of events reads their tree, and those of two pieces join to that of the whole
+-- the measure of events gives the measures of their tree, and measures of two pieces compose
 pub record MeasuresReadTrees : Type 0 where
   pub reads : (burden : Burden) (es : List Event) → ReadsTree burden (measure_of burden es) (tree_of es)
   pub pieces : (burden : Burden) (es fs : List Event)

@@ -1,4 +1,4 @@
--- Lemmas that proofs of the crates above cite, with what they stand on.
+-- Lemmas for the proofs of the crates above, with the lemmas that they use.
 pub mod BlockWeights
 pub mod OpenParts
 pub mod Outermost

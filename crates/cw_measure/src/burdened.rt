@@ -1,4 +1,4 @@
-//! Counters in 128 bits, for weights with what is charged at each fork.
+//! Counters in 128 bits, for path weights with the charges of forks.
 
 ghost use Rattle.std.specs.Prelude.{◌≡◌};
 ghost use Rattle.cw_measure.specs.Counters.{up_to, onward, fresh, ticked, forked, synced, heaviest};
@@ -7,14 +7,14 @@ ghost use Rattle.cw_measure.specs.Measured.{most_burdened};
 use cw_model::burden::Burden;
 use std::marker::Model;
 
-/// How heavy the paths of a piece of one sync block are so far. Sums stop at the greatest number.
+/// The weights of the paths of a piece of one sync block so far. Sums saturate.
 #[derive(Debug, Drop)]
 pub struct Burdened {
-    // What the first join closed, if there was one.
+    // The weight of a heaviest path up to the first join, if there was a join.
     prefix: Option<u128>,
-    // The path into the longest child since the last join; 0 where there is none.
+    // The weight of the path through the longest child since the last join; 0 if there is none.
     longest: u128,
-    // The continuation since the first join, up to here.
+    // The weight of the continuation since the first join.
     continuation: u128,
 }
 
@@ -26,14 +26,14 @@ impl Model for Burdened {
     ghost view = { λ a. counters_of a.prefix a.longest a.continuation };
 }
 
-// The sum, or the greatest number.
+// Returns the saturating sum.
 fn sum_of(a: u128, b: u128) -> u128
     ensures { result ≡ up_to most_burdened a b }
 {
     a.saturating_add(b)
 }
 
-// A longest child, after so much.
+// Returns the longest child of a later piece, after a path of weight `by`.
 fn later(by: u128, longest: u128) -> u128
     ensures { result ≡ Rattle.cw_measure.specs.Counters.later (up_to most_burdened) by longest }
 {
@@ -41,7 +41,7 @@ fn later(by: u128, longest: u128) -> u128
 }
 
 impl Burdened {
-    /// The counters of an empty piece.
+    /// Returns the counters of an empty piece.
     pub fn new() -> Burdened
         ensures { result ≡ fresh }
     {
@@ -52,14 +52,14 @@ impl Burdened {
         }
     }
 
-    /// So many instructions more.
+    /// Adds `n` instructions.
     pub fn tick(&mut self, n: u128)
         ensures { self.new ≡ ticked (up_to most_burdened) n self.old }
     {
         self.continuation = sum_of(self.continuation, n);
     }
 
-    /// A spawned child of this span more.
+    /// Adds a spawned child with this span.
     pub fn fork(&mut self, burden: Burden, child: u128)
         ensures { self.new ≡ forked (up_to most_burdened) burden child self.old }
     {
@@ -68,7 +68,7 @@ impl Burdened {
         self.continuation = sum_of(self.continuation, burden.at_rest() as u128);
     }
 
-    /// A join.
+    /// Adds a join.
     pub fn sync(&mut self)
         ensures { self.new ≡ synced self.old }
     {
@@ -85,7 +85,7 @@ impl Burdened {
         }
     }
 
-    /// This piece, and then the next of the same block.
+    /// Returns the counters of this piece followed by the next piece of the same block.
     pub fn onward(self, right: Burdened) -> Burdened
         ensures { result ≡ onward (up_to most_burdened) self right }
     {
@@ -113,7 +113,7 @@ impl Burdened {
         }
     }
 
-    /// The weight of a heaviest path.
+    /// Returns the weight of a heaviest path.
     pub fn heaviest(&self) -> u128
         ensures { result ≡ heaviest (up_to most_burdened) self.now }
     {

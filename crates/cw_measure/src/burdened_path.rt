@@ -1,4 +1,4 @@
-//! The weight of a heaviest path, with what it is charged at each fork, as a strand keeps it: only a spawn pushes a block.
+//! The weight of a heaviest path of a strand, with the charges of forks. Only a spawn pushes a block.
 
 ghost use Rattle.std.specs.Prelude.{◌≡◌, ℕ, [], true, false, OnOk};
 ghost use Rattle.cw_model.specs.declared.burden.Burden.{Burden};
@@ -9,31 +9,31 @@ ghost use Rattle.cw_measure.specs.StrandWeights.{AppendsWeight, EndsChildWeight,
 use cw_model::burden::Burden;
 use std::alloc::{AllocError, Global};
 
-/// A block that has spawned since its last join, from where its strand or child began.
+/// A block that has spawned since its last join, with weights from the start of its strand or child.
 #[derive(Clone, Copy, Debug)]
 pub struct BurdenedBlock {
-    /// The weight of the heaviest path into a child that has ended; 0 where there is none.
+    /// The weight of the heaviest path through a child that has ended; 0 if there is none.
     pub longest: u128,
     /// While a child runs: the weight of the path up to its spawn.
     pub saved: u128,
 }
 
-/// The weight of the heaviest path of the strand that runs, in instructions and charges, and of the blocks round it
-/// that have spawned.
+/// The weight of the heaviest path of the current strand, in instructions and charges, and the enclosing blocks that
+/// have spawned.
 ///
-/// Each call is told the count of instructions so far, those of children that others ran included.
+/// Each method takes the number of instructions so far, including those of children that other workers executed.
 #[derive(Debug, Drop)]
 pub struct BurdenedPath {
-    /// From where the strand, or the spawned child that runs, began.
+    /// The weight from the start of the strand, or of the current spawned child.
     pub weight: u128,
-    /// The count up to which instructions are in it.
+    /// The number of instructions that are included in `weight`.
     pub noted: u64,
     /// The blocks that have spawned, the innermost last.
     pub blocks: Vec<BurdenedBlock>,
 }
 
 impl BurdenedPath {
-    /// Nothing has run. Takes no memory.
+    /// Returns the path of a run at its start. Allocates no memory.
     pub fn new(alloc: Global) -> BurdenedPath
         ensures { (burden : Burden) → TellsWeight burden [] [] result }
     {
@@ -44,8 +44,8 @@ impl BurdenedPath {
         }
     }
 
-    /// The instructions up to this count are noted: to be called before the weight is read, and, where parts in series
-    /// began or ended since the last call (`laws::late_paths_wait`), before any other call.
+    /// Includes the instructions up to this count. Call it before `weight` is read, and before any other call if
+    /// parts in series began or ended since the last call (`laws::late_paths_wait`).
     #[inline(always)]
     pub fn note(&mut self, count: u64)
         ensures tells { NotesWeight self.old self.new count }
@@ -59,7 +59,11 @@ impl BurdenedPath {
         self.noted = count;
     }
 
-    /// A spawned part begins; `first` says that its block has not spawned since its last join.
+    /// Begins a spawned part; `first` says that its block has not spawned since its last join.
+    ///
+    /// # Errors
+    ///
+    /// Returns an `AllocError` if memory runs out.
     #[inline(always)]
     pub fn spawn(&mut self, count: u64, first: bool) -> Result<(), AllocError>
         ensures { OnOk result (SpawnsWeight self.old self.new count first) }
@@ -69,7 +73,7 @@ impl BurdenedPath {
         Ok(())
     }
 
-    /// Whether there is room for a block.
+    /// Returns whether there is room for a block.
     #[inline(always)]
     pub fn has_room(&self) -> bool
         ensures { result ≡ true → HasRoomForBlock self.now }
@@ -77,7 +81,7 @@ impl BurdenedPath {
         self.blocks.len() < self.blocks.capacity()
     }
 
-    /// The first spawned part of a block since its last join begins, where there is room for a block.
+    /// Begins the first spawned part of a block since its last join. There must be room for a block.
     #[inline(always)]
     pub fn spawn_within(&mut self, count: u64)
         requires { HasRoomForBlock self.old }
@@ -87,8 +91,8 @@ impl BurdenedPath {
         self.begin_within();
     }
 
-    /// The spawned part that runs ends, its block joined: with what a path into it is charged its path may be the
-    /// longest, and the path of the strand that goes on is charged as the rest is.
+    /// Ends the current spawned part, whose block has joined: its path, with the charge for a child, may become the
+    /// longest, and the path of the continuation gets its charge.
     #[inline(always)]
     pub fn end_child(&mut self, count: u64, burden: Burden)
         ensures { EndsChildWeight self.old self.new count burden }
@@ -97,7 +101,7 @@ impl BurdenedPath {
         self.end(burden);
     }
 
-    /// A block joins that has spawned since its last join. Where it has not, there is nothing to call.
+    /// Joins a block that has spawned since its last join. A join of any other block needs no call.
     #[inline(always)]
     pub fn join(&mut self, count: u64)
         ensures { JoinsWeight self.old self.new count }
@@ -106,8 +110,13 @@ impl BurdenedPath {
         self.join_block();
     }
 
-    /// Joins the path of a piece of the block that runs, which ran apart, has no join, and of which nothing is open;
-    /// `first` says that the block has not spawned since its last join. The instructions so far of both are noted.
+    /// Appends the path of a piece of the current block that was executed separately, without joins and without open
+    /// parts; `first` says that the block has not spawned since its last join. The instructions so far of both must
+    /// be included.
+    ///
+    /// # Errors
+    ///
+    /// Returns an `AllocError` if memory runs out.
     pub fn append(&mut self, piece: &BurdenedPath, first: bool) -> Result<(), AllocError>
         ensures { OnOk result (AppendsWeight self.old piece.now self.new first) }
     {
@@ -116,7 +125,7 @@ impl BurdenedPath {
         Ok(())
     }
 
-    // The same, but for the count of instructions.
+    // Appends the paths of a piece, but not its number of instructions.
     fn append_paths(&mut self, piece: &BurdenedPath, first: bool) -> Result<(), AllocError>
         ensures weight { OnOk result (AppendsWithin self.old piece.now self.new first) }
         ensures noted { OnOk result (self.new.noted ≡ self.old.noted) }
@@ -132,7 +141,7 @@ impl BurdenedPath {
         Ok(())
     }
 
-    // The block that runs has a way of this weight into a child that has ended.
+    // Adds a path of this weight through a child that has ended to the current block.
     fn lengthen(&mut self, longest: u128, first: bool) -> Result<(), AllocError>
         ensures weight { OnOk result (Lengthens self.old self.new first longest) }
         ensures noted { OnOk result (self.new.noted ≡ self.old.noted) }
@@ -172,7 +181,7 @@ impl BurdenedPath {
         };
     }
 
-    /// The burdened span of a run, once no part is open and the block has joined.
+    /// Returns the burdened span of a run, if no part is open and the block has joined.
     pub fn weight(&self) -> u128
         ensures value { result ≡ self.now.weight }
         ensures reads { ReadsWeight self.now result }
@@ -194,7 +203,7 @@ impl BurdenedPath {
         }
     }
 
-    // A block's first spawn since its last join.
+    // Begins the first spawned part of a block since its last join.
     #[inline(always)]
     fn begin_first(&mut self) -> Result<(), AllocError>
         ensures weight { OnOk result (strand_weight self.new ≡ begins (strand_weight self.old)) }
@@ -208,7 +217,7 @@ impl BurdenedPath {
         Ok(())
     }
 
-    // The same, where there is room for a block.
+    // Begins the first spawned part of a block since its last join. There must be room for a block.
     #[inline(always)]
     fn begin_within(&mut self)
         requires { HasRoomForBlock self.old }
@@ -222,7 +231,7 @@ impl BurdenedPath {
         self.weight = 0;
     }
 
-    // A further spawn of the innermost block that has spawned.
+    // Begins a further spawned part of the innermost block that has spawned.
     #[inline(always)]
     fn begin_again(&mut self)
         ensures weight { strand_weight self.new ≡ begins_again (strand_weight self.old) }
@@ -241,7 +250,7 @@ impl BurdenedPath {
         self.weight = 0;
     }
 
-    // The spawned child that ran has ended.
+    // Ends the current spawned child.
     #[inline(always)]
     fn end(&mut self, burden: Burden)
         ensures weight { EndsWithin self.old self.new burden }
@@ -261,7 +270,7 @@ impl BurdenedPath {
         self.weight = block.saved.wrapping_add(burden.at_rest() as u128);
     }
 
-    // The innermost block that has spawned joins.
+    // Joins the innermost block that has spawned.
     #[inline(always)]
     fn join_block(&mut self)
         ensures weight { strand_weight self.new ≡ joins (strand_weight self.old) }

@@ -1,23 +1,24 @@
-//! Work, span and burdened span of a run, counted as it goes.
+//! Computes work, span and burdened span of a run while it executes.
 //!
-//! - [`Measure`] is what is counted of a piece of one sync block: its readings are those of the strand tree of the
+//! - [`Measure`] holds the measures of a piece of one sync block: its readings are those of the strand tree of the
 //!   events so far, and measures of pieces join in any grouping.
-//! - [`BurdenedPath`] is what one strand keeps of its heaviest path with burdens: only a spawn pushes a block, and calls,
-//!   scopes, regions and joins of blocks that have not spawned need no call of it.
+//! - [`BurdenedPath`] holds the heaviest burdened path of one strand: only a spawn pushes a block, and calls, scopes,
+//!   regions and joins of blocks that have not spawned need no method call.
 //!
 //! # How a run calls a `BurdenedPath`
 //!
-//! A run so far is a list of open parts, each with whether it is spawned, what it is a run of and the events of the
-//! block round it (`Open` in `specs/OpenParts`), and the events of the block that runs. `TellsWeight` says that a path
-//! tells of such a run, and each method carries that from the run before to the run after. What lies between two calls
-//! (`Since`) is any list of instructions and of joins of a block that has not spawned, so a machine counts instructions
-//! and calls only where it spawns, ends a child or joins a block that has spawned; before the weight is read, it notes.
+//! A run so far is a list of open parts and the events of the current block. Each open part has a flag for a spawn,
+//! its mark, and the events of the enclosing block (`Open` in `specs/OpenParts`). `TellsWeight` states that a path
+//! represents such a run, and each method preserves it from the run before to the run after. Between two calls
+//! (`Since`) there may be any list of instructions and of joins of a block that has not spawned. So a machine counts
+//! instructions, and calls a method only if it spawns, ends a child or joins a block that has spawned; it calls
+//! `note` before it reads the weight.
 //!
-//! After an error, which says that memory ran out, a path tells of nothing.
+//! After an error, which means that memory ran out, a path is meaningless.
 //!
-//! What calls of sites and executions of tags are summed by is one theory (`specs/Outermost`): a tally over the parts
-//! with some mark that lie in no other part with it, of whatever is metered along a part. `cw_sites` and `cw_regions`
-//! are instances.
+//! One theory (`specs/Outermost`) covers sums over invocations of sites and over executions of tags: a tally over the
+//! outermost parts with some mark, for every reading that is metered along a part. `cw_sites` and `cw_regions` are
+//! instances.
 #![tactic(auto)]
 
 mod burdened;

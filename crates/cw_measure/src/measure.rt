@@ -1,4 +1,4 @@
-//! What is counted of a piece of one sync block.
+//! The measures of a piece of one sync block.
 
 ghost use Rattle.std.specs.Prelude.{◌≡◌, ℕ, [], IsOk, IfOk};
 ghost use Rattle.cw_model.specs.declared.burden.Burden.{Burden};
@@ -13,8 +13,8 @@ use cw_model::monoid::Monoid;
 use std::alloc::{AllocError, Global};
 use std::marker::Model;
 
-/// Work, span and burdened span of a piece of one sync block, so far: at each moment the readings are those of the
-/// strand tree of the events so far, and a reading above its type's greatest number is that number.
+/// Work, span and burdened span of a piece of one sync block so far: the readings are always those of the strand tree
+/// of the events so far. A reading above the maximum of its type is this maximum.
 #[derive(Debug, Drop)]
 pub struct Measure {
     work: u64,
@@ -31,7 +31,7 @@ impl Model for Measure {
 }
 
 impl Measure {
-    /// The measure of nothing.
+    /// Returns the measure of an empty piece.
     pub fn new() -> Measure
         ensures value { result ≡ nothing }
         ensures events { (burden : Burden) → Measures burden result [] }
@@ -43,7 +43,7 @@ impl Measure {
         }
     }
 
-    /// So many instructions more.
+    /// Adds `n` instructions.
     pub fn tick(&mut self, n: u64)
         ensures value { self.new ≡ after_work n self.old }
         ensures events { AddsEvent self.old self.new (Work n) }
@@ -53,7 +53,7 @@ impl Measure {
         self.burdened.tick(n as u128);
     }
 
-    /// A part in series more: a call, a scope or a region.
+    /// Adds a part in series: a call, a scope or a region.
     pub fn called(&mut self, part: &Measure)
         ensures value { self.new ≡ after_part part.now self.old }
         ensures events { AddsPart self.old self.new part.now }
@@ -63,7 +63,7 @@ impl Measure {
         self.burdened.tick(part.burdened.heaviest());
     }
 
-    /// A spawned child more: it is taken into the longest, and then the rest begins; burdened, each with its charge.
+    /// Adds a spawned child, then begins the continuation. With a burden, both get their charges.
     pub fn spawned(&mut self, burden: Burden, child: &Measure)
         ensures value { self.new ≡ after_child burden child.now self.old }
         ensures events { AddsChild burden self.old self.new child.now }
@@ -73,7 +73,7 @@ impl Measure {
         self.burdened.fork(burden, child.burdened.heaviest());
     }
 
-    /// A join.
+    /// Adds a join.
     pub fn sync(&mut self)
         ensures value { self.new ≡ after_join self.old }
         ensures events { AddsEvent self.old self.new Join }
@@ -82,7 +82,7 @@ impl Measure {
         self.burdened.sync();
     }
 
-    /// The sum of all strands.
+    /// Returns the work, the sum of all strands.
     pub fn work(&self) -> u64
         ensures value { result ≡ self.now.work }
         ensures reads { ReadsEvents self.now }
@@ -90,7 +90,7 @@ impl Measure {
         self.work
     }
 
-    /// The weight of a heaviest path.
+    /// Returns the span, the weight of a heaviest path.
     pub fn span(&self) -> u64
         ensures value { result ≡ span_read self.now }
         ensures reads { ReadsEvents self.now }
@@ -98,7 +98,7 @@ impl Measure {
         self.plain.heaviest()
     }
 
-    /// The weight of a heaviest path with what it is charged at each fork that it runs through.
+    /// Returns the burdened span, the weight of a heaviest path with the charge for each fork that it goes through.
     pub fn burdened(&self) -> u128
         ensures value { result ≡ burdened_read self.now }
         ensures reads { ReadsEvents self.now }

@@ -1,4 +1,4 @@
-//! Counters in 64 bits, for weights with nothing charged.
+//! Counters in 64 bits, for path weights without charges.
 
 ghost use Rattle.std.specs.Prelude.{◌≡◌};
 ghost use Rattle.cw_model.specs.Burdens.{no_burden};
@@ -7,14 +7,14 @@ ghost use Rattle.cw_measure.specs.Measured.{most};
 
 use std::marker::Model;
 
-/// How heavy the paths of a piece of one sync block are so far. Sums stop at the greatest number.
+/// The weights of the paths of a piece of one sync block so far. Sums saturate.
 #[derive(Debug, Drop)]
 pub struct Plain {
-    // What the first join closed, if there was one.
+    // The weight of a heaviest path up to the first join, if there was a join.
     prefix: Option<u64>,
-    // The path into the longest child since the last join; 0 where there is none.
+    // The weight of the path through the longest child since the last join; 0 if there is none.
     longest: u64,
-    // The continuation since the first join, up to here.
+    // The weight of the continuation since the first join.
     continuation: u64,
 }
 
@@ -27,14 +27,14 @@ impl Model for Plain {
     ghost view = { λ a. counters_of a.prefix a.longest a.continuation };
 }
 
-// The sum, or the greatest number.
+// Returns the saturating sum.
 fn sum_of(a: u64, b: u64) -> u64
     ensures { result ≡ up_to most a b }
 {
     a.saturating_add(b)
 }
 
-// A longest child, after so much.
+// Returns the longest child of a later piece, after a path of weight `by`.
 fn later(by: u64, longest: u64) -> u64
     ensures { result ≡ Rattle.cw_measure.specs.Counters.later (up_to most) by longest }
 {
@@ -42,7 +42,7 @@ fn later(by: u64, longest: u64) -> u64
 }
 
 impl Plain {
-    /// The counters of an empty piece.
+    /// Returns the counters of an empty piece.
     pub fn new() -> Plain
         ensures { result ≡ fresh }
     {
@@ -53,21 +53,21 @@ impl Plain {
         }
     }
 
-    /// So many instructions more.
+    /// Adds `n` instructions.
     pub fn tick(&mut self, n: u64)
         ensures { self.new ≡ ticked (up_to most) n self.old }
     {
         self.continuation = sum_of(self.continuation, n);
     }
 
-    /// A spawned child of this span more.
+    /// Adds a spawned child with this span.
     pub fn fork(&mut self, child: u64)
         ensures { self.new ≡ forked (up_to most) no_burden child self.old }
     {
         self.longest = self.longest.max(later(self.continuation, child));
     }
 
-    /// A join.
+    /// Adds a join.
     pub fn sync(&mut self)
         ensures { self.new ≡ synced self.old }
     {
@@ -84,7 +84,7 @@ impl Plain {
         }
     }
 
-    /// This piece, and then the next of the same block.
+    /// Returns the counters of this piece followed by the next piece of the same block.
     pub fn onward(self, right: Plain) -> Plain
         ensures { result ≡ onward (up_to most) self right }
     {
@@ -112,7 +112,7 @@ impl Plain {
         }
     }
 
-    /// The weight of a heaviest path.
+    /// Returns the weight of a heaviest path.
     pub fn heaviest(&self) -> u64
         ensures { result ≡ heaviest (up_to most) self.now }
     {

@@ -1,13 +1,13 @@
-//! What rows charge for a spawn.
+//! Burdens for test cases.
 
 use cw_model::burden::{Burden, Edges};
 
-/// So much for each of these edges of a spawn.
+/// Returns this charge for these edges of each spawn.
 pub fn burden_of(edges: Edges, charge: u64) -> Burden {
     Burden { charge, edges }
 }
 
-/// So much for each continuation edge.
+/// Returns this charge for each continuation edge.
 pub fn on_spawns(charge: u64) -> Burden {
     burden_of(Edges::Spawn, charge)
 }

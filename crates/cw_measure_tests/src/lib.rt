@@ -1,5 +1,5 @@
-//! Tables of tests of what is counted and of which code fits: pieces, measures, rows, parts, and what the verifier takes,
-//! over public calls alone.
+//! Tables of test cases for measures and well-formed code: pieces, measures, rows, parts, and the code that the
+//! verifier accepts, through public functions only.
 #![tactic(auto)]
 
 #[cfg(test)]

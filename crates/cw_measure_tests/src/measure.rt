@@ -1,4 +1,4 @@
-//! Work, span and burdened span of small runs, whole and joined from pieces, by hand.
+//! Work, span and burdened span of small runs, whole and joined from pieces, worked out by hand.
 
 use crate::burdens::burden_of;
 use Told::{Call, Child, Sync, Tick};
@@ -7,33 +7,33 @@ use cw_model::burden::{Burden, Edges};
 use cw_model::monoid::Monoid;
 use std::alloc::{AllocError, Global};
 
-/// What a measure is told.
+/// A call of a method of a measure.
 #[derive(Clone, Copy)]
 enum Told {
-    /// So many instructions.
+    /// Adds instructions.
     Tick(u64),
-    /// A spawned child of so many instructions.
+    /// Adds a spawned child with this number of instructions.
     Child(u64),
-    /// The run's part in series.
+    /// Adds the run's part in series.
     Call,
-    /// A join.
+    /// Adds a join.
     Sync,
 }
 
-/// A run in pieces, and what it comes to.
+/// A run in pieces, and its measures.
 struct Run {
     name: &'static str,
-    /// A part in series, that its pieces call.
+    /// A part in series that the pieces call.
     part: &'static [Told],
     first: &'static [Told],
     more: &'static [&'static [Told]],
     work: u64,
     span: u64,
-    /// Which edges are charged and how much, and the burdened span with that.
+    /// The charged edges, the charge, and the burdened span with it.
     charged: &'static [(Edges, u64, u128)],
 }
 
-/// So many instructions.
+/// Returns the measure of a strand with this number of instructions.
 fn strand(n: u64) -> Measure {
     let mut measure = Measure::new();
     measure.tick(n);
@@ -55,21 +55,21 @@ fn tell_all(measure: &mut Measure, burden: Burden, part: &Measure, all: &[Told])
     }
 }
 
-/// The first piece of a run.
+/// Returns the measure of the first piece of a run.
 fn first_of(run: &Run, burden: Burden, part: &Measure) -> Measure {
     let mut measure = Measure::new();
     tell_all(&mut measure, burden, part, run.first);
     measure
 }
 
-/// A later piece.
+/// Returns the measure of a later piece.
 fn piece_of(alloc: Global, burden: Burden, part: &Measure, told: &[Told]) -> Measure {
     let mut measure = Measure::unit(alloc);
     tell_all(&mut measure, burden, part, told);
     measure
 }
 
-/// The pieces, joined from the first one on.
+/// Joins the pieces, starting with the first one.
 fn joined_forward(
     alloc: Global,
     run: &Run,
@@ -83,7 +83,7 @@ fn joined_forward(
     Ok(whole)
 }
 
-/// The pieces, joined from the last one on.
+/// Joins the pieces, starting with the last one.
 fn joined_backward(
     alloc: Global,
     run: &Run,
@@ -123,14 +123,14 @@ fn reads_backward(
     Ok(reads(&whole, run, burdened))
 }
 
-/// Whether a run reads so with this charge, in both groupings of its pieces.
+/// Returns whether a run has these readings with this charge, in both groupings of its pieces.
 fn reads_so(alloc: Global, run: &Run, burden: Burden, burdened: u128) -> Result<bool, AllocError> {
     let forward = reads_forward(alloc, run, burden, burdened)?;
     let backward = reads_backward(alloc, run, burden, burdened)?;
     Ok(forward && backward)
 }
 
-/// The first charge with which a run does not read so.
+/// Returns the first charge with which a run has other readings.
 fn wrong_charge(alloc: Global, run: &Run) -> Result<Option<Edges>, AllocError> {
     for (edges, charge, burdened) in run.charged {
         if !reads_so(alloc, run, burden_of(*edges, *charge), *burdened)? {
@@ -142,8 +142,8 @@ fn wrong_charge(alloc: Global, run: &Run) -> Result<Option<Edges>, AllocError> {
 
 static RUNS: [Run; 7] = [
     Run {
-        // 3 instructions, a child of 5 beside 2, a join, 1 instruction: the child is the longer one, and with a burden of
-        // 4 on the rest alone the rest is.
+        // 3 instructions, a child of 5 in parallel with 2, a join, 1 instruction: the child is longer; with a burden
+        // of 4 on the continuation only, the continuation is.
         name: "a child beside a rest",
         part: &[],
         first: &[Tick(3), Child(5), Tick(2), Sync, Tick(1)],
@@ -153,7 +153,7 @@ static RUNS: [Run; 7] = [
         charged: &[(Edges::Spawn, 4, 10), (Edges::Both, 4, 13)],
     },
     Run {
-        // The same, cut after the spawn and after the join, with an empty piece between.
+        // The run `a child beside a rest`, divided after the spawn and after the join, with an empty piece between.
         name: "a child and its rest in pieces",
         part: &[],
         first: &[Tick(3), Child(5)],
@@ -163,7 +163,7 @@ static RUNS: [Run; 7] = [
         charged: &[(Edges::Spawn, 4, 10), (Edges::Both, 4, 13)],
     },
     Run {
-        // The same, cut before the spawn, after it and after the join.
+        // The run `a child beside a rest`, divided before the spawn, after it and after the join.
         name: "a child in a piece of its own",
         part: &[],
         first: &[Tick(3)],
@@ -173,8 +173,8 @@ static RUNS: [Run; 7] = [
         charged: &[(Edges::Spawn, 4, 10), (Edges::Both, 4, 13)],
     },
     Run {
-        // Two children of 4 with 3 instructions between them, and a join at once: the second child's path takes the 3
-        // before it, and a burden of 2, or one for each of the two forks that it runs through.
+        // Two children of 4 with 3 instructions between them, and a join immediately: the second child's path has the
+        // 3 before it, and a burden of 2, or one for each of the two forks that it goes through.
         name: "two children",
         part: &[],
         first: &[Tick(1), Child(4), Tick(3), Child(4), Sync],
@@ -184,7 +184,8 @@ static RUNS: [Run; 7] = [
         charged: &[(Edges::Spawn, 2, 10), (Edges::Both, 2, 12)],
     },
     Run {
-        // A rest beside two children that join together is charged for both forks, whichever edges are charged.
+        // A continuation in parallel with two children that join together is charged for both forks, whichever edges
+        // are charged.
         name: "one rest beside two children",
         part: &[],
         first: &[Tick(1), Child(1), Tick(3), Child(1), Tick(5), Sync],
@@ -204,7 +205,7 @@ static RUNS: [Run; 7] = [
         charged: &[(Edges::Spawn, 10, 13), (Edges::Both, 10, 20)],
     },
     Run {
-        // A reading above the greatest number of its type is that number; a burdened span has 128 bits.
+        // A reading above the maximum of its type is this maximum; a burdened span has 128 bits.
         name: "readings stop at the greatest number",
         part: &[],
         first: &[Tick(u64::MAX), Child(1), Tick(1), Sync],
@@ -226,16 +227,16 @@ fn runs(rt: HostRuntime) -> Result<(), AllocError> {
     Ok(())
 }
 
-/// What a burdened path is told, at a count of instructions.
+/// A call of a method of a burdened path, at a number of instructions.
 #[derive(Clone, Copy)]
 enum Step {
-    /// A spawned child begins, and whether it is its block's first one since the last join.
+    /// A spawned child begins; the flag is true for the first child of its block since the last join.
     Spawn(u64, bool),
     /// A spawned child ends.
     EndChild(u64),
-    /// The block that runs joins.
+    /// The current block joins.
     Join(u64),
-    /// The instructions so far are noted.
+    /// The instructions so far are included.
     Note(u64),
 }
 
@@ -256,8 +257,8 @@ fn take_all(path: &mut BurdenedPath, burden: Burden, all: &[Step]) -> Result<(),
     Ok(())
 }
 
-/// 2 instructions, and a child of 1 beside 2; then the same again; then a child in the rest of a child, and a child of
-/// 100, which is the longest, and is charged on its return edge alone.
+/// 2 instructions, and a child of 1 in parallel with 2; then the same again; then a child in the continuation of a
+/// child, and a child of 100, which is the longest, and is charged on its return edge only.
 static STRETCHES: [&[Step]; 3] = [
     &[Step::Spawn(2, true), Step::EndChild(3), Step::Join(5)],
     &[
@@ -278,7 +279,7 @@ static STRETCHES: [&[Step]; 3] = [
     ],
 ];
 
-/// The weights of the path after each stretch.
+/// Returns the weights of the path after each stretch.
 fn weigh(path: &mut BurdenedPath, burden: Burden) -> Result<[u128; 3], AllocError> {
     let mut weights = [0; 3];
     for k in 0..3usize {
@@ -293,7 +294,7 @@ fn weights(alloc: Global, burden: Burden) -> Result<[u128; 3], AllocError> {
     weigh(&mut path, burden)
 }
 
-/// Which edges are charged with 10, and the weights then.
+/// The charged edges, for a charge of 10, and the weights.
 static WEIGHTS: [(Edges, [u128; 3]); 2] = [
     (Edges::Spawn, [14, 32, 133]),
     (Edges::Both, [14, 32, 143]),

@@ -1,4 +1,5 @@
-//! All measures of small runs, told instruction by instruction, by hand.
+//! All measures of small runs, reported to a meter instruction by instruction; the expected values are worked out by
+//! hand.
 
 use crate::burdens::burden_of;
 use Stage::{HandOut, InRest, On, TakeIn};
@@ -9,14 +10,14 @@ use cw_regions::RegionRow;
 use cw_sites::table::SiteRow;
 use std::alloc::{AllocError, Global};
 
-/// What a meter is told, after a count of instructions.
+/// A call of a method of a meter, after this number of instructions.
 #[derive(Clone, Copy)]
 enum Told {
-    /// A call in place of a site begins.
+    /// A plain call of a site begins.
     Call(u64, u32),
     /// A spawned call of a site begins.
     Spawn(u64, u32),
-    /// Half of a loop begins, spawned.
+    /// The spawned half of a loop begins.
     SpawnHalf(u64),
     /// A scope or a loop's function begins.
     Begin(u64),
@@ -26,24 +27,26 @@ enum Told {
     End(u64),
     /// A call, or a loop's function, joins and ends.
     GiveBack(u64),
-    /// The block that runs joins.
+    /// The current block joins.
     Sync(u64),
 }
 
-/// A stage of a run, of which rests may run apart, by meters that know their site and how much is kept alone.
+/// A stage of a run. Its continuations may be executed separately, with meters that know only their site and their
+/// level of detail.
 #[derive(Clone, Copy)]
 enum Stage {
-    /// The run's meter is told so.
+    /// The run's meter receives these calls.
     On(&'static [Told]),
-    /// A rest is handed out in the invocation that runs.
+    /// A continuation is handed out in the current invocation.
     HandOut,
-    /// The meter of the rest that was handed out last is told so.
+    /// The meter of the continuation that was handed out last receives these calls.
     InRest(&'static [Told]),
-    /// The run's meter takes that rest in, after a count of instructions, and the instructions of the rest.
+    /// The run's meter appends that continuation, after this number of instructions; the continuation has this many
+    /// instructions.
     TakeIn(u64, u64),
 }
 
-/// The meter of a run, and those of the rests that were handed out.
+/// The meter of a run, and the meters of the continuations that were handed out.
 #[derive(Drop)]
 struct Meters {
     whole: Meter,
@@ -104,17 +107,17 @@ fn go_on(
     }
 }
 
-/// A run, and what is counted of it.
+/// A run and its measures.
 struct Run {
     name: &'static str,
     stages: &'static [Stage],
     work: u64,
     span: u64,
-    /// Of each site: calls, own work, own span, work and span.
+    /// For each site: calls, own work, own span, work and span.
     sites: &'static [[u64; 5]],
-    /// Of each tag: work, span and burdened span.
+    /// For each tag: work, span and burdened span.
     regions: &'static [(u64, u64, u128)],
-    /// Which edges are charged and how much, and the burdened span with that.
+    /// The charged edges, the charge, and the burdened span with it.
     charged: &'static [(Edges, u64, u128)],
 }
 
@@ -164,7 +167,7 @@ fn are_regions(rows: &[RegionRow], wanted: &[(u64, u64, u128)]) -> bool {
     rows.len() == wanted.len()
 }
 
-/// What is counted otherwise: the readings, the sites, or the regions.
+/// Returns which measures differ: the readings, the sites, or the regions.
 fn wrong_part(all: &Measures, run: &Run, burdened: u128) -> Option<&'static str> {
     let measure = all.measure;
     if (measure.work, measure.span, measure.burdened) != (run.work, run.span, burdened) {
@@ -183,7 +186,7 @@ fn measures_of(alloc: Global, run: &Run, detail: Detail) -> Result<Measures, All
     meter.finish(alloc, run.work, run.sites.len(), run.regions.len())
 }
 
-/// What is counted otherwise with one charge.
+/// Returns which measures differ for one charge.
 fn wrong_with(
     alloc: Global,
     run: &Run,
@@ -194,7 +197,7 @@ fn wrong_with(
     Ok(wrong_part(&all, run, burdened))
 }
 
-/// The same with the first charge with which something is.
+/// Returns which measures differ for the first charge for which any do.
 fn wrong_of(alloc: Global, run: &Run) -> Result<Option<&'static str>, AllocError> {
     for (edges, charge, burdened) in run.charged {
         let wrong = wrong_with(alloc, run, burden_of(*edges, *charge), *burdened)?;
@@ -205,7 +208,8 @@ fn wrong_of(alloc: Global, run: &Run) -> Result<Option<&'static str>, AllocError
     Ok(None)
 }
 
-/// Whether a meter of values alone counts a call beside the run's own of `main`, with which it begins.
+/// Returns whether a meter of values only counts a call other than the run's own call of `main`, with which it
+/// begins.
 fn counts_a_call(alloc: Global, run: &Run) -> Result<bool, AllocError> {
     let all = measures_of(alloc, run, Detail::Values)?;
     let mut calls = 0u64;
@@ -217,7 +221,7 @@ fn counts_a_call(alloc: Global, run: &Run) -> Result<bool, AllocError> {
 
 static WHOLE_RUNS: [Run; 3] = [
     Run {
-        // Five instructions one after another, the last of them the return.
+        // Five consecutive instructions; the last is the return.
         name: "a serial run",
         stages: &[On(&[GiveBack(4)])],
         work: 5,
@@ -227,7 +231,8 @@ static WHOLE_RUNS: [Run; 3] = [
         charged: &[(Edges::Spawn, 100, 5)],
     },
     Run {
-        // A child of 3 instructions beside a rest of 3, one before and three after: on a tie the child is on the path.
+        // A child of 3 instructions in parallel with a continuation of 3, one instruction before and three after: on
+        // a tie, the child is on the path.
         name: "a child as long as the rest",
         stages: &[On(&[Spawn(0, 1), GiveBack(3), Sync(7), GiveBack(9)])],
         work: 10,
@@ -237,7 +242,8 @@ static WHOLE_RUNS: [Run; 3] = [
         charged: &[(Edges::Spawn, 10, 17)],
     },
     Run {
-        // A loop's first function spawns a half of 4 instructions and calls one of 2 in place beside it.
+        // A loop's first function spawns a half of 4 instructions, and in parallel with it makes a plain call of one
+        // of 2.
         name: "a loop by halves",
         stages: &[On(&[
             Begin(0),
@@ -258,7 +264,8 @@ static WHOLE_RUNS: [Run; 3] = [
 
 static SCOPES: [Run; 2] = [
     Run {
-        // A scope ends with a child of 5 instructions unjoined, beside which one more ran.
+        // A scope ends with an unjoined child of 5 instructions; one instruction was executed in parallel with the
+        // child.
         name: "a scope joins at its end",
         stages: &[On(&[Begin(0), Spawn(1, 1), GiveBack(6), End(8), GiveBack(11)])],
         work: 12,
@@ -268,7 +275,7 @@ static SCOPES: [Run; 2] = [
         charged: &[(Edges::Spawn, 100, 107), (Edges::Both, 100, 111)],
     },
     Run {
-        // A scope with a child of its own stands beside a child of the block round it, which joins later.
+        // A scope with a child of its own is parallel to a child of the enclosing block, which joins later.
         name: "a scope beside a child",
         stages: &[On(&[
             Spawn(0, 1),
@@ -288,7 +295,7 @@ static SCOPES: [Run; 2] = [
     },
 ];
 
-/// A region of tag 0 ends with a child of 4 instructions unjoined.
+/// A region of tag 0 ends with an unjoined child of 4 instructions.
 const A_REGION: [Stage; 1] = [On(&[
     BeginRegion(0, 0),
     Spawn(1, 1),
@@ -297,13 +304,13 @@ const A_REGION: [Stage; 1] = [On(&[
     GiveBack(7),
 ])];
 
-/// In the region, and in all, 4 instructions are the run's own, and 4 the child's, which are on the path.
+/// In the region, and in total, 4 instructions are the run's own, and 4 the child's, which are on the path.
 const SITES_OF_A_REGION: [[u64; 5]; 2] = [[1, 4, 4, 8, 8], [1, 4, 4, 4, 4]];
 
 static REGIONS: [Run; 3] = [
     Run {
-        // A region of tag 0 has 8 instructions inside, one of tag 1 in it 4, and in that lies one of tag 0 again. All 11
-        // are the run's own.
+        // A region of tag 0 has 8 instructions inside, a region of tag 1 in it has 4, and in that there is a region
+        // of tag 0 again. All 11 instructions are the run's own.
         name: "regions inside one another",
         stages: &[On(&[
             BeginRegion(0, 0),
@@ -342,7 +349,8 @@ static REGIONS: [Run; 3] = [
 
 static NESTS: [Run; 2] = [
     Run {
-        // A call of site 1 spawns, at site 2, one that spawns at site 2 again; both call at site 3 beside it.
+        // A call of site 1 spawns, at site 2, a call that spawns at site 2 again; both call at site 3 in parallel
+        // with the spawned call.
         name: "a nest of spawns",
         stages: &[On(&[
             Call(0, 1),
@@ -371,7 +379,7 @@ static NESTS: [Run; 2] = [
         charged: &[(Edges::Spawn, 100, 110), (Edges::Both, 100, 210)],
     },
     Run {
-        // The same, with the rest beside each spawned call run apart.
+        // The same run, with the continuation of each spawned call executed separately.
         name: "rests that ran apart",
         stages: &[
             On(&[Call(0, 1)]),
@@ -399,8 +407,9 @@ static NESTS: [Run; 2] = [
     },
 ];
 
-/// Site 1 spawns a call of 4 instructions; the rest of its block, of 8, calls site 1 again, and in it executes a region of
-/// the tag that is open round all of it. Work and span of both are those of the outer ones, whoever ran the rest.
+/// Site 1 spawns a call of 4 instructions; the continuation of its block, of 8, calls site 1 again, and in that call
+/// executes a region of the tag that is open around all of it. Work and span of both are the work and span of the
+/// outer ones, whether or not the continuation was executed separately.
 static INSIDE_ITSELF: [Run; 2] = [
     Run {
         name: "a rest inside its own site and tag",

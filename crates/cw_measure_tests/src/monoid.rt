@@ -7,7 +7,7 @@ use std::alloc::{AllocError, Global};
 use std::marker::Model;
 use std::test::Fail;
 
-/// Numbers one after another.
+/// A list of numbers.
 #[derive(Drop)]
 struct Listed {
     numbers: Vec<u8>,
@@ -49,7 +49,7 @@ impl Monoid for Listed {
     ghost associative = { Prim.search (rules, common_steps) };
 }
 
-/// Three values in order, grouped to the right.
+/// Joins three values in order, grouped to the right.
 fn join_three<M: Monoid + Drop>(a: M, b: M, c: M) -> Result<M, AllocError>
     ensures { IfOk result (λ whole. whole ≡ M.joined (M.joined a b) c) }
 {

@@ -1,4 +1,4 @@
-//! Small parts of a run: how joined parts come out and what they show, by hand.
+//! Small parts of a run: the outcomes and results of joined parts, worked out by hand.
 
 use crate::burdens::burden_of;
 use cw_measure::Measure;
@@ -12,22 +12,22 @@ use cw_part::{Outcome, Part, Read};
 use cw_reduce::Views;
 use std::alloc::{AllocError, Global};
 
-/// How a part is made a piece of the block that is joined.
+/// How a part becomes a piece of the block that is joined.
 #[derive(Clone, Copy)]
 enum Kind {
-    /// It is one.
+    /// It is a piece already.
     Piece,
     /// It is a call.
     Call,
-    /// It is a spawned child, with these edges charged, and so much for each.
+    /// It is a spawned child, with these charged edges and this charge.
     Child(Edges, u64),
     /// It is a piece that trapped in line 12.
     Trapped,
-    /// It is a piece that memory was refused to.
+    /// It is a piece that ran out of memory.
     Refused,
 }
 
-/// A part of so much work that prints a line and tells reducer 0, which sums, and reducer 1, which keeps the greatest.
+/// A part with this work that prints a line and updates reducer 0, a sum, and reducer 1, a maximum.
 #[derive(Clone, Copy)]
 struct Small {
     kind: Kind,
@@ -81,10 +81,10 @@ fn joined(alloc: Global, parts: &[Small]) -> Result<Part, AllocError> {
     Ok(whole)
 }
 
-/// What parts show that ran to their end.
+/// The results of parts that finished.
 struct Shown {
     lines: &'static [i64],
-    /// What both reducers come to.
+    /// The totals of both reducers.
     sum: i128,
     greatest: i64,
     work: u64,
@@ -92,9 +92,9 @@ struct Shown {
     burdened: u128,
 }
 
-/// How joined parts come out.
+/// The outcome of joined parts.
 enum Came {
-    /// They ran to their end.
+    /// They finished.
     Completed(Shown),
     /// They trapped in line 12, after these lines.
     Trapped(&'static [i64]),
@@ -131,7 +131,7 @@ fn came_so(outcome: &Outcome, came: &Came) -> bool {
     }
 }
 
-/// Parts, the least of their limits, and how they come out joined.
+/// Parts, the minimum of their limits, and the outcome of their join.
 struct Row {
     name: &'static str,
     parts: &'static [Small],
@@ -139,7 +139,7 @@ struct Row {
     came: Came,
 }
 
-/// What comes out otherwise.
+/// Returns what differs.
 fn wrong_in(part: Part, row: &Row) -> Option<&'static str> {
     if part.limit() != row.limit {
         return Some("limit");
@@ -165,7 +165,7 @@ fn wrong_of(alloc: Global, row: &Row) -> Result<Option<&'static str>, AllocError
 /// Parts in series.
 static SERIES: [Row; 2] = [
     Row {
-        // Lines in order, totals joined and work added, and the lesser limit.
+        // The lines are in order, totals are joined, work is added, and the limit is the lower one.
         name: "parts that ran",
         parts: &[
             Small {
@@ -194,7 +194,7 @@ static SERIES: [Row; 2] = [
         }),
     },
     Row {
-        // A call of 5 instructions and then 4 more: span and span with burdens 9.
+        // A call of 5 instructions and then 4 more: span and burdened span are 9.
         name: "a call and what follows",
         parts: &[
             Small {
@@ -224,10 +224,11 @@ static SERIES: [Row; 2] = [
     },
 ];
 
-/// A child and its rest.
+/// A child and its continuation.
 static CHILDREN: [Row; 2] = [
     Row {
-        // A spawned child of 5 instructions beside a rest of 4, with a burden of 100 on the way past it: span 5.
+        // A spawned child of 5 instructions in parallel with a continuation of 4, with a burden of 100 on the
+        // continuation edge: span 5.
         name: "a child beside its rest, spawns charged",
         parts: &[
             Small {
@@ -256,7 +257,7 @@ static CHILDREN: [Row; 2] = [
         }),
     },
     Row {
-        // The same with the burden on both ways.
+        // The same parts, with the burden on both edges.
         name: "a child beside its rest, both edges charged",
         parts: &[
             Small {
@@ -286,10 +287,10 @@ static CHILDREN: [Row; 2] = [
     },
 ];
 
-/// Parts that stop, or nearly.
+/// Parts that stop, or nearly stop.
 static STOPS: [Row; 4] = [
     Row {
-        // What follows a trap is dropped.
+        // A trap drops what follows it.
         name: "a trap and what follows",
         parts: &[
             Small {
@@ -311,7 +312,7 @@ static STOPS: [Row; 4] = [
         came: Came::Trapped(&[1]),
     },
     Row {
-        // Memory that was refused behind it is not.
+        // Out of memory after a trap is not dropped.
         name: "memory refused behind a trap",
         parts: &[
             Small {
@@ -340,7 +341,7 @@ static STOPS: [Row; 4] = [
         came: Came::Refused,
     },
     Row {
-        // Work of just the limit is within it.
+        // Work of exactly the limit is within it.
         name: "work of just the limit",
         parts: &[
             Small {
@@ -369,7 +370,7 @@ static STOPS: [Row; 4] = [
         }),
     },
     Row {
-        // One instruction more is over.
+        // One instruction more exceeds the limit.
         name: "one instruction more",
         parts: &[
             Small {

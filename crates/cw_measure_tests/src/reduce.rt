@@ -1,4 +1,4 @@
-//! Sums, greatest numbers, lines and views of small pieces, and what joined pieces show, by hand.
+//! Sums, maxima, lines and views of small pieces, and the results of joined pieces, worked out by hand.
 
 use cw_model::monoid::Monoid;
 use cw_model::syntax::Reduction;
@@ -12,7 +12,7 @@ fn add_all(sum: &mut Sum, numbers: &[i64]) {
     }
 }
 
-/// The sums of a piece, and of the piece and a later one.
+/// Returns the sum of a piece, and the sum of the piece and a later one.
 fn sums(alloc: Global, ours: &[i64], theirs: &[i64]) -> Result<(i128, i128), AllocError> {
     let mut left = Sum::new();
     add_all(&mut left, ours);
@@ -22,7 +22,7 @@ fn sums(alloc: Global, ours: &[i64], theirs: &[i64]) -> Result<(i128, i128), All
     Ok((first, left.join(right)?.value()))
 }
 
-// A sum goes past 64 bits and comes back below 0.
+// A sum exceeds 64 bits and returns below 0.
 #[test]
 fn a_sum_past_64_bits(rt: HostRuntime) -> Result<(), AllocError> {
     let ours = [9_223_372_036_854_775_807, 9_223_372_036_854_775_807];
@@ -39,7 +39,7 @@ fn greatest_of(numbers: &[i64]) -> Max {
     greatest
 }
 
-/// Two pieces, and the greatest number of either and of both.
+/// Two pieces, and the maximum of each and of both.
 struct Greatest {
     name: &'static str,
     ours: &'static [i64],
@@ -74,7 +74,7 @@ static GREATEST: [Greatest; 5] = [
         of_theirs: Some(7),
         of_both: Some(7),
     },
-    // none is less than the least number
+    // No maximum is less than the least number.
     Greatest {
         name: "the least number",
         ours: &[i64::MIN, i64::MIN],
@@ -93,17 +93,17 @@ static GREATEST: [Greatest; 5] = [
     },
 ];
 
-/// The greatest of the numbers of a piece and of an empty one after it.
+/// Returns the maximum of a piece followed by an empty one.
 fn greatest_before_none(alloc: Global, numbers: &[i64]) -> Result<Option<i64>, AllocError> {
     Ok(greatest_of(numbers).join(Max::unit(alloc))?.value())
 }
 
-/// The greatest of the numbers of a piece and of an empty one before it.
+/// Returns the maximum of an empty piece followed by a piece.
 fn greatest_after_none(alloc: Global, numbers: &[i64]) -> Result<Option<i64>, AllocError> {
     Ok(Max::unit(alloc).join(greatest_of(numbers))?.value())
 }
 
-/// The greatest of the numbers of two pieces.
+/// Returns the maximum of two pieces.
 fn greatest_of_both(ours: &[i64], theirs: &[i64]) -> Result<Option<i64>, AllocError> {
     Ok(greatest_of(ours).join(greatest_of(theirs))?.value())
 }
@@ -115,7 +115,7 @@ fn is_greatest(alloc: Global, row: &Greatest) -> Result<bool, AllocError> {
     Ok(both == row.of_both && left == row.of_ours && right == row.of_theirs)
 }
 
-// The greatest number of two pieces, of which either may have none.
+// The maximum of two pieces; either may have no numbers.
 #[test]
 fn the_greatest_of_two_pieces(rt: HostRuntime) -> Result<(), AllocError> {
     for row in &GREATEST {
@@ -137,7 +137,7 @@ fn joined_lines(alloc: Global, ours: &[i64], theirs: &[i64]) -> Result<Lines, Al
     both.join(Lines::unit(alloc))
 }
 
-// The lines of the left piece stand first.
+// The lines of the left piece come first.
 #[test]
 fn lines_in_order(rt: HostRuntime) -> Result<(), AllocError> {
     let whole = joined_lines(rt.alloc(), &[1, -2], &[3])?;
@@ -145,14 +145,14 @@ fn lines_in_order(rt: HostRuntime) -> Result<(), AllocError> {
     Ok(())
 }
 
-/// What views are told.
+/// A call of a method of views.
 #[derive(Clone, Copy)]
 enum Told {
     /// A line is printed.
     Print(i64),
-    /// A reducer that sums is told a value.
+    /// A sum reducer is updated with a value.
     Add(u32, i64),
-    /// A reducer that keeps the greatest is told a value.
+    /// A maximum reducer is updated with a value.
     Raise(u32, i64),
 }
 
@@ -196,7 +196,7 @@ fn joined_views(alloc: Global) -> Result<Views, AllocError> {
     both.join(last)
 }
 
-/// What reducers come to over the three; one that was told nothing has 0, or none.
+/// The totals of reducers over the three pieces; a reducer without updates has 0, or no maximum.
 static TOTALS: [(u32, Reduction, Total); 7] = [
     (0, Reduction::Sum, Total::Sum(9)),
     (1, Reduction::Sum, Total::Sum(3)),
@@ -207,7 +207,7 @@ static TOTALS: [(u32, Reduction, Total); 7] = [
     (5, Reduction::Max, Total::Max(None)),
 ];
 
-// Views with totals of different reducers, the fewer on either side.
+// Views with totals of different reducers, with the shorter list on either side.
 #[test]
 fn totals_of_joined_views(rt: HostRuntime) -> Result<(), AllocError> {
     let whole = joined_views(rt.alloc())?;

@@ -1,4 +1,5 @@
-//! The rows of tags of small runs, whole and with a piece that ran apart, by hand.
+//! The rows of tags of small runs, whole and with a separately executed piece; the expected values are worked out by
+//! hand.
 
 use crate::burdens::on_spawns;
 use Told::{Begin, End};
@@ -6,7 +7,7 @@ use cw_measure::BurdenedPath;
 use cw_regions::RegionTable;
 use std::alloc::{AllocError, Global};
 
-/// What a table is told: a tag, and the instructions, the path and the burdened path so far.
+/// A call of a method of a table: a tag, and the instructions, the path and the burdened path so far.
 #[derive(Clone, Copy)]
 enum Told {
     /// An execution begins.
@@ -29,13 +30,13 @@ fn tell_all(table: &mut RegionTable, all: &[Told]) -> Result<(), AllocError> {
     Ok(())
 }
 
-/// The work, span and burdened span of a tag.
+/// Returns the work, span and burdened span of a tag.
 fn numbers(table: &RegionTable, tag: u32) -> (u64, u64, u128) {
     let row = table.region(tag);
     (row.work, row.span, row.burdened)
 }
 
-/// The first tag whose row is another one.
+/// Returns the first tag whose row differs.
 fn wrong_row(table: &RegionTable, rows: &[(u32, (u64, u64, u128))]) -> Option<u32> {
     for (tag, row) in rows {
         if numbers(table, *tag) != *row {
@@ -45,13 +46,13 @@ fn wrong_row(table: &RegionTable, rows: &[(u32, (u64, u64, u128))]) -> Option<u3
     None
 }
 
-/// A run, with a piece that ran apart.
+/// A run, with a piece that was executed separately.
 struct Run {
     name: &'static str,
-    /// What the run's table is told before the piece is joined.
+    /// The calls of the run's table before the piece is joined.
     before: &'static [Told],
     piece: &'static [Told],
-    /// What it is told after that.
+    /// The calls of the run's table after the piece was joined.
     after: &'static [Told],
     /// Rows of tags at the end: work, span and burdened span.
     rows: &'static [(u32, (u64, u64, u128))],
@@ -59,8 +60,8 @@ struct Run {
 
 static RUNS: [Run; 2] = [
     Run {
-        // An execution in an execution of the same tag is not counted a second time; another tag has a row of its own,
-        // and one that never runs has zeros.
+        // An execution inside an execution of the same tag is not counted a second time; another tag has its own row,
+        // and a tag that is never executed has zeros.
         name: "nested executions",
         before: &[
             Begin(0, 11, 11, 11),
@@ -75,8 +76,8 @@ static RUNS: [Run; 2] = [
         rows: &[(0, (24, 24, 24)), (1, (18, 18, 18)), (2, (0, 0, 0))],
     },
     Run {
-        // A piece that ran apart inside an open execution: what it executes of the same tag is not counted again, what
-        // it executes of another one is.
+        // A separately executed piece inside an open execution: its executions of the same tag are not counted again,
+        // its executions of another tag are.
         name: "a piece inside an execution",
         before: &[Begin(1, 1, 1, 1), End(1, 3, 3, 3), Begin(0, 4, 4, 4)],
         piece: &[
@@ -119,8 +120,8 @@ fn runs(rt: HostRuntime) -> Result<(), AllocError> {
     Ok(())
 }
 
-/// One execution of tag 0 that begins at this count and on this path: a spawn of a child of 1 instruction beside 2, with
-/// a burden of 10.
+/// Executes tag 0 once, from this count and path on: a spawn of a child of 1 instruction in parallel with 2, with a
+/// burden of 10.
 fn execute(
     table: &mut RegionTable,
     burdened: &mut BurdenedPath,
@@ -145,7 +146,7 @@ fn execute_twice(table: &mut RegionTable, burdened: &mut BurdenedPath) -> Result
 
 static ROWS_OF_TWO: [(u32, (u64, u64, u128)); 1] = [(0, (8, 6, 26))];
 
-// One tag, executed twice. The region's own two instructions lie outside.
+// One tag, executed twice. The region's own two instructions are outside.
 #[test]
 fn two_executions(rt: HostRuntime) -> Result<(), AllocError> {
     let mut table = RegionTable::new(rt.alloc());
@@ -156,8 +157,8 @@ fn two_executions(rt: HostRuntime) -> Result<(), AllocError> {
     Ok(())
 }
 
-/// Instructions of one execution of each of three tags, or 0 where it is not executed, in ours and in a piece that is
-/// joined to it, and the sums of both.
+/// The instructions of one execution of each of three tags (0 if it is not executed), in our table and in the table
+/// of a piece that is joined to it, and the sums of both.
 struct Merged {
     ours: [u32; 3],
     piece: [u32; 3],
@@ -187,7 +188,7 @@ static MERGED: [Merged; 4] = [
     },
 ];
 
-/// One execution of each tag that has instructions, from its tenth instruction on.
+/// Executes each tag that has instructions once, from its tenth instruction on.
 fn execute_each(table: &mut RegionTable, works: &[u32; 3]) -> Result<(), AllocError> {
     for tag in 0..3u32 {
         execute_once(table, tag, works[tag as usize])?;
@@ -204,7 +205,7 @@ fn execute_once(table: &mut RegionTable, tag: u32, work: u32) -> Result<(), Allo
     table.end(tag, end, end, end as u128)
 }
 
-/// Whether the row of a tag has this sum, and stays summed where an execution follows.
+/// Returns whether the row of a tag has this sum, and a further execution is added to it.
 fn is_summed(table: &mut RegionTable, tag: u32, sum: u32) -> Result<bool, AllocError> {
     let (work, burdened) = (sum as u64, sum as u128);
     let before = numbers(table, tag) == (work, work, burdened);
@@ -222,7 +223,7 @@ fn merge(alloc: Global, table: &mut RegionTable, row: &Merged) -> Result<(), All
     Ok(())
 }
 
-/// The first tag whose row is not that of both.
+/// Returns the first tag whose row is not the sum of both.
 fn wrong_sum(table: &mut RegionTable, row: &Merged) -> Result<Option<u32>, AllocError> {
     for tag in 0..3u32 {
         if !is_summed(table, tag, row.sums[tag as usize])? {
@@ -238,8 +239,8 @@ fn wrong_sum_of(alloc: Global, row: &Merged) -> Result<Option<u32>, AllocError> 
     wrong_sum(&mut table, row)
 }
 
-// What a piece executes is added to what ours did, tag by tag, whichever of the two has rows for more tags; and an
-// execution that begins later is summed as ever.
+// The executions of a piece are added to ours, tag by tag, whichever of the two has rows for more tags; and an
+// execution that begins later is added as usual.
 #[test]
 fn rows_of_more_tags_stay(rt: HostRuntime) -> Result<(), AllocError> {
     for (k, row) in MERGED.iter().enumerate() {

@@ -1,27 +1,27 @@
-//! The rows of call sites of small runs, whole and joined from pieces, and which path is chosen, by hand.
+//! The rows of call sites of small runs, whole and joined from pieces, and the chosen paths, worked out by hand.
 
 use Told::{EndChild, EndHalf, Enter, Join, Leave, Note, Spawn, SpawnHalf};
 use cw_sites::table::SiteTable;
 use std::alloc::{AllocError, Global};
 
-/// What a table is told, at a count of instructions.
+/// A call of a method of a table, at a number of instructions.
 #[derive(Clone, Copy)]
 enum Told {
-    /// A call in place of a site begins.
+    /// A plain call of a site begins.
     Enter(u64, u32),
-    /// A call in place ends, inside an invocation of a site.
+    /// A plain call ends, inside an invocation of a site.
     Leave(u64, u32),
-    /// A spawned call of a site begins, and whether it is its block's first one since the last join.
+    /// A spawned call of a site begins; the flag is true for the first child of its block since the last join.
     Spawn(u64, u32, bool),
     /// A spawned call ends, inside an invocation of a site.
     EndChild(u64, u32),
-    /// Half of a loop begins, and whether it is its block's first spawn since the last join.
+    /// The half of a loop begins; the flag is true for the first spawn of its block since the last join.
     SpawnHalf(u64, bool),
-    /// Half of a loop ends.
+    /// The half of a loop ends.
     EndHalf(u64),
-    /// The block that runs joins.
+    /// The current block joins.
     Join(u64),
-    /// The instructions so far are given to their sites.
+    /// The instructions so far are attributed to their sites.
     Note(u64),
 }
 
@@ -45,13 +45,13 @@ fn tell_all(table: &mut SiteTable, all: &[Told]) -> Result<(), AllocError> {
     Ok(())
 }
 
-/// The calls, own work, own span, work and span of a site.
+/// Returns the calls, own work, own span, work and span of a site.
 fn numbers(table: &SiteTable, site: u32) -> [u64; 5] {
     let row = table.site(site);
     [row.calls, row.own_work, row.own_span, row.work, row.span]
 }
 
-/// The first site whose row is another one.
+/// Returns the first site whose row differs.
 fn wrong_row(table: &SiteTable, rows: &[(u32, [u64; 5])]) -> Option<u32> {
     for (site, row) in rows {
         if numbers(table, *site) != *row {
@@ -61,23 +61,23 @@ fn wrong_row(table: &SiteTable, rows: &[(u32, [u64; 5])]) -> Option<u32> {
     None
 }
 
-/// A piece of a run that is counted apart.
+/// A piece of a run with its own table.
 struct Piece {
-    /// The site of the invocation that it begins in.
+    /// The site of the invocation in which it begins.
     here: u32,
-    /// What its table is told.
+    /// The calls of its table.
     told: &'static [Told],
     /// Whether its block has not spawned before it since the last join.
     first: bool,
 }
 
-/// A run, with a piece that is counted apart, or with none.
+/// A run, with or without a piece that has its own table.
 struct Run {
     name: &'static str,
-    /// What the run's table is told before the piece is joined.
+    /// The calls of the run's table before the piece is joined.
     before: &'static [Told],
     piece: Option<Piece>,
-    /// What it is told after that.
+    /// The calls of the run's table after the piece was joined.
     after: &'static [Told],
     /// Rows of sites at the end: calls, own work, own span, work and span.
     rows: &'static [(u32, [u64; 5])],
@@ -101,7 +101,8 @@ fn wrong_row_of(alloc: Global, run: &Run) -> Result<Option<u32>, AllocError> {
     wrong_row_in(alloc, SiteTable::new(alloc, 0), run)
 }
 
-/// The same of a run that is itself a piece of another one, whose rows lie in pages, too.
+/// Returns the first site whose row differs if the run is itself a piece of another one, so that some rows are in
+/// pages.
 fn wrong_row_apart(alloc: Global, run: &Run) -> Result<Option<u32>, AllocError> {
     wrong_row_in(alloc, SiteTable::apart(alloc, 0), run)
 }
@@ -118,10 +119,11 @@ fn path_of(alloc: Global, run: &Run) -> Result<u64, AllocError> {
     Ok(table.path())
 }
 
-/// Runs that no piece of is counted apart.
+/// Runs without a piece that has its own table.
 static WHOLE_RUNS: [Run; 6] = [
     Run {
-        // A short child of 2 instructions beside a rest of 4, one instruction before and three after.
+        // A short child of 2 instructions in parallel with a continuation of 4, one instruction before and three
+        // after.
         name: "a longer rest",
         before: &[
             Enter(0, 0),
@@ -139,7 +141,7 @@ static WHOLE_RUNS: [Run; 6] = [
         ],
     },
     Run {
-        // A child that weighs as much as the rest is chosen.
+        // A child that is as heavy as the continuation is chosen.
         name: "a tie of child and rest",
         before: &[
             Enter(0, 0),
@@ -153,7 +155,7 @@ static WHOLE_RUNS: [Run; 6] = [
         rows: &[(0, [1, 6, 2, 10, 6]), (1, [1, 4, 4, 4, 4])],
     },
     Run {
-        // Of two children whose paths weigh the same from the first spawn on, the earlier one is chosen.
+        // If the paths of two children from the first spawn on are equally heavy, the earlier one is chosen.
         name: "a tie of children",
         before: &[
             Enter(0, 0),
@@ -173,7 +175,8 @@ static WHOLE_RUNS: [Run; 6] = [
         ],
     },
     Run {
-        // The later of two children is longer by one instruction between the spawns: what lies between is on the path.
+        // The later of two children is longer by one instruction between the spawns: the instructions between are on
+        // the path.
         name: "a later child",
         before: &[
             Enter(0, 0),
@@ -193,7 +196,7 @@ static WHOLE_RUNS: [Run; 6] = [
         ],
     },
     Run {
-        // A function that calls itself twice more from one site: only the outermost call of the site is summed.
+        // A function that calls itself twice more from one site: only the outermost call of the site is added.
         name: "a recursion",
         before: &[
             Enter(0, 0),
@@ -214,8 +217,8 @@ static WHOLE_RUNS: [Run; 6] = [
         ],
     },
     Run {
-        // Halves of a loop belong to the invocation round the loop: 1 instruction, a half of 3 beside one of 5,
-        // 1 instruction.
+        // The halves of a loop belong to the invocation around the loop: 1 instruction, a half of 3 in parallel with
+        // one of 5, 1 instruction.
         name: "halves of a loop",
         before: &[
             Enter(0, 0),
@@ -234,8 +237,8 @@ static WHOLE_RUNS: [Run; 6] = [
     },
 ];
 
-/// A child of 6 with calls of its own, a rest of 5 with a call, and a child of 4 with a call: with the rest the later
-/// child is longer, and the steps of the earlier one are dropped from between.
+/// A child of 6 with calls of its own, a continuation of 5 with a call, and a child of 4 with a call: with the
+/// continuation the later child is longer, and the steps of the earlier one are dropped from between.
 const A_LONG_CHILD_REPLACED: [Told; 13] = [
     Enter(0, 0),
     Spawn(1, 1, true),
@@ -252,10 +255,10 @@ const A_LONG_CHILD_REPLACED: [Told; 13] = [
     EndChild(16, 0),
 ];
 
-/// Runs with a long child replaced.
+/// Runs in which a long child is replaced.
 static LONG_RUNS: [Run; 2] = [
     Run {
-        // A rest of 3 follows: the later child is chosen.
+        // A continuation of 3 follows: the later child is chosen.
         name: "a long child replaced and chosen",
         before: &A_LONG_CHILD_REPLACED,
         piece: None,
@@ -272,7 +275,7 @@ static LONG_RUNS: [Run; 2] = [
         ],
     },
     Run {
-        // A rest of 8 follows: it is chosen, and the steps of the later child are dropped from between.
+        // A continuation of 8 follows: it is chosen, and the steps of the later child are dropped from between.
         name: "a long rest chosen",
         before: &A_LONG_CHILD_REPLACED,
         piece: None,
@@ -287,12 +290,12 @@ static LONG_RUNS: [Run; 2] = [
     },
 ];
 
-/// Runs with a piece that is counted apart.
+/// Runs with a piece that has its own table.
 static JOINED_RUNS: [Run; 4] = [
     Run {
-        // 1 instruction, a child of 2, and in the rest, of 1 instruction in each place, a child of 4 and one of 2; then
-        // a join and 3 instructions. The path goes through the rest to the child of 4: 1 + 1 + 4 from the first spawn
-        // beside 2.
+        // 1 instruction, a child of 2, and in the continuation, with 1 instruction at each place, a child of 4 and
+        // one of 2; then a join and 3 instructions. The path goes through the continuation to the child of 4: 1 + 1 +
+        // 4 from the first spawn on, in parallel with 2.
         name: "a rest that ran apart",
         before: &[Enter(0, 0), Spawn(1, 1, true), EndChild(3, 0)],
         piece: Some(Piece {
@@ -314,7 +317,7 @@ static JOINED_RUNS: [Run; 4] = [
         ],
     },
     Run {
-        // The rest's longest child ties with the child before it: that child is chosen, as in a serial run.
+        // The continuation's longest child ties with the child before it: that child is chosen, as in a serial run.
         name: "a tie with a rest that ran apart",
         before: &[Enter(0, 0), Spawn(1, 1, true), EndChild(6, 0)],
         piece: Some(Piece {
@@ -330,8 +333,9 @@ static JOINED_RUNS: [Run; 4] = [
         ],
     },
     Run {
-        // A piece with a join of its own, after one instruction of a block that has spawned nothing: before its join a
-        // child of 3 beside a rest of 1, after it a child of 2 beside a rest of 1.
+        // A piece with its own join, after one instruction of a block that has spawned nothing: before its join a
+        // child of 3 in parallel with a continuation of 1, after it a child of 2 in parallel with a continuation of
+        // 1.
         name: "a piece that has joined",
         before: &[Enter(0, 0), Note(1)],
         piece: Some(Piece {
@@ -350,7 +354,7 @@ static JOINED_RUNS: [Run; 4] = [
         rows: &[(0, [1, 4, 2, 9, 7]), (2, [2, 5, 5, 5, 5])],
     },
     Run {
-        // A piece that ran apart inside of an invocation of its own site, whose work is not summed a second time.
+        // A separately executed piece inside an invocation of its own site, whose work is not added a second time.
         name: "a piece inside its own site",
         before: &[Enter(0, 0), Enter(1, 1), Note(3)],
         piece: Some(Piece {
@@ -363,12 +367,12 @@ static JOINED_RUNS: [Run; 4] = [
     },
 ];
 
-/// Runs with sites on both sides of the borders of pages (64 sites) and of their shelves (2,048), up to the greatest number,
-/// in a piece whose first sites come to be more.
+/// Runs with sites on both sides of the boundaries of pages (64 sites) and of their shelves (2,048), up to the
+/// maximum, in a piece whose vector grows.
 static PAGED_RUNS: [Run; 2] = [
     Run {
-        // Calls one after another, some of them of sites that were called before: the row of site 100 lies in a page at
-        // its first call, and among the first ones from the second on.
+        // Consecutive calls, some of them of sites that were called before: the row of site 100 is in a page at its
+        // first call, and in the vector from the second on.
         name: "calls across borders",
         before: &[Enter(0, 0), Enter(1, 320), Leave(9, 0), Note(10)],
         piece: Some(Piece {
@@ -419,8 +423,8 @@ static PAGED_RUNS: [Run; 2] = [
         ],
     },
     Run {
-        // A piece inside of an invocation of site 2,048 calls it again, and spawns a call of 64,000 that is longer than
-        // the rest beside it.
+        // A piece inside an invocation of site 2,048 calls it again, and spawns a call of 64,000 that is longer than
+        // the continuation in parallel with it.
         name: "a spawn across borders",
         before: &[Enter(0, 0), Enter(2, 2_048), Note(5)],
         piece: Some(Piece {
@@ -484,14 +488,14 @@ fn rows_in_pages(rt: HostRuntime) -> Result<(), AllocError> {
     Ok(())
 }
 
-// The path of the first run weighs as much as its span.
+// The weight of the path of the first run is its span.
 #[test]
 fn the_path_of_a_run(rt: HostRuntime) -> Result<(), AllocError> {
     assert_eq!(rt; path_of(rt.alloc(), &WHOLE_RUNS[0])?, 8);
     Ok(())
 }
 
-/// A turn of a loop, of 15 instructions, that calls site 1, which calls site 2.
+/// Executes an iteration of a loop, of 15 instructions, that calls site 1, which calls site 2.
 fn turn_with_two_calls(table: &mut SiteTable, turn: u32) -> Result<(), AllocError> {
     let count = turn as u64 * 15;
     table.enter(count + 1, 1)?;
@@ -500,7 +504,7 @@ fn turn_with_two_calls(table: &mut SiteTable, turn: u32) -> Result<(), AllocErro
     table.leave(count + 10, 0)
 }
 
-/// The greatest count of steps of the path after each of 2,000 turns.
+/// Returns the maximum number of steps of the path after each of 2,000 iterations.
 fn most_steps_in_turns(table: &mut SiteTable) -> Result<usize, AllocError> {
     let mut most = 0;
     for turn in 0..2_000u32 {
@@ -510,7 +514,7 @@ fn most_steps_in_turns(table: &mut SiteTable) -> Result<usize, AllocError> {
     Ok(most)
 }
 
-/// A call with such turns, and that count.
+/// Executes a call with such iterations, and returns this maximum.
 fn run_with_turns(table: &mut SiteTable) -> Result<usize, AllocError> {
     table.enter(0, 0)?;
     let most = most_steps_in_turns(table)?;
@@ -524,7 +528,7 @@ static ROWS_OF_TURNS: [(u32, [u64; 5]); 3] = [
     (2, [2_000, 6_000, 6_000, 6_000, 6_000]),
 ];
 
-// A path through many calls of two sites stays as short as twice the sites and a constant.
+// A path through many calls of two sites has at most twice the number of sites plus a constant steps.
 #[test]
 fn a_long_loop_of_calls(rt: HostRuntime) -> Result<(), AllocError> {
     let mut table = SiteTable::new(rt.alloc(), 0);
@@ -533,7 +537,7 @@ fn a_long_loop_of_calls(rt: HostRuntime) -> Result<(), AllocError> {
     Ok(())
 }
 
-/// 300 children of 2 instructions each, with 9 before each.
+/// Spawns 300 children of 2 instructions each, with 9 before each.
 fn spawn_many(table: &mut SiteTable) -> Result<(), AllocError> {
     for turn in 0..300u64 {
         table.spawn(11 * turn + 9, 1, turn == 0)?;
@@ -542,7 +546,7 @@ fn spawn_many(table: &mut SiteTable) -> Result<(), AllocError> {
     Ok(())
 }
 
-/// A call with such children, and the count of the path's steps before the join.
+/// Executes a call with such children, and returns the number of the path's steps before the join.
 fn run_with_many_spawns(table: &mut SiteTable) -> Result<usize, AllocError> {
     table.enter(0, 0)?;
     spawn_many(table)?;
@@ -557,8 +561,8 @@ static ROWS_OF_MANY_SPAWNS: [(u32, [u64; 5]); 2] = [
     (1, [300, 600, 2, 600, 600]),
 ];
 
-// 300 spawns without a join, 9 instructions before each and 2 in its child: the last child is chosen, with all that lies
-// before it, and the steps of that are added up before there are many.
+// 300 spawns without a join, 9 instructions before each and 2 in its child: the last child is chosen, with all
+// instructions before it, and their steps are merged before they become many.
 #[test]
 fn many_spawns_without_a_join(rt: HostRuntime) -> Result<(), AllocError> {
     let mut table = SiteTable::new(rt.alloc(), 0);
@@ -567,8 +571,8 @@ fn many_spawns_without_a_join(rt: HostRuntime) -> Result<(), AllocError> {
     Ok(())
 }
 
-/// Instructions of one call of each of three sites, or 0 where it is not called, in ours and in a piece that is joined
-/// to it: the calls and the sums of both.
+/// The instructions of one call of each of three sites (0 if it is not called), in our table and in the table of a
+/// piece that is joined to it: the calls and the sums of both.
 struct Merged {
     ours: [u32; 3],
     piece: [u32; 3],
@@ -603,7 +607,7 @@ static MERGED: [Merged; 4] = [
     },
 ];
 
-/// One call of each site that has instructions, one after another.
+/// Calls each site that has instructions once.
 fn call_each(table: &mut SiteTable, works: &[u32; 3]) -> Result<(), AllocError> {
     for site in 0..3u32 {
         call_once(table, site, works[site as usize])?;
@@ -620,7 +624,7 @@ fn call_once(table: &mut SiteTable, site: u32, work: u32) -> Result<(), AllocErr
     table.leave(begin.saturating_add(work as u64), 0)
 }
 
-/// Whether the row of a site is this one, and stays summed where a call of 3 instructions follows.
+/// Returns whether this is the row of a site, and a further call of 3 instructions is added to it.
 fn is_summed(table: &mut SiteTable, site: u32, calls: u32, sum: u32) -> Result<bool, AllocError> {
     let (calls, sum) = (calls as u64, sum as u64);
     let before = numbers(table, site) == [calls, sum, sum, sum, sum];
@@ -637,7 +641,7 @@ fn merge(alloc: Global, table: &mut SiteTable, row: &Merged) -> Result<(), Alloc
     table.join_piece(piece, true)
 }
 
-/// The first site whose row is not that of both.
+/// Returns the first site whose row is not the sum of both.
 fn wrong_sum(table: &mut SiteTable, row: &Merged) -> Result<Option<u32>, AllocError> {
     for site in 0..3u32 {
         let k = site as usize;
@@ -654,8 +658,8 @@ fn wrong_sum_of(alloc: Global, row: &Merged) -> Result<Option<u32>, AllocError> 
     wrong_sum(&mut table, row)
 }
 
-// What a piece ran is added to what ours did, site by site, whichever of the two has rows for more sites; and a call that
-// begins later is summed as ever.
+// The calls of a piece are added to ours, site by site, whichever of the two has rows for more sites; and a call that
+// begins later is added as usual.
 #[test]
 fn rows_of_more_sites_stay(rt: HostRuntime) -> Result<(), AllocError> {
     for (k, row) in MERGED.iter().enumerate() {

@@ -1,4 +1,4 @@
-//! Which small codes on integers fit: one rule broken alone, and just kept, by hand.
+//! Which small codes on integers are well-formed: each rule is broken by itself, and just kept, by hand.
 
 mod arrays;
 mod codes;
@@ -13,14 +13,14 @@ use cw_code::code::{BlockKind, Callee, Code, Func, Instr, UnaryOperator};
 use cw_model::syntax::{CallKind, Name, Operator, Reduction};
 use std::alloc::{AllocError, Global};
 
-/// An instruction of a main.
+/// An instruction of a `main`.
 #[derive(Clone, Copy)]
 enum Step {
-    /// This one.
+    /// This instruction.
     Just(Instr),
-    /// A call in place: the function, the number of the site, and the slot of the result.
+    /// A plain call: the function, the number of the site, and the slot for the result.
     Call(u32, u32, Option<u32>),
-    /// A spawned call: the same.
+    /// A spawned call: the function, the number of the site, and the slot for the result.
     Spawn(u32, u32, Option<u32>),
 }
 
@@ -51,7 +51,7 @@ fn push_all(instrs: &mut Vec<Instr>, steps: &[Step]) -> Result<(), AllocError> {
     Ok(())
 }
 
-/// A function, placed after the instructions that stand already.
+/// Adds a function after the existing instructions.
 fn place_steps(code: &mut Code, f: Func, steps: &[Step]) -> Result<(), AllocError> {
     let start = code.instrs.len();
     push_all(&mut code.instrs, steps)?;
@@ -68,17 +68,17 @@ const CLOSE: Step = Just(Instr::Close);
 
 const SYNC: Step = Just(Instr::Sync);
 
-/// The name that `SPAWN` gives its result to.
+/// Loads the slot for the result of `SPAWN`.
 const LOAD: Step = Just(Instr::Load(1));
 
-/// The parameter.
+/// Loads the parameter.
 const TEST: Step = Just(Instr::Load(0));
 
 const SPAWN: Step = Spawn(1, 2, Some(1));
 
 const OTHER: Step = Spawn(1, 2, Some(0));
 
-/// Sites of function 1 in place and spawned, and of function 2 in place and spawned.
+/// Plain and spawned sites of function 1, and plain and spawned sites of function 2.
 static FRAME: Frame = Frame {
     sites: &[
         (CallKind::Plain, 1),
@@ -96,7 +96,7 @@ const MAIN: Func = Func {
     ..GIVING
 };
 
-/// Function 1 gives its parameter, and function 2 gives nothing.
+/// Function 1 returns its parameter, and function 2 returns nothing.
 static OTHERS: [Placed; 2] = [
     (
         Func {
@@ -109,7 +109,7 @@ static OTHERS: [Placed; 2] = [
     (NOTHING, &[Instr::Return]),
 ];
 
-/// Code without a function, with a reducer and a tag.
+/// Adds a reducer, a tag and the sites, but no function.
 fn add_all_but_functions(alloc: Global, code: &mut Code) -> Result<(), AllocError> {
     add_frame(alloc, code, &FRAME)?;
     add_reducer(alloc, code, b"", Reduction::Sum)?;
@@ -123,17 +123,17 @@ fn place_main(alloc: Global, code: &mut Code, steps: &[Step]) -> Result<(), Allo
     place_all(code, &OTHERS)
 }
 
-/// The number of the refusal of a main with one parameter and two names, or 0 where it fits.
+/// Returns the number of the fault of a `main` with one parameter and two slots, or 0 if it is well-formed.
 fn refusal(alloc: Global, steps: &[Step]) -> Result<u8, AllocError> {
     let mut code = no_code(alloc);
     place_main(alloc, &mut code, steps)?;
     refusal_of(alloc, code)
 }
 
-/// A main, and the number of its refusal, or 0 where it fits.
+/// A `main`, and the number of its fault, or 0 if it is well-formed.
 type Case = (&'static [Step], u8);
 
-/// The index of the first case that comes out otherwise.
+/// Returns the index of the first case with another result.
 fn wrong_case(alloc: Global, cases: &[Case]) -> Result<Option<usize>, AllocError> {
     for (k, (steps, number)) in cases.iter().enumerate() {
         if refusal(alloc, *steps)? != *number {
@@ -143,7 +143,7 @@ fn wrong_case(alloc: Global, cases: &[Case]) -> Result<Option<usize>, AllocError
     Ok(None)
 }
 
-/// A main alone, of one name.
+/// A single `main`, with one slot.
 struct Alone {
     gives_int: bool,
     params: usize,
@@ -161,7 +161,7 @@ static ALONE: [Alone; 5] = [
         after: &[],
         number: 0,
     },
-    // more parameters than names
+    // more parameters than slots
     Alone {
         gives_int: true,
         params: 2,
@@ -177,7 +177,7 @@ static ALONE: [Alone; 5] = [
         after: &[Instr::Return],
         number: 6,
     },
-    // a function without instructions, and a main that gives nothing
+    // a function without instructions, and a `main` that returns nothing
     Alone {
         gives_int: true,
         params: 1,
@@ -229,17 +229,17 @@ fn no_function(rt: HostRuntime) -> Result<(), AllocError> {
     Ok(())
 }
 
-/// The names of reducers, and the number of the refusal.
+/// The names of reducers, and the number of the fault.
 static REDUCERS: [(&[&[u8]], u8); 5] = [
     (&[b"a"], 0),
     (&[b"a", b"b", b"ab"], 0),
-    // two of one name, whichever way they reduce
+    // two of one name, whatever their reductions
     (&[b"a", b"a"], 6),
     (&[b"b", b"ab", b"a", b"ab"], 6),
     (&[b"a", b"b", b"c", b"c"], 6),
 ];
 
-/// The first of the reducers sums, and each other one keeps the greatest.
+/// Adds reducers: the first is a sum, each other one a maximum.
 fn add_reducers(alloc: Global, code: &mut Code, names: &[&[u8]]) -> Result<(), AllocError> {
     let mut how = Reduction::Sum;
     for name in names {
@@ -249,7 +249,7 @@ fn add_reducers(alloc: Global, code: &mut Code, names: &[&[u8]]) -> Result<(), A
     Ok(())
 }
 
-/// A main of one parameter.
+/// A `main` with one parameter.
 const MAIN_OF_ONE: Func = Func {
     params: 1,
     slots: 1,
@@ -279,7 +279,7 @@ fn reducers(rt: HostRuntime) -> Result<(), AllocError> {
 
 static FUNCTIONS: [Case; 3] = [
     (&[ONE, END], 0),
-    // runs on into the next function
+    // falls through into the next function
     (&[ONE], 6),
     // a return of the other kind
     (&[Just(Instr::Return)], 6),
@@ -293,16 +293,16 @@ fn functions(rt: HostRuntime) -> Result<(), AllocError> {
 
 static JUMPS: [Case; 10] = [
     (&[ONE, Just(Instr::SkipIfZero(0)), ONE, END], 0),
-    // two branches with unequal operands
+    // two branches with different numbers of operands
     (&[ONE, Just(Instr::SkipIfZero(1)), ONE, END], 6),
-    // one past the function's end, and into the next one
+    // one place after the function's end, and into the next one
     (&[ONE, Just(Instr::SkipIfZero(2)), ONE, END], 6),
     (&[ONE, Just(Instr::SkipIfZero(3)), ONE, END], 6),
     (&[Just(Instr::Skip(1)), ONE], 6),
-    // a turn that leaves an operand more
+    // an iteration that leaves one operand more
     (&[ONE, Just(Instr::GoBack(1))], 6),
     (&[ONE, Just(Instr::Store(0)), Just(Instr::GoBack(2))], 0),
-    // never reached: any place of the function will do, and no other
+    // never reached: any place of the function is accepted, and no other
     (&[ONE, END, Just(Instr::GoBack(2))], 0),
     (&[ONE, END, Just(Instr::GoBack(3))], 6),
     (&[ONE, END, Just(Instr::Skip(0))], 6),
@@ -330,10 +330,10 @@ static OPERANDS: [Case; 13] = [
     (&[PRINT, ONE, END], 6),
     (&[REDUCE, ONE, END], 6),
     (&[ONE, PRINT, ONE, REDUCE, ONE, END], 0),
-    // an argument missing
+    // an argument is missing
     (&[Call(1, 1, None), ONE, END], 6),
     (&[ONE, Call(1, 1, None), ONE, END], 0),
-    // an operand left over: at a spawn, at a join, at a scope's end
+    // an operand is left at a spawn, at a join, at the end of a scope
     (&[ONE, ONE, Call(1, 1, None), END], 0),
     (&[ONE, ONE, Spawn(1, 2, None), END], 6),
     (&[ONE, SYNC, END], 6),
@@ -352,17 +352,17 @@ static NAMES: [Case; 16] = [
     (&[ONE, Just(Instr::Store(2)), ONE, END], 6),
     (&[ONE, Call(1, 1, Some(1)), ONE, END], 0),
     (&[ONE, Call(1, 1, Some(2)), ONE, END], 6),
-    // a function and sites that are not there
+    // a function and sites that do not exist
     (&[ONE, Call(3, 1, None), ONE, END], 6),
     (&[ONE, Call(1, 0, None), ONE, END], 6),
     (&[ONE, Call(1, 5, None), ONE, END], 6),
     // a site of the other kind, and of another function
     (&[ONE, Call(1, 2, None), ONE, END], 6),
     (&[ONE, Call(1, 3, None), ONE, END], 6),
-    // a slot for the result of a call that gives none
+    // a slot for the result of a call that returns nothing
     (&[Call(2, 3, None), ONE, END], 0),
     (&[Call(2, 3, Some(1)), ONE, END], 6),
-    // a reducer and a tag that are not there, never reached too
+    // a reducer and a tag that do not exist, also if never reached
     (&[ONE, Just(Instr::Reduce(1)), ONE, END], 6),
     (&[ONE, END, Just(Instr::Reduce(1))], 6),
     (
@@ -388,7 +388,7 @@ static BLOCKS: [Case; 12] = [
     (&[OPEN, ONE, END], 6),
     (&[OPEN, Just(Instr::GoBack(1))], 6),
     (&[OPEN, CLOSE, Just(Instr::GoBack(2))], 0),
-    // a name that a spawn has
+    // a slot that a spawn has emptied
     (&[ONE, SPAWN, LOAD, END], 6),
     (&[ONE, SPAWN, ONE, SPAWN, ONE, END], 6),
     (&[ONE, SPAWN, SYNC, LOAD, END], 0),
@@ -418,26 +418,26 @@ fn blocks(rt: HostRuntime) -> Result<(), AllocError> {
     Ok(())
 }
 
-/// Past an operand and a spawn.
+/// Jumps over an operand and a spawn.
 const PAST: Step = Just(Instr::SkipIfZero(2));
 
-/// Past an operand, a spawn and the skip of the other branch.
+/// Jumps over an operand, a spawn and the skip of the other branch.
 const ELSE: Step = Just(Instr::SkipIfZero(3));
 
-/// Past the other branch.
+/// Jumps over the other branch.
 const ON: Step = Just(Instr::Skip(2));
 
 static BRANCHES: [Case; 6] = [
-    // one branch has left the name empty
+    // one branch has left the slot empty
     (&[TEST, PAST, ONE, SPAWN, LOAD, END], 6),
     (&[TEST, PAST, ONE, SPAWN, SYNC, LOAD, END], 0),
-    // each branch has left another one empty
+    // each branch has left a different slot empty
     (
         &[TEST, ELSE, ONE, SPAWN, ON, ONE, OTHER, SYNC, LOAD, END],
         0,
     ),
     (&[TEST, ELSE, ONE, SPAWN, ON, ONE, OTHER, TEST, END], 6),
-    // a later turn finds a name empty that the first one did not
+    // a later iteration finds a slot empty that the first one did not
     (
         &[
             LOAD,

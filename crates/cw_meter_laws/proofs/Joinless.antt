@@ -1,4 +1,4 @@
--- Up to the join of the block that a rest begins in, the events of that block have no join.
+-- Up to the join of the block in which a continuation begins, the events of this block have no join.
 use Rattle.std.proofs.Common.{◌≡◌, ℕ, ℤ, true, false, Option, Some, None, List, [], ◌∷◌, ◌++◌, refl, subst}
 use Rattle.std.specs.Prelude.{◌&&◌}
 use Rattle.cw_model.specs.declared.syntax.CallKind.{CallKind}
@@ -14,7 +14,7 @@ use Rattle.cw_measure.specs.OpenParts.{no_joins}
 use Rattle.cw_strand_laws.specs.Jobs.{joins, is_first}
 use Rattle.cw_strand_laws.specs.lemmas.Acts.{acts_by}
 
--- the events so far of the block that a run began in
+-- the events so far of the block in which a run began
 abbrev pub bottom : List Around → List Event → List Event
 bottom [] es = es
 bottom (Caller w ∷ around) es = bottom around w.events

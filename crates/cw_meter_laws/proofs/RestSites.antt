@@ -1,4 +1,4 @@
--- The sites that rests are handed out with.
+-- The sites with which continuations are handed out.
 use Rattle.std.proofs.Common.{◌≡◌, ℤ, Option, List, ◌∷◌, refl, sym, ap, subst}
 use Rattle.std.specs.Prelude.{slice_get}
 use Rattle.cw_model.specs.declared.syntax.CallKind.{CallKind}
@@ -27,7 +27,7 @@ module _ (from : Origin) (s : State) where
       cases Plain = refl
       cases Spawned = refl
 
-  -- where a call that stands round leads, once it has come back
+  -- the sites after the end of a call
   abbrev Back : CallKind → List Around → Type 0
   Back kind around = SitesAfter from (turn_back kind) s.around around
 

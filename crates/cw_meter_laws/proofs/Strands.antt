@@ -1,4 +1,4 @@
--- Whatever a strand hands out, gets back or is given, its meter tells of the serial run so far.
+-- Whatever a strand hands out, takes back or is given, its meter represents the serial run so far.
 use Rattle.std.proofs.Common.{◌≡◌, ℕ, zero, suc, ◌+◌, ◌≤◌, ◌<◌, ℤ, Bool, true, false, nat_lt, if◌then◌else◌, Option, Some, List, [], ◌∷◌, length, refl, sym, ap, ◌∙◌, subst, inl, inr, arith}
 use Rattle.std.specs.Prelude.{slice_get}
 use Rattle.cw_facts.specs.Tests.{not_below}
@@ -37,11 +37,11 @@ use Rattle.cw_meter_laws.specs.lemmas.Told.{After}
 use Rattle.cw_meter_laws.specs.lemmas.Spawns.{HasSpawnedWhere, waiters_have_spawned}
 use Rattle.cw_meter_laws.proofs.Telling.{Telling, acts_told, round_open}
 
--- Up to the join nothing joins.
+-- up to the join, there is no join
 at_bottom : (around : List Around) (es : List Event) → around ≡ [] → Joinless around es → no_joins es ≡ true
 at_bottom around es e h = let P : List Around → Type 0 = λ x. Joinless x es in subst P e h
 
--- what a run to the join shows there
+-- the trace of a run up to the join
 abbrev NoneShown : Came → Type 0
 NoneShown (Arrives frame t left) = no_joins t.events ≡ true
 NoneShown _ = Unit {0}
@@ -84,7 +84,7 @@ module _ (code : Code) where
 pub rests_have_no_joins : RestsHaveNoJoins
 rests_have_no_joins = λ code job frame t cost x m. no_joins_in code job frame t cost x m
 
--- what is told of a strand
+-- the meter of a strand after an instruction
 goes_told : {code : Code} (g : Gauge code) (from : Origin) (t : Turn) (s s' : State) (limit before count : ℕ) (outs : List Job) (m : Meter)
     → HasSpawnedWhere t s' → Meters g.detail g.tags from count (opens_round from s'.around) s'.trace.events m
     → TellsStrand code g from (goes_on t s s' limit before count outs) m

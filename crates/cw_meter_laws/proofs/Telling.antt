@@ -1,4 +1,4 @@
--- What a meter that is told of an instruction tells after it.
+-- A meter after an instruction.
 use Rattle.std.proofs.Common.{◌≡◌, ℕ, ◌+◌, ◌<◌, Option, Some, None, List, [], ◌∷◌, false, sym, subst, arith}
 use Rattle.std.proofs.lemmas.Option.{slice_get_within}
 use Rattle.cw_model.specs.declared.limits.TheConstants.{MOST_LIMIT}
@@ -17,7 +17,7 @@ use Rattle.cw_meter.specs.Meters.{Meters, Ends, Returns, InstructionsNeedNoCall,
 use Rattle.cw_meter_laws.specs.Opens.{opens_round, Gauge, BeginsBlock, IsTold, IsToldOf}
 use Rattle.cw_meter_laws.specs.lemmas.Told.{After, BlockEnds, CallEnds, BlockBegins, Tells, told}
 
--- a state of a run is one before its end
+-- a state of a run is before the end of the run
 pub round_open : (from : Origin) (around : List Around) → IsOpen from (opens_round from around)
 round_open Main [] = tt
 round_open Main (Caller w ∷ around) = tt

@@ -27,14 +27,14 @@ use Rattle.cw_strand_laws.specs.Strands.{resumed}
 use Rattle.cw_strand_laws.specs.Promises.{IsStrandOf}
 use Rattle.cw_meter_laws.specs.Opens.{opens_round, whole, Gauge, IsToldOf}
 
--- a strand of a whole run has the meter of a run, and one of the rest of a block that of a rest
+-- a strand of a whole run has the meter of a run, and a strand of a continuation has the meter of a continuation
 abbrev pub IsFrom : Origin → Extent → Type 0
 IsFrom Main WholeCall = Unit {0}
 IsFrom Main ToJoin = ⊥
 IsFrom (Rest site) WholeCall = ⊥
 IsFrom (Rest site) ToJoin = Unit {0}
 
--- a meter begins
+-- a meter at its start
 abbrev pub StartsFrom : Origin → Detail → Meter → Type 0
 StartsFrom from detail m = (tags : Tags) → Meters detail tags from 0 (first_open from) [] m
 
@@ -42,8 +42,8 @@ StartsFrom from detail m = (tags : Tags) → Meters detail tags from 0 (first_op
 abbrev pub site_at : Origin → List Around → ℕ
 site_at from around = here_in (base_of from) (opens_round from around)
 
--- the meter of a strand tells of the run that its state is one of; where it waits its block has spawned; that of a
--- strand that stopped tells of nothing
+-- the meter of a strand represents the run up to the strand's state; if the strand waits, its block has spawned; the
+-- meter of a strand that stopped is meaningless
 abbrev pub TellsStrand : (code : Code) → Gauge code → Origin → Strand → Meter → Type 0
 TellsStrand code g from (Going s count outs) m =
     Meters g.detail g.tags from count (opens_round from s.around) s.trace.events m
@@ -52,11 +52,11 @@ TellsStrand code g from (Waits s count outs) m =
     × (has_spawned s.trace.events ≡ true)
 TellsStrand code g from (Halted e outs) m = Unit {0}
 
--- by whichever numbers of the code's tags
+-- the meter represents the run for every numbering of the code's tags
 abbrev pub TellsAll : (code : Code) → Detail → Origin → Strand → Meter → Type 0
 TellsAll code detail from strand m = (g : Gauge code) → g.detail ≡ detail → TellsStrand code g from strand m
 
--- what the effect of a rest carries of its measures: a meter that tells of what the effect shows
+-- the effect of a continuation comes with a meter that represents the effect's trace
 abbrev pub CountsEffect : (code : Code) → Detail → (site : ℕ) → Effect → Meter → Type 0
 CountsEffect code detail site (Joined frame t cost) m =
     (g : Gauge code) → g.detail ≡ detail → Meters g.detail g.tags (Rest site) cost [] t.events m
@@ -65,27 +65,26 @@ CountsEffect code detail site (TrapIn trap line lines cost) m = Unit {0}
 CountsEffect code detail site OverLimit m = Unit {0}
 CountsEffect code detail site Memory m = Unit {0}
 
--- an effect with a meter means a job that was handed out at a site, with so much that is kept. It is said of these values alone, so
--- that whatever carries
--- them from one worker to another can keep it
+-- an effect with a meter means a job that was handed out at a site, with this level of detail. The statement depends
+-- only on these values, so that a value that carries them from worker to worker can keep it
 pub record MeansMeasured (code : Code) (job : Job) (detail : Detail) (site : ℕ) (e : Effect) (m : Meter) : Type 0 where
   pub means : JobMeaning code job e
   pub counts : CountsEffect code detail site e m
 
--- the calls on a strand and on its meter keep what the meter tells
+-- the operations on a strand and on its meter preserve that the meter represents the run
 pub record MetersKeep (code : Code) (detail : Detail) : Type 0 where
   pub starting : (from : Origin) (job : Job) (m : Meter) → StartsFrom from detail m
       → TellsAll code detail from (Going (job_start job) 0 []) m
-  -- an instruction, of which the meter is told
+  -- an instruction, which the meter receives
   pub advancing : (from : Origin) (job : Job) (s s' : State) (count : ℕ) (outs : List Job) (m m' : Meter)
       → job.before + (count + 1) ≤ job.limit → job.limit ≤ MOST_LIMIT → step code s ≡ On s'
       → IsToldOf m m' count (slice_get code.instrs s.place)
       → TellsAll code detail from (Going s count outs) m
       → TellsAll code detail from (goes_on (turn code s) s s' job.limit job.before (count + 1) outs) m'
-  -- the rest beside a call that has ended was got back unrun: nothing is done
+  -- the continuation of a call that ended was taken back, and nobody had executed it: nothing happens
   pub taking_back : (from : Origin) (out : Job) (s : State) (count : ℕ) (outs : List Job) (m : Meter)
       → TellsAll code detail from (Waits s count (out ∷ outs)) m → TellsAll code detail from (Going s count outs) m
-  -- it was run apart, up to its join, by a strand whose meter knew the site and nothing else
+  -- a strand whose meter knew only the site executed the continuation up to its join
   pub giving : (from : Origin) (job out : Job) (s : State) (count cost : ℕ) (outs : List Job) (frame : Standing)
       (t : Trace) (m r m' : Meter)
       → IsStrandOf code job (Waits s count (out ∷ outs)) → job.before + (count + cost) ≤ job.limit
@@ -93,12 +92,12 @@ pub record MetersKeep (code : Code) (detail : Detail) : Type 0 where
       → MeansMeasured code out detail (site_at from s.around) (Joined frame t cost) r → Rests m r m' count cost
       → TellsAll code detail from (Waits s count (out ∷ outs)) m
       → TellsAll code detail from (Going (resumed s frame t) (count + cost) outs) m'
-  -- a rest has come to its join
+  -- a continuation reached its join
   pub arriving : (job : Job) (site : ℕ) (t : State) (cost : ℕ) (m : Meter) → IsStrandOf code job (Going t cost [])
       → has_come job.extent code t ≡ true
       → TellsAll code detail (Rest site) (Going t cost []) m
       → MeansMeasured code job detail site (Joined (standing t) t.trace cost) m
-  -- a whole run ends, by an instruction of which the meter is told
+  -- a whole run ends with an instruction, which the meter receives
   pub ending : (g : Gauge code) → g.detail ≡ detail
       → (s : State) (count limit : ℕ) (outs : List Job) (v : Option ℤ) (arrays : Slots (List ℤ)) (t : Trace)
       (m m' : Meter)
@@ -106,10 +105,11 @@ pub record MetersKeep (code : Code) (detail : Detail) : Type 0 where
       → IsToldOf m m' count (slice_get code.instrs s.place)
       → TellsAll code detail Main (Going s count outs) m → Meters g.detail g.tags Main (count + 1) [] (whole t) m'
 
+-- for all code and every level of detail, `MetersKeep` holds
 abbrev pub CallsKeepMeters : Type 0
 CallsKeepMeters = (code : Code) (detail : Detail) → MetersKeep code detail
 
--- what a strand with a meter may come to: one rule for each step that it goes on by
+-- the reachable states of a strand with a meter: one rule for each step
 pub data Metered (code : Code) (detail : Detail) : (from : Origin) (job : Job) → Strand → Meter → Type 0 where
   Started : (from : Origin) (job : Job) (m : Meter) → IsFrom from job.extent → job.before ≤ job.limit
       → job.limit ≤ MOST_LIMIT → StartsFrom from detail m
@@ -128,50 +128,54 @@ pub data Metered (code : Code) (detail : Detail) : (from : Origin) (job : Job) �
       → has_come out.extent code t ≡ true → job.before + (count + cost) ≤ job.limit → Rests m r m' count cost
       → Metered code detail from job (Going (resumed s (standing t) t.trace) (count + cost) outs) m'
 
--- whatever is handed out, got back, or run apart and given, in whatever order and however deep: the strand is one of
--- the serial run, and its meter tells of
--- that run
+-- for all continuations that are handed out, taken back, or executed elsewhere and given, in any order and at any
+-- depth: the strand is a strand of the serial run, and its meter represents that run
 pub record StrandsTell (code : Code) (detail : Detail) : Type 0 where
   pub serial : (from : Origin) (job : Job) (strand : Strand) (m : Meter) → Metered code detail from job strand m
       → IsStrandOf code job strand
   pub told : (from : Origin) (job : Job) (strand : Strand) (m : Meter) → Metered code detail from job strand m
       → TellsAll code detail from strand m
 
+-- for all code and every level of detail, `StrandsTell` holds
 abbrev pub MetersTellStrands : Type 0
 MetersTellStrands = (code : Code) (detail : Detail) → StrandsTell code detail
 
--- the sites of the rests that are out at open parts, the newest first: each is the site that its spawner is in
+-- the sites, with one more in front if the part was spawned
 abbrev pub site_if : (spawned : Bool) → ℕ → List ℕ → List ℕ
 site_if true site sites = site ∷ sites
 site_if false site sites = sites
 
+-- the sites of the continuations that are out at all open parts, the newest first
 abbrev pub rest_sites : (base : ℕ) → List Open → List ℕ
 rest_sites base [] = []
 rest_sites base (o ∷ os) = site_if o.spawned (here_in base os) (rest_sites base os)
 
+-- the sites of the continuations that are out at a state, the newest first
 abbrev pub sites_at : Origin → List Around → List ℕ
 sites_at from around = rest_sites (base_of from) (opens_round from around)
 
--- a spawn hands out a rest with the site that it is in; where its call comes back, the strand is in that site; no other
--- instruction changes any
+-- a spawn hands out a continuation with the current site; when the spawned call ends, this is the current site again;
+-- no other instruction changes these sites
 abbrev pub SitesAfter : Origin → Turn → (before after : List Around) → Type 0
 SitesAfter from Goes around around' = sites_at from around' ≡ sites_at from around
 SitesAfter from (HandsOut target taken) around around' =
     sites_at from around' ≡ site_at from around ∷ sites_at from around
 SitesAfter from ComesBack around around' = site_at from around' ∷ sites_at from around' ≡ sites_at from around
 
+-- each step changes the sites of the continuations that are out as `SitesAfter` states
 abbrev pub RestsAreOut : Type 0
 RestsAreOut =
     (code : Code) (from : Origin) (s s' : State) → step code s ≡ On s'
     → SitesAfter from (turn code s) s.around s'.around
 
--- where the strand of a whole run ends of which all is counted, with no rest out: the run answers what the code gives,
--- and its meter, told of the last instruction, reads the measures of the run's tree
+-- at the end of the strand of a whole run with all measures and with no continuation out, the answer of the run is
+-- the answer of the code, and the meter, with the last instruction, returns the measures of the run's tree
 pub record IsMeasured (code : Code) (burden : Burden) (args : List ℤ) (limit sites : ℕ) (v : Option ℤ) (t : Trace)
     (all : Measures) : Type 0 where
   pub answer : code_serial code args limit ≡ Some (answer_of (reducers_of code) (Done (v, no_frame) 0 t))
   pub measures : AreMeasures burden sites code.tags (normal (Marked (Invocation 0) (tree_of t.events))) all
 
+-- at the end of every whole run that records all measures, `IsMeasured` holds
 abbrev pub RootsAreMeasured : Type 0
 RootsAreMeasured =
     (code : Code) (g : Gauge code) (burden : Burden) (f : Func) (args : List ℤ) (limit count sites : ℕ) (s : State)
@@ -183,7 +187,7 @@ RootsAreMeasured =
     → Reads m' (count + 1) sites (length code.tags) all
     → IsMeasured code burden args limit sites v t all
 
--- up to its join the block that a rest begins in has no join
+-- up to its join, the block in which a continuation begins has no join
 abbrev pub RestsHaveNoJoins : Type 0
 RestsHaveNoJoins =
     (code : Code) (job : Job) (frame : Standing) (t : Trace) (cost : ℕ) → job.extent ≡ ToJoin

@@ -1,4 +1,4 @@
--- Lemmas on what meters are told, which the proofs of crates above cite.
+-- Lemmas about the events of meters, for the proofs of the crates above.
 pub mod Events
 pub mod Spawns
 pub mod Told

@@ -1,11 +1,12 @@
-//! The laws of strands with meters: each function has one as its contract, and does nothing.
+//! The laws of strands with meters. Each function states a law as its contract, and does nothing.
 
 ghost use Rattle.cw_meter_laws.specs.Strands.{CallsKeepMeters, MetersTellStrands, RestsAreOut, RestsHaveNoJoins, RootsAreMeasured};
 
 use cw_meter::laws::instructions_need_no_call;
 use cw_strand_laws::laws::{calls_on_a_strand_keep_its_job, the_root_answers_what_the_code_gives};
 
-/// The calls on a strand and on its meter keep what the meter tells: of the serial run of the strand's job so far.
+/// States that the operations on a strand and on its meter preserve that the meter represents the serial run of the
+/// strand's job so far.
 pub fn calls_keep_what_meters_tell()
     ensures { CallsKeepMeters }
 {
@@ -13,8 +14,8 @@ pub fn calls_keep_what_meters_tell()
     calls_on_a_strand_keep_its_job();
 }
 
-/// Whatever strands hand out, get back or are given, in whatever order, each is a strand of its job, and its meter tells
-/// of the serial run of that job so far.
+/// States that for all that strands hand out, take back or are given, in any order, each is a strand of its job, and
+/// its meter represents the serial run of that job so far.
 pub fn meters_tell_strands()
     ensures { MetersTellStrands }
 {
@@ -22,21 +23,21 @@ pub fn meters_tell_strands()
     calls_on_a_strand_keep_its_job();
 }
 
-/// The site that the rest of a block is handed out with is the one that its strand is in when the rest is got back or
-/// given.
+/// States that the site with which the continuation of a block is handed out is the site of its strand when the
+/// continuation is taken back or its effect is given.
 #[tactic(auto, using(crate::proofs::RestSites::rests_are_out))]
 pub fn rests_keep_their_sites()
     ensures { RestsAreOut }
 {}
 
-/// Up to its join the block that a rest begins in has no join.
+/// States that up to its join, the block in which a continuation begins has no join.
 #[tactic(auto, using(crate::proofs::Strands::rests_have_no_joins))]
 pub fn rests_have_no_joins()
     ensures { RestsHaveNoJoins }
 {}
 
-/// Where the strand of a whole run ends, its meter reads what the serial run's tree has, and the run answers what the
-/// code gives.
+/// States that at the end of the strand of a whole run, its meter returns the measures of the serial run's tree, and
+/// the answer of the run is the answer of the code.
 pub fn roots_are_measured()
     ensures { RootsAreMeasured }
 {

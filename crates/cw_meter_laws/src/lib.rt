@@ -1,9 +1,10 @@
-//! Strands with meters: definitions and laws alone.
+//! Strands with meters: definitions and laws only.
 //!
-//! A strand that hands out the rests of its blocks has a meter, which it tells of each of its instructions. A rest that is
-//! got back unrun changes nothing: the strand goes on with it, and its meter too. A rest that was run apart, by a strand
-//! with a meter of its own, is taken in (`Meter::rest`). Whatever is handed out, got back and given in whatever order, the
-//! meter of a strand tells of the serial run of its job so far.
+//! A strand that hands out continuations has a meter, which receives each of its instructions. If the strand takes a
+//! continuation back before anyone executed it, the strand and its meter continue as if nothing had happened. If
+//! another strand executed the continuation with its own meter, the meter appends that one (`Meter::rest`). Whatever
+//! is handed out, taken back and given, in any order, the meter of a strand represents the serial run of its job so
+//! far.
 #![tactic(auto)]
 
 pub mod laws;

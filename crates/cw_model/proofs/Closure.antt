@@ -1,4 +1,4 @@
--- What is taken after a `while` is the least set closed under its body.
+-- The names held after a `while` are the least set that is closed under its body.
 use Rattle.std.proofs.Common.{◌≡◌, ℕ, zero, suc, ◌+◌, ◌<◌, Bool, true, false, cond, List, [], ◌∷◌, ◌++◌, get_or, filter, Contains, ◌⊎◌, inl, inr, ⊎_elim, arith, refl, zero-lt-suc}
 use Rattle.std.proofs.lemmas.List.Elements.{Contains-append_left, Contains-append_right, Contains-append_cases, All-filter, All-contains, All-contains_itself, filter_passes}
 use Rattle.cw_model.specs.declared.syntax.CallKind.TheVariants.{Spawned}
@@ -7,7 +7,7 @@ use Rattle.cw_model.specs.Typing.{block_returns}
 use Rattle.cw_model.specs.Ownership.{Holder, CutOf, Taken, freed, cut_ended, without, where_it_goes_on, own_names, taken_after, taken_after_all, IsLeastClosed}
 use Rattle.cw_model.specs.WhileLaw.{one_turn}
 
--- what is kept by a filter
+-- the only element of a list with one element
 only : {X : Type 0} (y x : X) (k : ℕ) → k < 1 → get_or (y ∷ []) k x ≡ x → y ≡ x
 only y x zero l e = e
 only y x (suc k) l e = absurd (omega arith)
@@ -30,12 +30,13 @@ from_filter test xs x c = All-contains (Contains xs) (filter test xs) x (All-fil
 passes : {X : Type 0} (test : X → Bool) (xs : List X) (x : X) → Contains (filter test xs) x → test x ≡ true
 passes test xs x c = All-contains (λ x. test x ≡ true) (filter test xs) x (filter_passes test xs) c
 
--- each pair of what is left was there before, or is left of every set; and what is left of one set is left of each that has it
+-- each remaining pair was in the set before, or remains for every set; and a pair that remains for one set remains
+-- for each set that contains it
 record Acts (f : Taken → Taken) : Type 0 where
   source : (set : Taken) (p : Name × Holder) → Contains (f set) p → Contains set p ⊎ ((other : Taken) → Contains (f other) p)
   keeps : (set : Taken) (p : Name × Holder) → Contains (f set) p → (other : Taken) → Contains other p → Contains (f other) p
 
--- it leaves no less of a greater set
+-- more remains of a larger set
 grows : (f : Taken → Taken) → Acts f → (set other : Taken) → ((p : Name × Holder) → Contains set p → Contains other p) →
     (p : Name × Holder) → Contains (f set) p → Contains (f other) p
 grows f a set other more p c = ⊎_elim (λ here. a.keeps set p c other (more p here)) (λ always. always other) (a.source set p c)
@@ -87,7 +88,7 @@ goes_on : (returns : Bool) (f : Taken → Taken) → Acts f → Acts (λ set. wh
 goes_on true f a = nothing_stays
 goes_on false f a = a
 
--- what a block leaves, without its own names and what it freed at its end
+-- the names that a sync block leaves held, without its own names and those that its end releases
 ends : (depth : ℕ) (names : List Name) (f : Taken → Taken) → Acts f → Acts (λ set. freed depth (without names (f set)))
 ends depth names f a =
     one_after_another (λ set. without names (f set)) (freed depth) (one_after_another f (without names) a (some_stays _)) (some_stays _)

@@ -1,4 +1,4 @@
--- What the spans would be if sites were free.
+-- The spans that a run would have if some sites cost nothing.
 use Rattle.std.proofs.Common.{◌≡◌, ℕ, ◌+◌, ◌≤◌, Bool, true, false, ◌&&◌, ◌||◌, List, [], ◌∷◌, ◌++◌, arith, refl, ◌∙◌}
 use Prim.Native.Nat.add
 use Rattle.std.specs.Prelude.{nat_le, if◌then◌else◌, ◌==◌, sum_by, filter}
@@ -14,7 +14,7 @@ use Rattle.cw_model.specs.Sites.{CallSite}
 use Rattle.cw_model.specs.Freed.{freed, span_if_free, burdened_if_free, is_site_of, over_sites}
 use Rattle.cw_model.specs.lemmas.Regrouping.{weight_if, weight_of_leaf, weight-append}
 
--- never above
+-- No burdened span becomes larger.
 
 at_most : (burden : Burden) (frees : ℕ → Bool) (outer : ℕ) (t : Tree)
     → burdened_span burden (freed frees outer t) ≤ burdened_span burden t
@@ -31,7 +31,7 @@ pub never_above : (burden : Burden) (frees : ℕ → Bool) (t : Tree)
     → burdened_if_free burden frees t ≤ burdened_span burden t
 never_above burden frees t = at_most burden frees 0 t
 
--- nothing and all
+-- If no site costs nothing, the tree is unchanged; if all do, the span is 0.
 
 freed_nothing : (frees : ℕ → Bool) → ((site : ℕ) → frees site ≡ false) → (outer : ℕ) (t : Tree) → freed frees outer t ≡ t
 freed_nothing frees h outer (Leaf k) = rw (h outer) refl
@@ -51,9 +51,9 @@ freed_all frees h outer (Marked mark t) = freed_all frees h (site_inside mark ou
 pub all_freed : (frees : ℕ → Bool) (t : Tree) → ((site : ℕ) → frees site ≡ true) → span_if_free frees t ≡ 0
 all_freed frees t h = freed_all frees h 0 t
 
--- the fall
+-- The span falls by at most the own span of the function's sites.
 
--- what the freed ones of some leaves weigh
+-- the weight of the leaves in a list whose sites cost nothing
 abbrev freed_weight : (ℕ → Bool) → List (ℕ × ℕ) → ℕ
 freed_weight frees xs = sum_by (λ (leaf : ℕ × ℕ). leaf.1) (filter (λ leaf. frees leaf.0) xs)
 
@@ -90,11 +90,11 @@ falls frees outer (Par child rest) = by_test (nat_le (span rest) (span child)) r
     by_test false e h k = omega (arith, leb-false (span rest) (span child) e, k)
 falls frees outer (Marked mark t) = falls frees (site_inside mark outer) t
 
--- of some sites, those that call a function of this name
+-- the sites that call a function with this name
 abbrev named : List CallSite → Name → List CallSite
 named sites name = filter (λ s. same_name name s.callee) sites
 
--- what they have of some leaves
+-- the weight of the leaves in a list that belong to these sites
 abbrev over : List CallSite → List (ℕ × ℕ) → ℕ
 over sites xs = sum_by (λ s. weight_of_site s.number xs) sites
 
@@ -112,7 +112,7 @@ over_leaf (s ∷ sites) leaf xs =
       sum_by-cons (λ (s : CallSite). weight_of_site s.number xs) s sites,
     ) (omega (arith, weight-append s.number (leaf ∷ []) xs, over_leaf sites leaf xs))
 
--- a leaf of a site among them is one of theirs
+-- a zero-cost leaf belongs to one of the function's sites
 leaf_is_over : (sites : List CallSite) (name : Name) (site k : ℕ)
     → weight_if (is_site_of sites name site) k ≤ over (named sites name) ((site, k) ∷ [])
 leaf_is_over [] name site k = omega arith
@@ -137,7 +137,7 @@ leaf_is_over (s ∷ sites) name site k = by_name (same_name name s.callee) (leaf
     by_name false h =
         by_other (site == s.number) (is_site_of sites name site) (over (named sites name) ((site, k) ∷ [])) h
 
--- so are all leaves of their sites
+-- all zero-cost leaves belong to the function's sites
 leaves_are_over : (sites : List CallSite) (name : Name) (xs : List (ℕ × ℕ))
     → freed_weight (is_site_of sites name) xs ≤ over (named sites name) xs
 leaves_are_over sites name [] = omega (arith, over_none (named sites name))

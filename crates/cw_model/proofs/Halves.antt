@@ -1,4 +1,4 @@
--- A loop by halves does the turns of the plain loop in order, at the costs and in the tree of the halves.
+-- A divide-and-conquer loop runs the iterations of the plain loop in order, with its own costs and its own tree.
 use Rattle.std.proofs.Common.{◌≡◌, ℕ, zero, suc, ◌+◌, ◌-◌, ◌*◌, ◌/◌, ◌≤◌, Bool, true, false, ℤ, pos, ◌+ℤ◌, List, [], ◌∷◌, ◌++◌}
 use Rattle.std.proofs.Common.{length, arith, refl, sym, ◌∙◌, ap, append_assoc, append-nil, length-append}
 use Rattle.std.specs.Prelude.{nat_le, if◌then◌else◌, flat_map}
@@ -26,7 +26,7 @@ step from m = omega (arith, ints)
 steps : (from : ℤ) (l m : ℕ) → from +ℤ pos l +ℤ pos m ≡ from +ℤ pos (l + m)
 steps from l m = omega (arith, ints)
 
--- what a loop costs beside its bodies, at most so deep
+-- the cost of a loop without its bodies, for a bounded depth
 abbrev pub cost_at : (depth grain k q n : ℕ) → ℕ
 cost_at depth grain k q n =
     let nodes = inner_nodes depth grain n in
@@ -51,27 +51,27 @@ tree_of_node depth grain k q n xs ys l m e =
     let all : length (xs ++ ys) ≡ n = omega (arith, length-append xs ys, l, m) in
     rw (all, e, take_at xs ys (n / 2) l, drop_at xs ys (n / 2) l) refl
 
--- the costs of a leaf
+-- the cost of a leaf
 pub cost_of_leaf : (k q n i : ℕ) → i ≡ 0 → 14 * (i + 1) + 11 * n + (21 + 5 * q + 2 * k) * i ≡ 14 + 11 * n
 cost_of_leaf k q n i e = rw e (omega arith)
 
--- the costs of an inner node and of its halves
+-- the cost of an inner node is its own cost and the costs of its halves
 pub costs_of_node : (k q n i j i' : ℕ) → i' ≡ 1 + i + j →
     node_start k q + node_call k + node_end q + (14 * (i + 1) + 11 * (n / 2) + (21 + 5 * q + 2 * k) * i)
     + (14 * (j + 1) + 11 * (n - n / 2) + (21 + 5 * q + 2 * k) * j)
     ≡ 14 * (i' + 1) + 11 * n + (21 + 5 * q + 2 * k) * i'
 costs_of_node k q n i j i' e = rw e (omega arith)
 
--- the same in plain numbers, with what the turns took
+-- the cost of an inner node as a sum of numbers, with the budget that the iterations spent
 cost_of_both : (left l1 l2 start call end c1 c2 c s1 s2 s : ℕ) → start ≤ left → left - start ≡ l1 + c1 + s1 → call ≤ l1 → l1 - call ≡ l2 + c2 + s2 → end ≤ l2 →
     start + call + end + c1 + c2 ≡ c → s ≡ s1 + s2 → left ≡ l2 - end + c + s
 cost_of_both left l1 l2 start call end c1 c2 c s1 s2 s a b d e f g h = omega arith
 
--- what two runs of turns show
+-- the records of two runs of iterations, concatenated
 shown_by_both : {A : Type 0} (f : Turn → List A) (xs ys : List Turn) (l m : List A) → l ≡ flat_map f xs → m ≡ flat_map f ys → l ++ (m ++ []) ≡ flat_map f (xs ++ ys)
 shown_by_both f xs ys l m e g = rw (e, g, append-nil) (sym (flat_map-append f xs ys))
 
--- the tree of an inner node, as its events give it
+-- the tree of an inner node, up to grouping, from its events
 grouped_node : (start call end : ℕ) (t u : Tree) →
     Regrouped (Seq (Seq (Leaf start) (Par t (Seq (Leaf call) (Seq u (Leaf 0))))) (Seq (Seq (Leaf end) (Leaf 0)) (Leaf 0)))
     (Seq (Leaf start) (Seq (Par t (Seq (Leaf call) u)) (Leaf end)))
@@ -86,7 +86,7 @@ module _ (body inner : ℤ → Frame → Piece Frame) (is_body : IsBody body inn
   leads-append (no_turn {from = from}) h = rw (+ℤ_idr from) at h
   leads-append (one_turn {from = from} {turns = turns} e more) h = one_turn e (leads-append more (rw (← step from (length turns)) at h))
 
-  -- what the turns of a leaf do
+  -- the effect of the iterations of a leaf
   record LeafRuns (n : ℕ) (from : ℤ) (frame : Frame) (left : ℕ) (frame' : Frame) (left' : ℕ) (t : Trace) : Type 0 where
     turns : List Turn
     as_many : length turns ≡ n
@@ -96,7 +96,7 @@ module _ (body inner : ℤ → Frame → Piece Frame) (is_body : IsBody body inn
     cost : left ≡ left' + 11 * n + spent turns
     parts : (events : List Event) (b : Tree) → PartsAre events (Leaf leaf_end) b → PartsAre (t.events ++ events) (turns_tree (trees_of turns)) b
 
-  -- one turn before those of a leaf
+  -- one iteration before the others of a leaf
   more_turns : (n : ℕ) (from : ℤ) (frame : Frame) (left : ℕ) (frame' : Frame) (left' : ℕ) (t : Trace) (frame'' : Frame) (left'' : ℕ) (u : Trace) →
       turn_start ≤ left → inner from frame (left - turn_start) ≡ Done frame' left' t → turn_end ≤ left' →
       LeafRuns n (from +ℤ pos 1) frame' (left' - turn_end) frame'' left'' u →
@@ -113,7 +113,7 @@ module _ (body inner : ℤ → Frame → Piece Frame) (is_body : IsBody body inn
         parts = λ events b h. parts_works turn_start (parts_series (same (tree_of t.events)) (parts_works turn_end (r.parts events b h)));
       }
 
-  -- a trap in a turn after the first
+  -- a trap in an iteration after the first
   later_trap : (n : ℕ) (from : ℤ) (frame : Frame) (left : ℕ) (frame' : Frame) (left' : ℕ) (t : Trace) (trap : Trap) (line : ℕ) (lines : List ℤ) →
       inner from frame (left - turn_start) ≡ Done frame' left' t → TrapsAsPlain inner n (from +ℤ pos 1) frame' trap line lines →
       TrapsAsPlain inner (suc n) from frame trap line (t.lines ++ lines)
@@ -152,11 +152,11 @@ module _ (body inner : ℤ → Frame → Piece Frame) (is_body : IsBody body inn
         same_lines = refl;
       })))
 
-  -- two runs of turns are one
+  -- two runs of iterations make one
   spent-append : (xs ys : List Turn) → spent (xs ++ ys) ≡ spent xs + spent ys
   spent-append xs ys = sum_by-append (λ (turn : Turn). turn.given - turn.left) xs ys
 
-  -- a trap in the first half, and one in the second
+  -- a trap in the first half, and a trap in the second half
   trap_in_first : (n : ℕ) (from : ℤ) (frame : Frame) (trap : Trap) (line : ℕ) (lines : List ℤ) →
       TrapsAsPlain inner (n / 2) from frame trap line lines → TrapsAsPlain inner n from frame trap line lines
   trap_in_first n from frame trap line lines r = record {
@@ -170,7 +170,7 @@ module _ (body inner : ℤ → Frame → Piece Frame) (is_body : IsBody body inn
     same_lines = r.same_lines;
   }
 
-  -- what the halves of a loop do, at most so deep
+  -- the effect of a loop of bounded depth
   module _ (grain k q : ℕ) where
     record Runs (depth n : ℕ) (from : ℤ) (frame : Frame) (left : ℕ) (frame' : Frame) (left' : ℕ) (t : Trace) : Type 0 where
       turns : List Turn

@@ -1,4 +1,4 @@
--- The work of a loop tree, and that a loop by halves is never too deep.
+-- The work of a loop tree, and the depth that is always enough.
 use Rattle.std.proofs.Common.{◌≡◌, ℕ, zero, suc, ◌+◌, ◌-◌, ◌*◌, ◌/◌, ◌<◌, Bool, true, false, ℤ, pos, ◌+ℤ◌, List, [], ◌∷◌, length, take, drop, arith, refl, sym, ◌∙◌, ap, length-drop}
 use Rattle.std.specs.Prelude.{nat_le, if◌then◌else◌, sum_by}
 use mathlib.Core.Path.{fun_ext}
@@ -16,11 +16,11 @@ work-turns_tree : (ts : List Tree) → work (turns_tree ts) ≡ leaf_end + 11 * 
 work-turns_tree [] = refl
 work-turns_tree (t ∷ ts) = omega (arith, work-turns_tree ts, sum_by-cons work t ts)
 
--- a list's sum is that of its two ends
+-- the sum of a list is the sum of its two halves
 sum_by-halves : (m : ℕ) (ts : List Tree) → sum_by work (take m ts) + sum_by work (drop m ts) ≡ sum_by work ts
 sum_by-halves m ts = sym (sum_by-append work (take m ts) (drop m ts)) ∙ ap (λ xs. sum_by work xs) (take-append-drop m ts)
 
--- the work of an inner node in plain numbers
+-- the work of an inner node as a sum of numbers
 work_of_node : (start call end c1 c2 c s1 s2 s w1 w2 : ℕ) → start + call + end + c1 + c2 ≡ c → s1 + s2 ≡ s → w1 ≡ c1 + s1 → w2 ≡ c2 + s2 →
     start + (w1 + (call + w2) + end) ≡ c + s
 work_of_node start call end c1 c2 c s1 s2 s w1 w2 e f g h = omega arith
@@ -53,7 +53,7 @@ work-loop_tree grain k q some (suc depth) ts deep = by_test (nat_le (length ts) 
         (costs_of_node k q n (inner_nodes depth grain (n / 2)) (inner_nodes depth grain (n - n / 2)) (inner_nodes (suc depth) grain n) (nodes_of_node depth grain n e))
         (sum_by-halves (n / 2) ts) first second
 
--- an inner node by what its halves do
+-- two inner nodes with equal halves are equal
 same_node : (k q : ℕ) (first first' second second' : Frame → Piece Frame) (frame : Frame) (left : ℕ) →
     ((frame : Frame) (left : ℕ) → first frame left ≡ first' frame left) → ((frame : Frame) (left : ℕ) → second frame left ≡ second' frame left) →
     node_piece k q first second frame left ≡ node_piece k q first' second' frame left
@@ -62,7 +62,7 @@ same_node k q first first' second second' frame left f g =
     let h : second ≡ second' = fun_ext (λ frame. fun_ext (g frame)) in
     ap (λ p. node_piece k q p second frame left) e ∙ ap (λ p. node_piece k q first' p frame left) h
 
--- deep enough is as deep as any
+-- all depths that are large enough have the same result
 same_depth : (grain k q : ℕ) → 0 < grain → (depth depth' n : ℕ) (from : ℤ) (body : ℤ → Frame → Piece Frame) (frame : Frame) (left : ℕ) → n < depth → n < depth' →
     halves depth grain k q n from body frame left ≡ halves depth' grain k q n from body frame left
 same_depth grain k q some zero depth' n from body frame left deep deep' = absurd (omega arith)

@@ -1,4 +1,4 @@
--- Call statements of a derived program have the numbers that follow one another, in their order.
+-- The call statements of a derived program are numbered consecutively, in source order.
 use Rattle.std.proofs.Common.{◌≡◌, ℕ, suc, ◌+◌, List, [], ◌∷◌, ◌++◌, length, Bool, true, false, ◌&&◌, refl, ap, ◌∙◌, subst, arith, length-append}
 use Rattle.std.specs.Prelude.{nat_eq, flat_map}
 use Rattle.std.proofs.lemmas.Bool.Decides.{nat_tests}
@@ -11,7 +11,7 @@ use Rattle.cw_model.specs.Grammar.{declare, named, sync, when, choose, repeat, l
 use Rattle.cw_model.specs.Grammar.{one_more, ReadsFunction, function, ReadsItems, no_item, one_reducer, one_function, Derives}
 use Rattle.cw_model.specs.Grammar as grammar
 
--- numbered from one number up to another
+-- the sites are numbered from one number up to another
 record Counted (from to : ℕ) (sites : List CallSite) : Type 0 where
   numbered : (k : ℕ) → from ≡ suc k → are_numbered k sites ≡ true
   upto : to ≡ from + length sites

@@ -1,4 +1,4 @@
--- The span that is computed is that of a heaviest path.
+-- The computed span is the weight of a heaviest path.
 use Rattle.std.proofs.Common.{◌≡◌, ℕ, ◌+◌, ◌≤◌, List, [], ◌∷◌, arith, refl, ap, ⊎_elim}
 use Rattle.std.proofs.lemmas.Bool.{cases_lt}
 use Rattle.cw_model.specs.declared.burden.Burden.{Burden}
@@ -7,7 +7,7 @@ use Rattle.cw_model.specs.Trees.{Mark, Tree, Leaf, Seq, Par, Marked, burdened_sp
 use Rattle.cw_model.specs.Dag.{Place, Here, First, Second, weight_at, rests_entered, children_entered, charged, IsWalk, IsPath, walk_weight, path_weight, IsBurdenedSpan}
 
 module _ (burden : Burden) where
-  -- a walk through a part of a tree, of the same weight
+  -- a walk through a part of a tree, of this weight
   record Part (part : Tree) (p : Place) (weight : ℕ) : Type 0 where
     qs : List Place
     walks : IsWalk part p qs
@@ -83,7 +83,7 @@ module _ (burden : Burden) where
       let r = marked_part mark t p qs path.1 in
       omega (arith, r.same, at_most t p r.qs (path.0, r.walks))
 
-  -- a walk of a part is one of the whole
+  -- a walk of a part is a walk of the whole
   in_second : (a b : Tree) (p : Place) (qs : List Place) → IsWalk b p qs → Part (Seq a b) (Second p) (walk_weight burden b p qs)
   in_second a b p [] walk = record { qs = []; walks = walk; same = refl }
   in_second a b p (q ∷ qs) walk =
@@ -117,7 +117,7 @@ module _ (burden : Burden) where
       let r = in_both a b x first q second walk.1 path in
       record { qs = First x ∷ r.qs; walks = (walk.0, r.walks); same = omega (arith, r.same) }
 
-  -- a path of such a weight
+  -- a path of this weight
   record Found (t : Tree) (weight : ℕ) : Type 0 where
     p : Place
     qs : List Place

@@ -1,4 +1,4 @@
--- Each leaf belongs to one site, so the sites' own work and own spans add up.
+-- Each leaf belongs to one site, so the sites' own work and own spans add up to the whole.
 use Rattle.std.proofs.Common.{◌≡◌, ℕ, zero, suc, ◌+◌, ◌<◌, ◌≤◌, Bool, true, false, List, [], ◌∷◌, ◌++◌, arith, refl, sym, ◌∙◌, ap, add-zero}
 use Prim.Native.Nat.add
 use Rattle.std.specs.Prelude.{nat_le, nat_lt, if◌then◌else◌, ◌==◌, sum_by}
@@ -14,7 +14,7 @@ use Rattle.cw_model.specs.lemmas.Regrouping.{weight_if, weight_of_leaf, weight-a
 abbrev weight : List (ℕ × ℕ) → ℕ
 weight xs = sum_by (λ (leaf : ℕ × ℕ). leaf.1) xs
 
--- sums of what agrees, and of sums
+-- sums of equal functions, and sums of sums
 sum_by-same : (f g : ℕ → ℕ) (xs : List ℕ) → ((x : ℕ) → f x ≡ g x) → sum_by f xs ≡ sum_by g xs
 sum_by-same f g [] h = refl
 sum_by-same f g (x ∷ xs) h = rw (sum_by-cons f x xs, sum_by-cons g x xs, h x, sum_by-same f g xs h) refl
@@ -27,7 +27,7 @@ sum_of_none : (xs : List ℕ) → sum_by (λ x. 0) xs ≡ 0
 sum_of_none [] = refl
 sum_of_none (x ∷ xs) = sum_by-cons (λ x. 0) x xs ∙ add.zero _ ∙ sum_of_none xs
 
--- what one leaf gives to the sites from a number on
+-- the contribution of one leaf to the sites from a number on
 no_site : (site k a n : ℕ) → site < a → sum_by (λ s. weight_if (site == s) k) (range_with_len a n) ≡ 0
 no_site site k a zero h = refl
 no_site site k a (suc n) h =
@@ -46,7 +46,7 @@ one_site site k a (suc n) h l = sum_by-cons (λ s. weight_if (site == s) k) a (r
     by_test true e more = rw (no_site site k (a + 1) n (omega (arith, eqb-true site a e))) (add-zero k)
     by_test false e more = rw (more (omega (arith, eqb-false site a e)) (omega arith)) (add.zero k)
 
--- each leaf is of a site below a number
+-- each leaf belongs to a site below a number
 abbrev AllBelow : ℕ → List (ℕ × ℕ) → Type 0
 AllBelow count [] = Unit {0}
 AllBelow count (leaf ∷ xs) = (leaf.0 < count) × AllBelow count xs

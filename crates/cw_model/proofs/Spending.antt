@@ -1,4 +1,4 @@
--- What a piece of a run takes of the budget is the work of the tree that it shows.
+-- A piece of a run spends the work of the tree of its events.
 use Rattle.std.proofs.Common.{◌≡◌, ℕ, zero, suc, ◌+◌, ◌-◌, ◌/◌, ◌+ℤ◌, Bool, true, false, ℤ, pos, List, [], ◌∷◌, ◌++◌, Some, None, length, arith, refl, ◌∙◌, append-nil}
 use Rattle.std.specs.Prelude.{nat_lt, nat_le, if◌then◌else◌}
 use Rattle.std.proofs.lemmas.Bool.{ltb-false}
@@ -35,7 +35,7 @@ cost-works : (k : ℕ) → cost (works k) ≡ k
 cost-works zero = refl
 cost-works (suc k) = omega (arith, cost-works k)
 
--- where it is done, what is left and the cost make up what there was
+-- if the piece is done, the rest of the budget plus its cost is the budget at the start
 abbrev pub IsPaid : {A : Type 0} → ℕ → Outcome A → Type 0
 IsPaid left o = Ends (λ a left' t. left ≡ left' + cost t.events) (λ trap line lines. Unit {0}) o
 
@@ -80,7 +80,7 @@ spends_value : (e : Evaluated) (line : ℕ) → Spends (pay_for e line)
 spends_value (Gives v k) line = record { paid = λ left. paid_if (nat_lt left k) left k v refl }
 spends_value (Traps trap k) line = record { paid = λ left. trapped_if (nat_lt left k) left trap line }
 
--- a piece that stands as one part of its own work
+-- a piece whose events are one event with the same work
 spends_as_one : {A : Type 0} {piece : Piece A} (part : Tree → Event) → ((t : Tree) → cost (part t ∷ []) ≡ work t) → Spends piece → Spends (as_one part piece)
 spends_as_one part same p = record {
   paid = λ left. one_ends part (weaken (λ a left' t e. e ∙ omega (arith, same (tree_of t.events))) (λ trap line lines h. h) (p.paid left));
@@ -208,12 +208,12 @@ spends_call (suc bound) depth fs entry f given line =
     (λ e g given' line'. spends_call bound (depth_of entry depth) fs e g given' line') f.body given)
     spends_end)
 
--- a call that is done leaves what the work of its tree does not take
+-- a call that is done spends the work of its tree
 pub call_is_paid : (bound depth : ℕ) (fs : List Function) (entry : Entry) (f : Function) (given : Frame) (line left : ℕ) (returned : Returned) (left' : ℕ) (t : Trace) →
     call bound depth fs entry f given line left ≡ Done returned left' t → left ≡ left' + work (tree_of t.events)
 call_is_paid bound depth fs entry f given line left returned left' t e = when_done e ((spends_call bound depth fs entry f given line).paid left)
 
--- the body of a loop in a call is one part in series, and leaves no more than it was given
+-- the body of a loop in a call is one part in series, and leaves at most the budget that it was given
 same_turn : (x : Name) (over : List Name) (b : Block) (fs : List Function) (calls : Calls) (i : ℤ) (frame : Frame) (left : ℕ) →
     for_body x over b fs calls i frame left ≡ as_one Series (for_turn x over b fs calls i frame) left
 same_turn x over b fs calls i frame left = go (run_all b fs calls (inside_loop over (new_int x i frame)) left)

@@ -1,11 +1,11 @@
--- The names that the body of a loop takes from outside.
+-- The names from outside that the body of a loop uses.
 use Rattle.std.specs.Prelude.{List, [], ◌∷◌, ◌++◌, Some, None}
 use Rattle.cw_model.specs.Syntax.{Name, Expr, Number, Variable, Element, Length, Negative, Not, Binary, Stmt, Declare}
 use Rattle.cw_model.specs.Syntax.{DeclareArray, Assign, AssignElement, Reduce, Call, Start, Begin, Sync, If, IfElse}
 use Rattle.cw_model.specs.Syntax.{While, For, Scope, Cut, Region, Print, Return, Block, End, Then}
 use Rattle.cw_model.specs.Names.{new_names}
 
--- the names that stand alone in an expression
+-- the names that occur as `Variable` in an expression
 abbrev pub read_by : Expr → List Name
 read_by (Number n) = []
 read_by (Variable x) = x ∷ []
@@ -15,13 +15,13 @@ read_by (Negative e) = read_by e
 read_by (Not e) = read_by e
 read_by (Binary operator d e) = read_by d ++ read_by e
 
--- the names that stand alone in expressions
+-- the names that occur as `Variable` in a list of expressions
 abbrev pub read_by_all : List Expr → List Name
 read_by_all [] = []
 read_by_all (e ∷ es) = read_by e ++ read_by_all es
 
 abbrev mutual
-  -- the names that stand alone in the expressions of a statement
+  -- the names that occur as `Variable` in the expressions of a statement
   pub read_in : Stmt → List Name
   read_in (Declare x e) = read_by e
   read_in (DeclareArray a e) = read_by e
@@ -43,13 +43,13 @@ abbrev mutual
   read_in (Return None) = []
   read_in (Return (Some e)) = read_by e
 
-  -- the same of a block
+  -- the names that occur as `Variable` in the expressions of a block
   pub read_in_block : Block → List Name
   read_in_block End = []
   read_in_block (Then line s b) = read_in s ++ read_in_block b
 
 abbrev mutual
-  -- the local names that a statement declares, its blocks included
+  -- the local names that a statement declares, including those in its blocks
   pub declared_in : Stmt → List Name
   declared_in (Declare x e) = x ∷ []
   declared_in (DeclareArray a e) = a ∷ []
@@ -62,11 +62,11 @@ abbrev mutual
   declared_in (Region tag b) = declared_in_block b
   declared_in _ = []
 
-  -- the same of a block
+  -- the local names that a block declares, including those in inner blocks
   pub declared_in_block : Block → List Name
   declared_in_block End = []
   declared_in_block (Then line s b) = declared_in s ++ declared_in_block b
 
--- the different outer integers that the body of a loop names, the loop variable aside
+-- the distinct outer integers that the body of a loop uses, without the loop variable
 abbrev pub captured : Name → Block → List Name
 captured variable body = new_names (read_in_block body) (variable ∷ declared_in_block body)

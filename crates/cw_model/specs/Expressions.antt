@@ -1,4 +1,4 @@
--- What an expression gives in the state of a call, and at which cost.
+-- The value of an expression in the state of a call, and its cost in instructions.
 use Rattle.std.specs.Prelude.{ℕ, ◌+◌, ℤ, pos, negsuc, ◌+ℤ◌, ◌-ℤ◌, ◌*ℤ◌, neg_ℤ, int_lt, int_le, not, if◌then◌else◌}
 use Rattle.std.specs.Prelude.{List, length, Option, Some, None, slice_get}
 use Rattle.cw_model.specs.declared.trap.Trap.{Trap}
@@ -11,43 +11,43 @@ use Rattle.cw_model.specs.Syntax.{Name, Expr, Number, Variable, Element, Length,
 use Rattle.cw_model.specs.Names.{is_among}
 use Rattle.cw_model.specs.Frames.{Frame, int_of, array_of}
 
--- what an expression comes to, and the cost up to and with the last instruction done
+-- the result of an expression: a value or a trap, with the cost up to and including its last instruction
 pub data Evaluated : Type 0 where
   Gives : (value : ℤ) (cost : ℕ) → Evaluated
   Traps : (trap : Trap) (cost : ℕ) → Evaluated
 
--- an instruction is done, or traps
+-- an instruction at this cost returns a value, or traps
 abbrev pub done_at : ℕ → Result → Evaluated
 done_at cost (Value v) = Gives v cost
 done_at cost (Fails trap) = Traps trap cost
 
--- one more instruction, on a value
+-- evaluates an expression, then one instruction on its value
 abbrev pub and_then : Evaluated → (ℤ → Result) → Evaluated
 and_then (Traps trap cost) operation = Traps trap cost
 and_then (Gives v cost) operation = done_at (cost + 1) (operation v)
 
--- a second expression after the first, and one more instruction on both values
+-- evaluates two expressions in order, then one instruction on both values
 abbrev pub also : Evaluated → Evaluated → (ℤ → ℤ → Result) → Evaluated
 also (Traps trap cost) second operation = Traps trap cost
 also (Gives v cost) (Traps trap cost') operation = Traps trap (cost + cost')
 also (Gives v cost) (Gives w cost') operation = and_then (Gives w (cost + cost')) (operation v)
 
--- so many further instructions, which do not trap
+-- adds `k` instructions that cannot trap
 abbrev pub dearer : ℕ → Evaluated → Evaluated
 dearer k (Gives v cost) = Gives v (cost + k)
 dearer k (Traps trap cost) = Traps trap cost
 
--- the element at an index, where there is one
+-- the element at an index, if the index is within the list
 abbrev pub element : List ℤ → ℤ → Option ℤ
 element xs (pos i) = slice_get xs i
 element xs (negsuc i) = None
 
--- an element, or a trap where there is none
+-- the element, or a trap if there is none
 abbrev pub in_bounds : Option ℤ → Result
 in_bounds None = Fails trap.OutOfBounds
 in_bounds (Some v) = Value v
 
--- a value may be written where there is an element
+-- the value to be written at index `i`, or a trap if there is no element at `i`
 abbrev pub written : List ℤ → ℤ → ℤ → Result
 written xs i v = in_place (element xs i)
   where
@@ -55,11 +55,12 @@ written xs i v = in_place (element xs i)
     in_place None = Fails trap.OutOfBounds
     in_place (Some w) = Value v
 
--- an index into an array of a loop around costs two more: the loop's function counts from its own lower end
+-- the extra cost of an index into an array of an enclosing loop: 2, because the loop's function counts from the
+-- range's start
 abbrev pub index_cost : Frame → Name → ℕ
 index_cost frame a = if is_among a frame.sliced then 2 else 0
 
--- an operator on two values
+-- the result of an operator on two values
 abbrev pub apply : Operator → ℤ → ℤ → Result
 apply Equal a b = truth (int_eq a b)
 apply Unequal a b = truth (not (int_eq a b))
@@ -73,7 +74,7 @@ apply Times a b = exact (a *ℤ b)
 apply Divide a b = quotient a b
 apply Modulo a b = remainder a b
 
--- the value of an expression, or its trap, with the cost
+-- the value or trap of an expression, with its cost
 abbrev pub evaluate : Expr → Frame → Evaluated
 evaluate (Number n) frame = Gives n 1
 evaluate (Variable x) frame = Gives (int_of frame x) 1

@@ -1,4 +1,4 @@
--- What the spans of a run would be if sites were free, beside what they are.
+-- Laws that relate the spans of a run to the spans that it would have if some sites cost nothing.
 use Rattle.std.specs.Prelude.{◌≡◌, ◌≤◌, ◌<◌, ℕ, ◌+◌, Bool, true, false, List}
 use Rattle.cw_model.specs.declared.burden.Burden.{Burden}
 use Rattle.cw_model.specs.Syntax.{Name}
@@ -8,31 +8,31 @@ use Rattle.cw_model.specs.Sites.{CallSite}
 use Rattle.cw_model.specs.TreeLaws.{Regrouped}
 use Rattle.cw_model.specs.Freed.{freed, span_if_free, burdened_if_free, is_site_of, over_sites}
 
--- no span would be greater, whatever is charged
+-- no burdened span becomes larger if sites cost nothing, for any burden
 abbrev pub FreedIsNeverAbove : Type 0
 FreedIsNeverAbove =
     (burden : Burden) (frees : ℕ → Bool) (t : Tree) → burdened_if_free burden frees t ≤ burdened_span burden t
 
--- if a function were free, the span would fall by no more than the own span of its sites
+-- if a function cost nothing, the span would fall by at most the own span of its sites
 abbrev pub FallsByOwnSpanAtMost : Type 0
 FallsByOwnSpanAtMost = (sites : List CallSite) (name : Name) (t : Tree) →
     span t ≤ span_if_free (is_site_of sites name) t + over_sites sites name (λ row. row.own_span) t
 
--- if nothing were free, the tree would be as it is
+-- if no site costs nothing, the tree is unchanged
 abbrev pub NothingFreedIsTheSame : Type 0
 NothingFreedIsTheSame = (frees : ℕ → Bool) (t : Tree) → ((site : ℕ) → frees site ≡ false) → freed frees 0 t ≡ t
 
--- if all were free, no span would be left
+-- if all sites cost nothing, the span is 0
 abbrev pub AllFreedLeavesNothing : Type 0
 AllFreedLeavesNothing =
     (frees : ℕ → Bool) (t : Tree) → ((site : ℕ) → frees site ≡ true) → span_if_free frees t ≡ 0
 
--- trees that differ only in grouping would differ only so
+-- trees that differ only in grouping still differ only in grouping if sites cost nothing
 abbrev pub FreedIsRegrouped : Type 0
 FreedIsRegrouped =
     (frees : ℕ → Bool) (t u : Tree) → Regrouped t u → Regrouped (freed frees 0 t) (freed frees 0 u)
 
--- sites that are not in the tree say nothing
+-- only the sites in the tree matter
 abbrev pub FreedByItsSites : Type 0
 FreedByItsSites = (count : ℕ) (frees others : ℕ → Bool) (t : Tree) → 0 < count → sites_below count t ≡ true
     → ((site : ℕ) → site < count → frees site ≡ others site) → freed frees 0 t ≡ freed others 0 t

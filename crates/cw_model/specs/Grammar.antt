@@ -1,6 +1,6 @@
--- The grammar, a constructor for each production. A part reads from the first list of tokens to the last: the tokens
--- begin with a text of the part, which has this tree, and the rest follows it. Statements also count call statements:
--- from the number of the first one in them to the number after the last.
+-- The grammar: one constructor for each production. A relation `Reads..` relates a list of tokens, the tree that its
+-- first tokens spell, and the tokens after them. For statements it also relates the number of the first call
+-- statement in them and the number after the last.
 use Rattle.std.specs.Prelude.{◌≡◌, ◌≢◌, ◌≤◌, ℕ, suc, pos, Bool, true, false, List, [], ◌∷◌, ◌++◌, Option, Some, None}
 use Rattle.cw_model.specs.declared.token.Token.{Token}
 use Rattle.cw_model.specs.declared.token.Kind.{Kind}
@@ -20,7 +20,7 @@ use Rattle.cw_model.specs.Syntax.{Name, Expr, Stmt, Block, Param, Function, Redu
 abbrev pub name_of : List ℕ → Token → Name
 name_of text t = between text t.start t.end
 
--- the operator of a kind of token, and its level: 1 binds most tightly
+-- the operator that a kind of token spells, and its level: level 1 binds most tightly
 abbrev pub infix_of : Kind → Option (ℕ × Operator)
 infix_of kind.Equal = Some (4, operator.Equal)
 infix_of kind.NotEqual = Some (4, operator.Unequal)
@@ -39,11 +39,11 @@ infix_of _ = None
 pub data Part : Type 0 where
   -- an expression with operators of levels up to this one: 0 is an operand, 4 a whole expression
   level : ℕ → Part
-  -- what follows a left operand at a level
+  -- the operators and operands that follow a left operand at a level
   chain : ℕ → Expr → Part
 
 mutual
-  -- an expression of a part
+  -- the tokens of a part of an expression
   pub data ReadsExpr (text : List ℕ) : Part → List Token → Expr → List Token → Type 0 where
     operand : {k : Kind} {t : Token} {ts rest : List Token} {e : Expr} →
         t.kind ≡ k → ReadsOperand text k t ts e rest → ReadsExpr text (level 0) (t ∷ ts) e rest
@@ -55,7 +55,7 @@ mutual
         infix_of t.kind ≡ Some (suc k, o) → ReadsExpr text (level k) ts e us →
         ReadsExpr text (chain (suc k) (tree.Binary o d e)) us f rest → ReadsExpr text (chain (suc k) d) (t ∷ ts) f rest
 
-  -- an operand, by the kind of its first token
+  -- the tokens of an operand, according to the kind of the first token
   pub data ReadsOperand (text : List ℕ) : Kind → Token → List Token → Expr → List Token → Type 0 where
     negative : {t : Token} {ts rest : List Token} {e : Expr} →
         ReadsExpr text (level 0) ts e rest → ReadsOperand text kind.Minus t ts (tree.Negative e) rest
@@ -71,16 +71,16 @@ mutual
     length_of : {t u v w : Token} {ts : List Token} →
         u.kind ≡ kind.LeftParen → v.kind ≡ kind.Name → w.kind ≡ kind.RightParen →
         ReadsOperand text kind.Len t (u ∷ v ∷ w ∷ ts) (tree.Length (name_of text v)) ts
-    -- parentheses leave no node
+    -- parentheses add no node to the tree
     parentheses : {t u : Token} {ts rest : List Token} {e : Expr} →
         ReadsExpr text (level 4) ts e (u ∷ rest) → u.kind ≡ kind.RightParen
         → ReadsOperand text kind.LeftParen t ts e rest
 
--- a whole expression
+-- the tokens of a whole expression
 abbrev pub ReadsWhole : List ℕ → List Token → Expr → List Token → Type 0
 ReadsWhole text ts e rest = ReadsExpr text (level 4) ts e rest
 
--- further arguments after one, and the closing parenthesis
+-- further arguments after an argument, and the closing parenthesis
 pub data ReadsMoreArguments (text : List ℕ) : List Token → List Expr → List Token → Type 0 where
   close : {t : Token} {ts : List Token} → t.kind ≡ kind.RightParen → ReadsMoreArguments text (t ∷ ts) [] ts
   comma : {t : Token} {ts us rest : List Token} {e : Expr} {es : List Expr} →
@@ -93,20 +93,20 @@ pub data ReadsArguments (text : List ℕ) : List Token → List Expr → List To
   some : {ts us rest : List Token} {e : Expr} {es : List Expr} →
       ReadsWhole text ts e us → ReadsMoreArguments text us es rest → ReadsArguments text ts (e ∷ es) rest
 
--- what follows the name of a callee: its arguments and the semicolon
+-- the tokens after the name of a callee: its arguments and the semicolon
 pub data ReadsCall (text : List ℕ) : List Token → List Expr → List Token → Type 0 where
   called : {t u : Token} {ts rest : List Token} {es : List Expr} →
       t.kind ≡ kind.LeftParen → ReadsArguments text ts es (u ∷ rest) → u.kind ≡ kind.Semicolon
       → ReadsCall text (t ∷ ts) es rest
 
--- further names after one, and the closing parenthesis
+-- further names after a name, and the closing parenthesis
 pub data ReadsMoreNames (text : List ℕ) : List Token → List Name → List Token → Type 0 where
   close : {t : Token} {ts : List Token} → t.kind ≡ kind.RightParen → ReadsMoreNames text (t ∷ ts) [] ts
   comma : {t u : Token} {ts rest : List Token} {xs : List Name} →
       t.kind ≡ kind.Comma → u.kind ≡ kind.Name → ReadsMoreNames text ts xs rest
       → ReadsMoreNames text (t ∷ u ∷ ts) (name_of text u ∷ xs) rest
 
--- the turns in a leaf of a loop: 64 where no number stands
+-- the grain of a loop, the number of iterations in a leaf; the default is 64
 pub data ReadsGrain : List Token → ℕ → List Token → Type 0 where
   usual : {ts : List Token} → ReadsGrain ts 64 ts
   grain : {t u : Token} {ts : List Token} {n : ℕ} → t.kind ≡ kind.Grain → u.kind ≡ kind.Number n
@@ -119,7 +119,7 @@ pub data ReadsOver (text : List ℕ) : List Token → List Name → List Token �
       t.kind ≡ kind.Over → u.kind ≡ kind.LeftParen → v.kind ≡ kind.Name → ReadsMoreNames text ts xs rest →
       ReadsOver text (t ∷ u ∷ v ∷ ts) (name_of text v ∷ xs) rest
 
--- the head of a loop
+-- the parts of a loop's head
 pub record Head : Type 0 where
   pub variable : Name
   pub tested : Name
@@ -129,7 +129,7 @@ pub record Head : Type 0 where
   pub grain : ℕ
   pub over : List Name
 
--- "(" "int" NAME "=" expr ";" NAME "<" expr ";" NAME "++" ")", the grain and the arrays
+-- a loop's head: "(" "int" NAME "=" expr ";" NAME "<" expr ";" NAME "++" ")", the grain and the arrays
 pub data ReadsHead (text : List ℕ) : List Token → Head → List Token → Type 0 where
   head : {left int x equals semicolon y less semicolon' z increment right : Token} {ts us vs ws rest : List Token}
       {from to : Expr} {n : ℕ} {xs : List Name} →
@@ -150,7 +150,7 @@ pub data ReadsHead (text : List ℕ) : List Token → Head → List Token → Ty
         over = xs;
       }) rest
 
--- what follows a name and "=": a call, a spawn or an expression
+-- the tokens after a name and "=": a call, a spawn or an expression
 pub data ReadsAssigned (text : List ℕ) : ℕ → Name → List Token → Stmt → ℕ → List Token → Type 0 where
   value : {n : ℕ} {x : Name} {u : Token} {ts rest : List Token} {e : Expr} →
       ReadsWhole text ts e (u ∷ rest) → u.kind ≡ kind.Semicolon → ReadsAssigned text n x ts (tree.Assign x e) n rest
@@ -161,7 +161,7 @@ pub data ReadsAssigned (text : List ℕ) : ℕ → Name → List Token → Stmt 
       t.kind ≡ kind.Spawn → f.kind ≡ kind.Name → ReadsCall text ts es rest →
       ReadsAssigned text n x (t ∷ f ∷ ts) (tree.Call Spawned n (Some x) (name_of text f) es) (suc n) rest
 
--- what follows a name at the front of a statement, by the kind of the second token
+-- the tokens after a name at the start of a statement, according to the kind of the second token
 pub data ReadsNamed (text : List ℕ) : ℕ → Kind → Token → List Token → Stmt → ℕ → List Token → Type 0 where
   assign : {n m : ℕ} {t : Token} {ts rest : List Token} {s : Stmt} →
       ReadsAssigned text n (name_of text t) ts s m rest → ReadsNamed text n kind.Assign t ts s m rest
@@ -179,7 +179,7 @@ pub data ReadsNamed (text : List ℕ) : ℕ → Kind → Token → List Token �
       ReadsArguments text ts es (u ∷ rest) → u.kind ≡ kind.Semicolon →
       ReadsNamed text n kind.LeftParen t ts (tree.Call Plain n None (name_of text t) es) (suc n) rest
 
--- what follows "int" NAME in a statement: a value, or a length
+-- the tokens after "int" NAME in a statement: a value or a length
 pub data ReadsDeclared (text : List ℕ) : Name → List Token → Stmt → List Token → Type 0 where
   integer : {x : Name} {t u : Token} {ts rest : List Token} {e : Expr} →
       t.kind ≡ kind.Assign → ReadsWhole text ts e (u ∷ rest) → u.kind ≡ kind.Semicolon
@@ -189,19 +189,19 @@ pub data ReadsDeclared (text : List ℕ) : Name → List Token → Stmt → List
       → v.kind ≡ kind.Semicolon →
       ReadsDeclared text x (t ∷ ts) (tree.DeclareArray x e) rest
 
--- what follows "return"
+-- the tokens after "return"
 pub data ReadsReturned (text : List ℕ) : List Token → Option Expr → List Token → Type 0 where
   nothing : {t : Token} {ts : List Token} → t.kind ≡ kind.Semicolon → ReadsReturned text (t ∷ ts) None ts
   value : {t : Token} {ts rest : List Token} {e : Expr} → ReadsWhole text ts e (t ∷ rest) → t.kind ≡ kind.Semicolon
       → ReadsReturned text ts (Some e) rest
 
 mutual
-  -- a statement
+  -- the tokens of a statement
   pub data ReadsStmt (text : List ℕ) : ℕ → List Token → Stmt → ℕ → List Token → Type 0 where
     begins : {n m : ℕ} {k : Kind} {t : Token} {ts rest : List Token} {s : Stmt} →
         t.kind ≡ k → ReadsStmtBy text n k t ts s m rest → ReadsStmt text n (t ∷ ts) s m rest
 
-  -- a statement, by the kind of its first token
+  -- the tokens of a statement, according to the kind of its first token
   pub data ReadsStmtBy (text : List ℕ) : ℕ → Kind → Token → List Token → Stmt → ℕ → List Token → Type 0 where
     declare : {n : ℕ} {t x : Token} {ts rest : List Token} {s : Stmt} →
         x.kind ≡ kind.Name → ReadsDeclared text (name_of text x) ts s rest
@@ -247,7 +247,7 @@ mutual
     give : {n : ℕ} {t : Token} {ts rest : List Token} {e : Option Expr} →
         ReadsReturned text ts e rest → ReadsStmtBy text n kind.Return t ts (tree.Return e) n rest
 
-  -- statements in braces
+  -- a block: statements in braces
   pub data ReadsBlock (text : List ℕ) : ℕ → List Token → Block → ℕ → List Token → Type 0 where
     braces : {n m : ℕ} {t : Token} {ts rest : List Token} {b : Block} →
         t.kind ≡ kind.LeftBrace → ReadsStmts text n ts b m rest → ReadsBlock text n (t ∷ ts) b m rest
@@ -259,7 +259,7 @@ mutual
         ReadsStmt text n (t ∷ ts) s m us → ReadsStmts text m us b o rest
         → ReadsStmts text n (t ∷ ts) (tree.Then t.line s b) o rest
 
--- a parameter
+-- the tokens of a parameter
 pub data ReadsParam (text : List ℕ) : List Token → Param → List Token → Type 0 where
   integer : {t x : Token} {ts : List Token} →
       t.kind ≡ kind.Int → x.kind ≡ kind.Name
@@ -272,7 +272,7 @@ pub data ReadsParam (text : List ℕ) : List Token → Param → List Token → 
       → v.kind ≡ kind.RightBracket →
       ReadsParam text (c ∷ t ∷ x ∷ u ∷ v ∷ ts) (record { name = name_of text x; kind = Const }) ts
 
--- further parameters after one, and the closing parenthesis
+-- further parameters after a parameter, and the closing parenthesis
 pub data ReadsMoreParams (text : List ℕ) : List Token → List Param → List Token → Type 0 where
   close : {t : Token} {ts : List Token} → t.kind ≡ kind.RightParen → ReadsMoreParams text (t ∷ ts) [] ts
   comma : {t : Token} {ts us rest : List Token} {p : Param} {ps : List Param} →
@@ -285,7 +285,7 @@ pub data ReadsParams (text : List ℕ) : List Token → List Param → List Toke
   some : {ts us rest : List Token} {p : Param} {ps : List Param} →
       ReadsParam text ts p us → ReadsMoreParams text us ps rest → ReadsParams text ts (p ∷ ps) rest
 
--- whether a function whose first token is of this kind gives an integer
+-- whether a function returns an integer, according to the kind of its first token
 abbrev pub gives_int_of : Kind → Option Bool
 gives_int_of kind.Int = Some true
 gives_int_of kind.Void = Some false
@@ -299,13 +299,13 @@ pub data ReadsFunction (text : List ℕ) : ℕ → List Token → Function → �
       ReadsFunction text n (t ∷ f ∷ u ∷ ts)
       (record { name = name_of text f; line = f.line; gives_int = gives; params = ps; body = b }) m rest
 
--- how a reducer reduces, by the word in its declaration
+-- the reduction of a reducer, according to the second word of its declaration
 abbrev pub reduction_of : Kind → Option Reduction
 reduction_of kind.Sum = Some Sum
 reduction_of kind.Max = Some Max
 reduction_of _ = None
 
--- items up to the end of the source: its reducers and its functions, each in their order
+-- items up to the end of the source: its reducers and its functions, each in source order
 pub data ReadsItems (text : List ℕ) : ℕ → List Token → List Reducer → List Function → Type 0 where
   no_item : {n : ℕ} → ReadsItems text n [] [] []
   one_reducer : {n : ℕ} {t u s v : Token} {how : Reduction} {ts : List Token} {rs : List Reducer} {fs : List Function} →
@@ -315,22 +315,22 @@ pub data ReadsItems (text : List ℕ) : ℕ → List Token → List Reducer → 
   one_function : {n m : ℕ} {ts us : List Token} {f : Function} {rs : List Reducer} {fs : List Function} →
       ReadsFunction text n ts f m us → ReadsItems text m us rs fs → ReadsItems text n ts rs (f ∷ fs)
 
--- the tokens are a source of at least one item, which has this tree; call statements are numbered from 1
+-- the tokens are a source of at least one item, with this tree; call statements are numbered from 1
 pub record Derives (text : List ℕ) (ts : List Token) (program : Program) : Type 0 where
   pub some : ts ≢ []
   pub items : ReadsItems text 1 ts program.reducers program.functions
 
--- some source begins with these tokens
+-- some source starts with these tokens
 abbrev pub CanBegin : List ℕ → List Token → Type 0
 CanBegin text ts = (more : List Token) × (program : Program) × Derives text (ts ++ more) program
 
--- the line of the token that a list begins with, or of the text's end
+-- the line of the first token of a list, or of the text's end if there is no token
 abbrev pub first_line : List ℕ → List Token → ℕ
 first_line text [] = end_line text
 first_line text (t ∷ ts) = t.line
 
--- the tokens are no source: the rest begins with the first token that cannot continue any source, or is empty where
--- the source ends too early
+-- the tokens are not a source: `rest` starts with the first token that cannot continue any source, or it is empty
+-- because the source ends too early
 pub record HasSyntaxFault (text : List ℕ) (ts : List Token) (line : ℕ) : Type 0 where
   pub before : List Token
   pub rest : List Token

@@ -1,4 +1,4 @@
--- What a program does as its serial elision, within a budget of instructions: a spawn runs its call at once.
+-- The meaning of a program as its serial elision, within a budget of instructions: a spawn is a call.
 use Rattle.std.specs.Prelude.{ℕ, zero, suc, ◌+◌, false, ℤ, pos, negsuc, ◌+ℤ◌, if◌then◌else◌, nat_lt, List, [], ◌∷◌}
 use Rattle.std.specs.Prelude.{◌++◌, length, drop, take, map, replicate, Option, Some, None, slice_set}
 use Rattle.cw_model.specs.declared.trap.Trap.TheVariants as trap
@@ -18,64 +18,64 @@ use Rattle.cw_model.specs.Trees.{Tree, Invocation, Execution, Marked, Event, Ser
 use Rattle.cw_model.specs.Outcome.{shows, Trapped, Over, Piece, ◌>>=◌, gives, show, pay, pay_for, as_one}
 use Rattle.cw_model.specs.Loops.{loop_turns, halves}
 
--- how a statement completes: normally, or by a return of its call
+-- how a statement completes: normally, or by a return from its call
 pub data Completion : Type 0 where
   Normal : Frame → Completion
   ByReturn : Option ℤ → Frame → Completion
 
--- what follows a statement that completes normally
+-- continues after a statement that completes normally; a return skips the rest
 abbrev pub onward : Completion → (Frame → Piece Completion) → Piece Completion
 onward (Normal frame) next = next frame
 onward (ByReturn v frame) next = gives (ByReturn v frame)
 
--- it completes normally with this frame
+-- completes normally with this frame
 abbrev pub going : Frame → Piece Completion
 going frame = gives (Normal frame)
 
--- the frame that a statement leaves
+-- the frame at the end of a statement
 abbrev pub frame_of : Completion → Frame
 frame_of (Normal frame) = frame
 frame_of (ByReturn v frame) = frame
 
--- a block whose names are gone at its end
+-- a block as a scope: its names are removed at its end
 abbrev pub scoped : Frame → Piece Completion → Piece Completion
 scoped before piece = do
   way ← piece
   onward way (λ frame. going (leave before frame))
 
--- what the call of a function gives: its value, and the frame that it leaves
+-- the result of a call: its value, and the callee's frame at its end
 abbrev pub Returned : Type 0
 Returned = Option ℤ × Frame
 
--- whether a call is one deeper, or that of a loop's function, which is not
+-- whether a call is one level deeper than its caller, or as deep (a call of a loop's function)
 pub data Entry : Type 0 where
   Deeper : Entry
   SameDepth : Entry
 
--- how deep a call is, made at this depth
+-- the depth of a call made at this depth
 abbrev pub depth_of : Entry → ℕ → ℕ
 depth_of Deeper depth = depth + 1
 depth_of SameDepth depth = depth
 
--- a call of a function on a frame of arguments, in the line of its statement
+-- the meaning of calls: of a function, on a frame of arguments, in the line of the call statement
 abbrev pub Calls : Type 0
 Calls = Entry → Function → Frame → (line : ℕ) → Piece Returned
 
--- what stands for a function that is not there
+-- the result of a lookup that finds no function
 abbrev pub no_function : Function
 no_function = record { name = []; line = 0; gives_int = false; params = []; body = End }
 
--- the first function of a name
+-- the first function with a name
 abbrev pub function_named : Name → List Function → Function
 function_named f [] = no_function
 function_named f (g ∷ gs) = if same_name f g.name then g else function_named f gs
 
--- the array that stands alone as an argument
+-- the array that an argument names
 abbrev pub given_array : Expr → Frame → List ℤ
 given_array (Variable a) frame = array_of frame a
 given_array _ frame = []
 
--- the frame of a call: each integer argument evaluated in turn, and each array whole, at no cost
+-- the frame of a call: integer arguments are evaluated in order, array arguments are passed whole, at no cost
 abbrev pub arguments : List Param → List Expr → Frame → (line : ℕ) → Frame → Piece Frame
 arguments [] es frame line given = gives given
 arguments (p ∷ ps) [] frame line given = gives given
@@ -86,28 +86,28 @@ arguments (p ∷ ps) (e ∷ es) frame line given =
       v ← pay_for (evaluate e frame) line
       arguments ps es frame line (new_int p.name v given))
 
--- the array of one argument stands under its own name again; one that was only read has stayed there
+-- returns one array argument to the caller; a read-only array has not left it
 abbrev pub returned_array : Param → Expr → Frame → Frame → Frame
 returned_array p (Variable a) callee frame = if takes_array p then set_array a (array_of callee p.name) frame else frame
 returned_array p _ callee frame = frame
 
--- the arrays of a call stand under their own names again
+-- returns all array arguments to the caller
 abbrev pub returned_arrays : List Param → List Expr → Frame → Frame → Frame
 returned_arrays [] es callee frame = frame
 returned_arrays (p ∷ ps) [] callee frame = frame
 returned_arrays (p ∷ ps) (e ∷ es) callee frame = returned_arrays ps es callee (returned_array p e callee frame)
 
--- a call stands in series, a spawn beside what follows it
+-- the event of a call: a plain call is in series, a spawn is a fork
 abbrev pub call_event : CallKind → ℕ → Tree → Event
 call_event Plain site t = Series (Marked (Invocation site) t)
 call_event Spawned site t = Fork (Marked (Invocation site) t)
 
--- the same of a loop's function, which is no site
+-- the event of a call of a loop's function, which is no site
 abbrev pub start_event : CallKind → Tree → Event
 start_event Plain t = Series t
 start_event Spawned t = Fork t
 
--- the turns of a while, at most as many as the bound says
+-- the iterations of a `while`, at most `bound`
 abbrev pub turns : ℕ → (Frame → Evaluated) → (line : ℕ) → (Frame → Piece Completion) → Frame → Piece Completion
 turns zero test line body frame = λ left. Over
 turns (suc bound) test line body frame = do
@@ -119,39 +119,39 @@ turns (suc bound) test line body frame = do
       _ ← pay 1
       turns bound test line body frame'))
 
--- the length of a new array
+-- the length of a new array, or a trap
 abbrev pub new_length : ℤ → Result
 new_length (negsuc n) = Fails trap.BadLength
 new_length (pos n) = if nat_lt MOST_ELEMENTS n then Fails trap.BadLength else Value (pos n)
 
--- the place where an array is cut
+-- the index at which an array is cut, or a trap
 abbrev pub cut_place : List ℤ → ℤ → Result
 cut_place xs (negsuc n) = Fails trap.OutOfBounds
 cut_place xs (pos n) = if nat_lt (length xs) n then Fails trap.OutOfBounds else Value (pos n)
 
--- at a cut's end the array is its left part followed by its right part
+-- at the end of a cut, the array is its left part followed by its right part
 abbrev pub uncut : (a l r : Name) → Frame → Frame → Frame
 uncut a l r before frame = set_array a (array_of frame l ++ array_of frame r) (leave before frame)
 
--- the frame of a loop's function: its integers, and then its arrays
+-- the frame of a loop's function: first its integers, then its arrays
 abbrev pub loop_frame : List Param → List ℤ → List (List ℤ) → Frame → Frame
 loop_frame [] vs slices given = given
 loop_frame (p ∷ ps) (v ∷ vs) slices given = loop_frame ps vs slices (new_int p.name v given)
 loop_frame (p ∷ ps) [] [] given = given
 loop_frame (p ∷ ps) [] (xs ∷ slices) given = loop_frame ps [] slices (new_array p.name xs given)
 
--- an array with its elements from a place on replaced by a slice
+-- an array in which a slice replaces the elements from an index on
 abbrev pub with_slice : List ℤ → ℕ → List ℤ → List ℤ
 with_slice xs from slice = take from xs ++ (slice ++ drop (from + length slice) xs)
 
--- the slices of a loop's function stand in their arrays again
+-- writes the slices of a loop's function back to their arrays
 abbrev pub slices_back : List Name → ℕ → Frame → Frame → Frame
 slices_back [] from callee frame = frame
 slices_back (a ∷ over) from callee frame =
     slices_back over from callee (set_array a (with_slice (array_of frame a) from (array_of callee a)) frame)
 
 abbrev mutual
-  -- a statement in its line, on a frame
+  -- the meaning of a statement, in its line and on a frame
   pub run : Stmt → ℕ → List Function → Calls → Frame → Piece Completion
   run (Declare x e) line fs calls frame = do
     v ← pay_for (evaluate e frame) line
@@ -164,7 +164,7 @@ abbrev mutual
     v ← pay_for (evaluate e frame) line
     _ ← pay 1
     going (set_int x v frame)
-  -- the index comes first, and the last instruction tests it
+  -- the index is evaluated first; the last instruction checks it and writes the element
   run (AssignElement a i e) line fs calls frame = do
     at ← pay_for (dearer (index_cost frame a) (evaluate i frame)) line
     v ← pay_for (and_then (evaluate e frame) (written (array_of frame a) at)) line
@@ -197,7 +197,7 @@ abbrev mutual
         (map (λ a. take (natural n) (drop (natural lo) (array_of frame a))) over) no_frame
     returned ← as_one Series (calls SameDepth f given line)
     going (slices_back over (natural lo) returned.1 frame)
-  -- the instruction of a sync comes after the join
+  -- the join comes before the instruction of the sync
   run Sync line fs calls frame = do
     _ ← show (shows (Join ∷ []))
     _ ← pay 1
@@ -214,7 +214,7 @@ abbrev mutual
       onward way (λ frame'. do
         _ ← pay 1
         going frame'))
-  -- each turn costs at least one, so that there are no more turns than the budget
+  -- each iteration costs at least 1, so there are at most as many iterations as instructions left
   run (While e b) line fs calls frame =
       λ left. turns (suc left) (evaluate e) line (λ frame'. scoped frame' (run_all b fs calls frame')) frame left
   run (For x y z from to grain over b) line fs calls frame = do
@@ -241,7 +241,7 @@ abbrev mutual
     onward way (λ frame'. do
       _ ← pay 1
       going (uncut a l r frame frame'))
-  -- the two instructions of a region lie outside it
+  -- the two instructions of a region are outside the region
   run (Region tag b) line fs calls frame = do
     _ ← pay 1
     way ← as_one (λ t. Series (Marked (Execution tag) t)) (scoped frame (run_all b fs calls frame))
@@ -257,21 +257,21 @@ abbrev mutual
     _ ← show (shows (Join ∷ []))
     _ ← pay 1
     gives (ByReturn None frame)
-  -- the expression of a return is counted before the join
+  -- the expression of a return is evaluated before the join
   run (Return (Some e)) line fs calls frame = do
     v ← pay_for (evaluate e frame) line
     _ ← show (shows (Join ∷ []))
     _ ← pay 1
     gives (ByReturn (Some v) frame)
 
-  -- the statements of a block in order
+  -- the statements of a block, in order
   pub run_all : Block → List Function → Calls → Frame → Piece Completion
   run_all End fs calls frame = going frame
   run_all (Then line s b) fs calls frame = do
     way ← run s line fs calls frame
     onward way (λ frame'. run_all b fs calls frame')
 
--- what a function's body leaves: its value, and the frame for the arrays that go back; its end joins
+-- the result of a call after its body: the value, and the frame with the arrays to return; the end of a body joins
 abbrev pub end_of_call : Completion → Piece Returned
 end_of_call (ByReturn v frame) = gives (v, frame)
 end_of_call (Normal frame) = do
@@ -279,7 +279,7 @@ end_of_call (Normal frame) = do
   _ ← pay 1
   gives (None, frame)
 
--- a call from this depth; each call costs one, so that no more than the budget stand inside one another
+-- a call at this depth; since each call costs at least 1, a budget bounds the nesting of calls
 unfoldable pub call : (bound depth : ℕ) → List Function → Calls
 call zero depth fs entry f given line = λ left. Over
 call (suc bound) depth fs entry f given line =

@@ -1,4 +1,4 @@
--- Which names are taken by spawns and cuts, which ones spawns only read, and which lines touch a name that they may not.
+-- Ownership: the names taken by spawns and cuts, the names that spawns only read, and the lines that break a rule.
 use Rattle.std.specs.Prelude.{◌≡◌, ℕ, ◌+◌, ◌==◌, Bool, true, false, not, ◌&&◌, ◌||◌, if◌then◌else◌, List, [], ◌∷◌}
 use Rattle.std.specs.Prelude.{◌++◌, Option, Some, None, map, filter, flat_map, Contains}
 use Rattle.std.specs.List.{list_any, list_all}
@@ -12,56 +12,56 @@ use Rattle.cw_model.specs.Meaning.{function_named}
 use Rattle.cw_model.specs.Lines.{unless}
 use Rattle.cw_model.specs.Typing.{block_returns}
 
--- what holds a name: a spawn of a sync block, which is told by how many sync blocks it lies in, and which took the name
--- or only reads it; or a cut
+-- what holds a name: a spawn that takes it, a spawn that only reads it (both with the nesting depth of their sync
+-- block), or a cut
 pub data Holder : Type 0 where
   SpawnIn : (depth : ℕ) → Holder
   ReaderIn : (depth : ℕ) → Holder
   CutOf : Holder
 
--- the names that are held, each with what holds it
+-- the names that are held, each with its holder
 abbrev pub Taken : Type 0
 Taken = List (Name × Holder)
 
--- a spawn that only reads
+-- the holder only reads the name
 abbrev pub is_reader : Holder → Bool
 is_reader (SpawnIn d) = false
 is_reader (ReaderIn d) = true
 is_reader CutOf = false
 
--- the name is taken: something holds it that does not only read it
+-- the name is taken: it has a holder that does not only read it
 abbrev pub is_taken : Taken → Name → Bool
 is_taken taken x = is_among x (map (λ t. t.0) (filter (λ t. not (is_reader t.1)) taken))
 
--- something holds the name: it is taken, or frozen by a spawn that reads it
+-- the name is held: it is taken, or frozen by a spawn that reads it
 abbrev pub is_held : Taken → Name → Bool
 is_held taken x = is_among x (map (λ t. t.0) taken)
 
--- a spawn of the sync block at this depth
+-- the holder is a spawn of the sync block at this depth
 abbrev pub is_spawn_in : ℕ → Holder → Bool
 is_spawn_in depth (SpawnIn d) = d == depth
 is_spawn_in depth (ReaderIn d) = d == depth
 is_spawn_in depth CutOf = false
 
--- a join frees what the spawns of its sync block hold
+-- a join releases the names that the spawns of its sync block hold
 abbrev pub freed : ℕ → Taken → Taken
 freed depth taken = filter (λ t. not (is_spawn_in depth t.1)) taken
 
--- a cut of this array
+-- the entry is a cut of this array
 abbrev pub is_cut_of : Name → (Name × Holder) → Bool
 is_cut_of a (x, SpawnIn d) = false
 is_cut_of a (x, ReaderIn d) = false
 is_cut_of a (x, CutOf) = same_name a x
 
--- the end of a cut frees its array
+-- the end of a cut releases its array
 abbrev pub cut_ended : Name → Taken → Taken
 cut_ended a taken = filter (λ t. not (is_cut_of a t)) taken
 
--- the names of a block end with it
+-- the end of a block removes the names that it declared
 abbrev pub without : List Name → Taken → Taken
 without names taken = filter (λ t. not (is_among t.0 names)) taken
 
--- every name in an expression
+-- all names in an expression
 abbrev pub names_in : Expr → List Name
 names_in (Number n) = []
 names_in (Variable x) = x ∷ []
@@ -71,44 +71,44 @@ names_in (Negative e) = names_in e
 names_in (Not e) = names_in e
 names_in (Binary operator d e) = names_in d ++ names_in e
 
--- the arrays that are given away
+-- the arrays that a call takes as writable arguments
 abbrev pub arrays_given : List Param → List Expr → List Name
 arrays_given [] es = []
 arrays_given (p ∷ ps) [] = []
 arrays_given (p ∷ ps) (e ∷ es) = (if takes_array p then names_in e else []) ++ arrays_given ps es
 
--- the arrays that are given away to a function
+-- the arrays that a call of the function `f` takes
 abbrev pub given : List Function → Name → List Expr → List Name
 given fs f es = arrays_given (function_named f fs).params es
 
--- the arrays that are only read
+-- the arrays that a call takes as read-only arguments
 abbrev pub arrays_lent : List Param → List Expr → List Name
 arrays_lent [] es = []
 arrays_lent (p ∷ ps) [] = []
 arrays_lent (p ∷ ps) (e ∷ es) = (if reads_array p then names_in e else []) ++ arrays_lent ps es
 
--- the arrays that a function only reads
+-- the arrays that a call of the function `f` only reads
 abbrev pub lent : List Function → Name → List Expr → List Name
 lent fs f es = arrays_lent (function_named f fs).params es
 
--- the name that a result goes to, if there is one
+-- the target of a call, if there is one, as a list
 abbrev pub target_names : Option Name → List Name
 target_names None = []
 target_names (Some x) = x ∷ []
 
--- a spawn takes its result and the arrays that are given away
+-- a spawn takes its target and its writable arrays
 abbrev pub taken_by : ℕ → List Name → Taken → Taken
 taken_by depth xs taken = map (λ x. (x, SpawnIn depth)) xs ++ taken
 
--- and freezes those that it only reads
+-- a spawn freezes the arrays that it only reads
 abbrev pub frozen_by : ℕ → List Name → Taken → Taken
 frozen_by depth xs taken = map (λ x. (x, ReaderIn depth)) xs ++ taken
 
--- a branch that surely returns leaves nothing held
+-- a branch that surely returns holds nothing after it
 abbrev pub where_it_goes_on : Bool → Taken → Taken
 where_it_goes_on returns taken = if returns then [] else taken
 
--- the names that the statements of a block declare, its inner blocks not included
+-- the names that the statements of a block declare, without the names of its inner blocks
 abbrev pub own_names : Block → List Name
 own_names End = []
 own_names (Then line (Declare x e) b) = x ∷ own_names b
@@ -116,7 +116,7 @@ own_names (Then line (DeclareArray a e) b) = a ∷ own_names b
 own_names (Then line s b) = own_names b
 
 abbrev mutual
-  -- what is held after a statement that lies in so many sync blocks
+  -- the names that are held after a statement at this nesting depth of sync blocks
   pub taken_after : List Function → ℕ → Stmt → Taken → Taken
   taken_after fs depth (Call Spawned site target f es) taken =
       frozen_by depth (lent fs f es) (taken_by depth (target_names target ++ given fs f es) taken)
@@ -127,7 +127,7 @@ abbrev mutual
   taken_after fs depth (IfElse e b c) taken =
       where_it_goes_on (block_returns b) (without (own_names b) (taken_after_all fs depth b taken))
       ++ where_it_goes_on (block_returns c) (without (own_names c) (taken_after_all fs depth c taken))
-  -- what was held before, and what one turn leaves of it: no further turn holds more
+  -- the names held before, and those that one iteration leaves held; further iterations add no name
   taken_after fs depth (While e b) taken =
       taken ++ where_it_goes_on (block_returns b) (without (own_names b) (taken_after_all fs depth b taken))
   taken_after fs depth (Scope b) taken =
@@ -141,33 +141,34 @@ abbrev mutual
       freed (depth + 1) (without (x ∷ own_names b) (taken_after_all fs (depth + 1) b taken))
   taken_after fs depth _ taken = taken
 
-  -- what is held after the statements of a block
+  -- the names that are held after the statements of a block
   pub taken_after_all : List Function → ℕ → Block → Taken → Taken
   taken_after_all fs depth End taken = taken
   taken_after_all fs depth (Then line s b) taken = taken_after_all fs depth b (taken_after fs depth s taken)
 
--- the innermost loop around: the names from outside its body, its variable among them, the variable and its arrays
+-- the innermost enclosing loop: the names in scope at its body's start (with its variable), its variable and its
+-- arrays
 pub data Around : Type 0 where
   NoLoop : Around
   InLoop : (outer : List Name) (variable : Name) (over : List Name) → Around
 
--- the head of a further loop names no array of the loop around
+-- the loop around, for the bounds of an inner loop, which may not use its arrays
 abbrev pub for_head : Around → Around
 for_head NoLoop = NoLoop
 for_head (InLoop outer i over) = InLoop outer i []
 
--- the name is from outside the loop
+-- the name was declared outside the loop's body
 abbrev pub is_outer : Around → Name → Bool
 is_outer NoLoop x = false
 is_outer (InLoop outer i over) x = is_among x outer
 
--- an outer array is named only as x[i], where the loop is over x and its variable is i
+-- the body of a loop may use an outer array `x` only as `x[i]`, if the loop is over `x` and `i` is its variable
 abbrev pub may_index : Around → Name → Expr → Bool
 may_index NoLoop a e = true
 may_index (InLoop outer i over) a (Variable j) = not (is_among a outer) || (is_among a over && same_name i j)
 may_index (InLoop outer i over) a _ = not (is_among a outer)
 
--- an expression names outer arrays in no other way
+-- an expression uses outer arrays only as elements that `may_index` allows
 abbrev pub keeps_loop : Around → Expr → Bool
 keeps_loop around (Number n) = true
 keeps_loop around (Variable x) = true
@@ -185,23 +186,25 @@ are_free taken xs = not (list_any (λ x. is_taken taken x) xs)
 abbrev pub are_loose : Taken → List Name → Bool
 are_loose taken xs = not (list_any (λ x. is_held taken x) xs)
 
--- none of the names is from outside the loop
+-- none of the names was declared outside the loop's body
 abbrev pub are_inner : Around → List Name → Bool
 are_inner around xs = not (list_any (λ x. is_outer around x) xs)
 
--- an expression names nothing taken, and keeps the rule of the loop around
+-- the expression may be evaluated: it uses no taken name, and outer arrays only as the loop around allows
 abbrev pub may_read : Around → Taken → Expr → Bool
 may_read around taken e = are_free taken (names_in e) && keeps_loop around e
 
--- names that are written, given away or cut are neither held nor from outside the loop
+-- the names may be written, passed as writable or cut: they are not held, and were not declared outside the loop's
+-- body
 abbrev pub may_write : Around → Taken → List Name → Bool
 may_write around taken xs = are_loose taken xs && are_inner around xs
 
--- arrays that a call only reads are not from outside the loop, and none of those that are given away to it
+-- the arrays may be passed as read-only: they were not declared outside the loop's body, and the call takes none of
+-- them
 abbrev pub may_lend : Around → (given lent : List Name) → Bool
 may_lend around given lent = are_inner around lent && not (list_any (λ a. is_among a given) lent)
 
--- the names that a block declared so far, each with its line
+-- the names that a block has declared so far, each with its line
 abbrev pub Declared : Type 0
 Declared = List (Name × ℕ)
 
@@ -209,30 +212,30 @@ Declared = List (Name × ℕ)
 abbrev pub left_taken : Declared → Taken → List ℕ
 left_taken declared taken = flat_map (λ d. unless (not (is_held taken d.0)) d.1) declared
 
--- the declarations of a block so far, with what a statement declares
+-- the names that a block has declared after a statement in this line
 abbrev pub declared_by : ℕ → Stmt → Declared → Declared
 declared_by line (Declare x e) declared = (x, line) ∷ declared
 declared_by line (DeclareArray a e) declared = (a, line) ∷ declared
 declared_by line _ declared = declared
 
--- the names that are known, with what a statement declares
+-- the names in scope after a statement
 abbrev pub known_after : List Name → Stmt → List Name
 known_after known (Declare x e) = x ∷ known
 known_after known (DeclareArray a e) = a ∷ known
 known_after known _ = known
 
--- a sync block joins its own spawns at its end, another block none
+-- whether the end of a block joins: a sync block joins its own spawns, another block joins nothing
 pub data Closing : Type 0 where
   Joins : Closing
   Leaves : Closing
 
--- what is still held as a block ends
+-- the names that are still held at the end of a block
 abbrev pub at_end : Closing → ℕ → Taken → Taken
 at_end Joins depth taken = freed depth taken
 at_end Leaves depth taken = taken
 
 abbrev mutual
-  -- the lines that break a rule, in a statement of a line where so much is known and so much is held
+  -- the lines that break a rule, in a statement of this line, for these names in scope and these held names
   pub owner_faults : List Function → Around → (known : List Name) → (depth : ℕ) → Taken → (line : ℕ) → Stmt → List ℕ
   owner_faults fs around known depth taken line (Declare x e) = unless (may_read around taken e) line
   owner_faults fs around known depth taken line (DeclareArray a e) = unless (may_read around taken e) line
@@ -242,12 +245,12 @@ abbrev mutual
       unless (may_read around taken i && may_read around taken e && are_loose taken (a ∷ []) && may_index around a i)
       line
   owner_faults fs around known depth taken line (Reduce how s e) = unless (may_read around taken e) line
-  -- no array that is given away is passed twice
+  -- an array that the call takes is passed only once
   owner_faults fs around known depth taken line (Call kind site target f es) =
       unless (list_all (λ e. may_read around taken e) es
       && may_write around taken (target_names target ++ given fs f es) && differ (given fs f es)
       && may_lend around (given fs f es) (lent fs f es)) line
-  -- no source has one
+  -- a source has no `Start` and no `Begin`
   owner_faults fs around known depth taken line (Start kind callee es) = line ∷ []
   owner_faults fs around known depth taken line (Begin callee from to captured over) = line ∷ []
   owner_faults fs around known depth taken line Sync = []
@@ -257,7 +260,7 @@ abbrev mutual
       unless (may_read around taken e) line
       ++ (owner_faults_in fs around known depth Leaves taken [] b
       ++ owner_faults_in fs around known depth Leaves taken [] c)
-  -- the test and the body see what any number of turns leaves
+  -- the condition and the body are checked with the names that any number of iterations may leave held
   owner_faults fs around known depth taken line (While e b) =
       let all = taken_after fs depth (While e b) taken in
       unless (may_read around all e) line ++ owner_faults_in fs around known depth Leaves all [] b
@@ -275,7 +278,8 @@ abbrev mutual
   owner_faults fs around known depth taken line (Return None) = []
   owner_faults fs around known depth taken line (Return (Some e)) = unless (may_read around taken e) line
 
-  -- in a block; a name of its own that is still held at its end counts at its declaration
+  -- the lines that break a rule in a block; a name that is still held at the block's end is a fault in its
+  -- declaration
   pub owner_faults_in : List Function → Around → (known : List Name) → (depth : ℕ) → Closing → Taken → Declared → Block
       → List ℕ
   owner_faults_in fs around known depth closing taken declared End = left_taken declared (at_end closing depth taken)
@@ -284,7 +288,7 @@ abbrev mutual
       ++ owner_faults_in fs around (known_after known s) depth closing (taken_after fs depth s taken)
       (declared_by line s declared) b
 
--- a function's body is a sync block, in which nothing is held at first
+-- the body of a function is a sync block, at whose start no name is held
 abbrev pub owner_faults_of : List Function → Function → List ℕ
 owner_faults_of fs f = owner_faults_in fs NoLoop (map (λ p. p.name) f.params) 1 Joins [] [] f.body
 
@@ -292,11 +296,12 @@ owner_faults_of fs f = owner_faults_in fs NoLoop (map (λ p. p.name) f.params) 1
 abbrev pub ownership_faults : Program → List ℕ
 ownership_faults program = flat_map (owner_faults_of program.functions) program.functions
 
--- no line breaks a rule
+-- no line breaks a rule of ownership
 abbrev pub KeepsOwnership : Program → Type 0
 KeepsOwnership program = ownership_faults program ≡ []
 
--- what any number of turns leaves held: the least set with what was held before and with what a turn leaves of it
+-- the names that any number of iterations may leave held: the least set that contains `before` and is closed under
+-- one iteration, `turn`
 pub record IsLeastClosed (turn : Taken → Taken) (before after : Taken) : Type 0 where
   pub holds_before : (t : Name × Holder) → Contains before t → Contains after t
   pub closed : (t : Name × Holder) → Contains (turn after) t → Contains after t

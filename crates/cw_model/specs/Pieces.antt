@@ -1,31 +1,31 @@
--- What can stand in a text: words, numbers, symbols and comments.
+-- The pieces of a text: words, numbers, symbols and comments.
 use Rattle.std.specs.Prelude.{ℕ, ◌+◌, ◌*◌, ◌-◌, Bool, true, false, ◌&&◌, ◌||◌, not, nat_le, ◌==◌, if◌then◌else◌, List}
 use Rattle.std.specs.Prelude.{[], ◌∷◌, Option, Some, None, is_some, fold}
 use Rattle.std.specs.List.{list_all}
 use Rattle.cw_model.specs.declared.token.Kind.{Kind}
 use Rattle.cw_model.specs.declared.token.Kind.TheVariants as kind
 
--- space, tab, CR, LF
+-- a separator: space, tab, CR or LF
 abbrev pub is_separator : ℕ → Bool
 is_separator b = b == 32 || b == 9 || b == 13 || b == 10
 
--- 0 to 9
+-- a digit: 0 to 9
 abbrev pub is_digit : ℕ → Bool
 is_digit b = nat_le 48 b && nat_le b 57
 
--- a to z, A to Z, and _
+-- a letter: a to z, A to Z, or _
 abbrev pub is_letter : ℕ → Bool
 is_letter b = (nat_le 97 b && nat_le b 122) || (nat_le 65 b && nat_le b 90) || b == 95
 
--- a letter or a digit
+-- a byte of a word: a letter or a digit
 abbrev pub is_word_byte : ℕ → Bool
 is_word_byte b = is_letter b || is_digit b
 
--- within a line
+-- a byte inside a line: any byte but LF
 abbrev pub is_inner : ℕ → Bool
 is_inner b = not (b == 10)
 
--- symbols of one byte
+-- the symbol that one byte spells
 abbrev pub one_byte : ℕ → Option Kind
 one_byte b =
     if b == 40 then Some kind.LeftParen else
@@ -46,7 +46,7 @@ one_byte b =
     if b == 62 then Some kind.Greater else
     if b == 33 then Some kind.Not else None
 
--- symbols of two bytes
+-- the symbol that two bytes spell
 abbrev pub two_bytes : ℕ → ℕ → Option Kind
 two_bytes b c =
     if b == 43 && c == 61 then Some kind.AddAssign else
@@ -56,38 +56,38 @@ two_bytes b c =
     if b == 61 && c == 61 then Some kind.Equal else
     if b == 33 && c == 61 then Some kind.NotEqual else None
 
--- the symbol that is written so
+-- the symbol that these bytes spell
 abbrev pub symbol : List ℕ → Option Kind
 symbol [] = None
 symbol (b ∷ []) = one_byte b
 symbol (b ∷ c ∷ []) = two_bytes b c
 symbol (b ∷ c ∷ d ∷ bs) = None
 
--- two slashes, and no LF
+-- a comment: two slashes, then bytes other than LF
 abbrev pub is_comment : List ℕ → Bool
 is_comment [] = false
 is_comment (b ∷ []) = false
 is_comment (b ∷ c ∷ cs) = b == 47 && c == 47 && list_all is_inner cs
 
--- a letter, and then letters and digits
+-- a word: a letter, then letters and digits
 abbrev pub is_word : List ℕ → Bool
 is_word [] = false
 is_word (b ∷ bs) = is_letter b && list_all is_word_byte bs
 
--- no byte
+-- the list has no byte
 abbrev pub is_empty : List ℕ → Bool
 is_empty [] = true
 is_empty (b ∷ bs) = false
 
--- 0, or digits of which the first is not 0
+-- a number: 0, or digits that do not start with 0
 abbrev pub is_number : List ℕ → Bool
 is_number [] = false
 is_number (b ∷ bs) = is_digit b && (if b == 48 then is_empty bs else list_all is_digit bs)
 
--- a token or a comment
+-- a piece: a token or a comment
 abbrev pub is_piece : List ℕ → Bool
 is_piece bs = is_word bs || is_number bs || is_some (symbol bs) || is_comment bs
 
--- the number that digits stand for
+-- the value of a decimal number
 abbrev pub decimal_value : List ℕ → ℕ
 decimal_value digits = fold (λ n b. 10 * n + (b - 48)) 0 digits

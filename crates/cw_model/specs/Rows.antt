@@ -1,4 +1,4 @@
--- Site rows and region rows: what is read off a tree for each call site and each tag.
+-- Site rows and region rows: the measures of each call site and each tag in a tree.
 use Rattle.std.specs.Prelude.{ℕ, ◌+◌, ◌==◌, nat_le, nat_lt, ◌&&◌, Bool, true, false, if◌then◌else◌, List, [], ◌∷◌}
 use Rattle.std.specs.Prelude.{◌++◌, sum_by, filter}
 use Rattle.cw_model.specs.declared.burden.Burden.{Burden}
@@ -6,19 +6,19 @@ use Rattle.cw_model.specs.Syntax.{Name}
 use Rattle.cw_model.specs.Names.{same_name}
 use Rattle.cw_model.specs.Trees.{Mark, Invocation, Execution, Tree, Leaf, Seq, Par, Marked, work, span, burdened_span}
 
--- the site that the leaves of a marked part belong to, where they belonged to this one outside
+-- the site to which the leaves inside a marked part belong, if those outside belong to `site`
 abbrev pub site_inside : Mark → ℕ → ℕ
 site_inside (Invocation inner) site = inner
 site_inside (Execution tag) site = site
 
--- the leaves, each with the site of the innermost invocation around it
+-- all leaves, each with the site of the innermost invocation around it
 abbrev pub leaves : ℕ → Tree → List (ℕ × ℕ)
 leaves site (Leaf k) = (site, k) ∷ []
 leaves site (Seq a b) = leaves site a ++ leaves site b
 leaves site (Par child rest) = leaves site child ++ leaves site rest
 leaves site (Marked mark t) = leaves (site_inside mark site) t
 
--- those on the chosen path: at a fork the child's where its span is at least the rest's
+-- the leaves on the chosen path: at a fork it takes the child if the child's span is at least the continuation's
 abbrev pub chosen_leaves : ℕ → Tree → List (ℕ × ℕ)
 chosen_leaves site (Leaf k) = (site, k) ∷ []
 chosen_leaves site (Seq a b) = chosen_leaves site a ++ chosen_leaves site b
@@ -26,35 +26,35 @@ chosen_leaves site (Par child rest) =
     if nat_le (span rest) (span child) then chosen_leaves site child else chosen_leaves site rest
 chosen_leaves site (Marked mark t) = chosen_leaves (site_inside mark site) t
 
--- the instructions of the leaves that belong to a site
+-- the number of instructions in the leaves of one site
 abbrev pub weight_of_site : ℕ → List (ℕ × ℕ) → ℕ
 weight_of_site site all = sum_by (λ leaf. leaf.1) (filter (λ leaf. leaf.0 == site) all)
 
--- an invocation of this site
+-- the mark is an invocation of this site
 abbrev pub is_site : ℕ → Mark → Bool
 is_site site (Invocation inner) = inner == site
 is_site site (Execution tag) = false
 
--- an execution of this tag
+-- the mark is an execution of this tag
 abbrev pub is_tag : Name → Mark → Bool
 is_tag tag (Invocation site) = false
 is_tag tag (Execution inner) = same_name tag inner
 
--- the parts with a mark that lie in no other part with it
+-- the outermost parts whose mark is `marked`: no other part with a `marked` mark is around them
 abbrev pub outermost : (Mark → Bool) → Tree → List Tree
 outermost marked (Leaf k) = []
 outermost marked (Seq a b) = outermost marked a ++ outermost marked b
 outermost marked (Par child rest) = outermost marked child ++ outermost marked rest
 outermost marked (Marked mark t) = if marked mark then t ∷ [] else outermost marked t
 
--- the number of a site's invocations
+-- the number of invocations of a site
 abbrev pub calls_of : ℕ → Tree → ℕ
 calls_of site (Leaf k) = 0
 calls_of site (Seq a b) = calls_of site a + calls_of site b
 calls_of site (Par child rest) = calls_of site child + calls_of site rest
 calls_of site (Marked mark t) = (if is_site site mark then 1 else 0) + calls_of site t
 
--- what is counted of a site
+-- the measures of a site
 pub record SiteRow : Type 0 where
   pub calls : ℕ
   pub own_work : ℕ
@@ -72,7 +72,7 @@ site_row site t = record {
   span = sum_by span (outermost (is_site site) t);
 }
 
--- what is counted of a tag
+-- the measures of a tag
 pub record RegionRow : Type 0 where
   pub work : ℕ
   pub span : ℕ
@@ -86,7 +86,7 @@ region_row burden tag t = record {
   burdened = sum_by (burdened_span burden) (outermost (is_tag tag) t);
 }
 
--- each invocation in a tree is of a site below this number
+-- each invocation in the tree is of a site below `count`
 abbrev pub sites_below : ℕ → Tree → Bool
 sites_below count (Leaf k) = true
 sites_below count (Seq a b) = sites_below count a && sites_below count b

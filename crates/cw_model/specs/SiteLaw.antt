@@ -5,7 +5,7 @@ use Rattle.cw_model.specs.Syntax.{Program}
 use Rattle.cw_model.specs.Sites.{are_numbered, call_sites}
 use Rattle.cw_model.specs.Grammar.{Derives}
 
--- what is derived has its call statements numbered from 1, in the order of their places
+-- the call statements of a derived program are numbered from 1, in source order
 abbrev pub SitesAreNumbered : Type 0
 SitesAreNumbered =
     (text : List ℕ) (ts : List Token) (program : Program) → Derives text ts program

@@ -1,4 +1,4 @@
--- Call sites: where the invocations of a run are made, each with its number.
+-- Call sites: the places of a program's calls, each with its number.
 use Rattle.std.specs.Prelude.{ℕ, suc, Bool, true, ◌&&◌, nat_eq, List, [], ◌∷◌, ◌++◌, flat_map, map}
 use Rattle.cw_model.specs.declared.syntax.CallKind.{CallKind}
 use Rattle.cw_model.specs.Syntax.{Name, Stmt, Call, If, IfElse, While, For, Scope, Cut, Region, Block, End, Then}
@@ -6,12 +6,12 @@ use Rattle.cw_model.specs.Syntax.{Program}
 use Rattle.cw_model.specs.Meaning.{function_named}
 use Rattle.cw_model.specs.Answers.{main_name}
 
--- what a site is: the run's own call of main, or a call statement of this kind
+-- the kind of a site: the root (the run's own call of `main`), or a call statement
 pub data SiteKind : Type 0 where
   Root : SiteKind
   Of : CallKind → SiteKind
 
--- a site, with the line of its statement and the name that it calls; the root has number 0 and the line of main's head
+-- a site, with its statement's line and its callee; the root has the number 0 and the line of `main`'s head
 pub record CallSite : Type 0 where
   pub number : ℕ
   pub kind : SiteKind
@@ -19,7 +19,7 @@ pub record CallSite : Type 0 where
   pub callee : Name
 
 abbrev mutual
-  -- the call statements in a statement of a line, by place
+  -- the call statements in a statement of this line, in source order
   pub sites_in : ℕ → Stmt → List CallSite
   sites_in line (Call kind site target callee es) =
       record { number = site; kind = Of kind; line = line; callee = callee } ∷ []
@@ -32,7 +32,7 @@ abbrev mutual
   sites_in line (Region tag b) = sites_in_block b
   sites_in line _ = []
 
-  -- the same of a block
+  -- the call statements in a block, in source order
   pub sites_in_block : Block → List CallSite
   sites_in_block End = []
   sites_in_block (Then line s b) = sites_in line s ++ sites_in_block b
@@ -41,25 +41,25 @@ abbrev mutual
 abbrev pub call_sites : Program → List CallSite
 call_sites program = flat_map (λ f. sites_in_block f.body) program.functions
 
--- the invocation of main by the run itself
+-- the root: the call of `main` by the run itself
 abbrev pub root_site : Program → CallSite
 root_site program =
     record { number = 0; kind = Root; line = (function_named main_name program.functions).line; callee = main_name }
 
--- the sites have the numbers that follow this one, in their order
+-- the sites are numbered consecutively, starting after `n`
 abbrev pub are_numbered : ℕ → List CallSite → Bool
 are_numbered n [] = true
 are_numbered n (s ∷ sites) = nat_eq s.number (suc n) && are_numbered (suc n) sites
 
--- all sites of a program
+-- all sites of a program, the root first
 abbrev pub sites_of : Program → List CallSite
 sites_of program = root_site program ∷ call_sites program
 
--- the head of a function: its name, and the line where that stands
+-- the head of a function: its name and the line of the name
 pub record Head : Type 0 where
   pub name : Name
   pub line : ℕ
 
--- the heads of a program's functions, by place
+-- the heads of a program's functions, in source order
 abbrev pub heads_of : Program → List Head
 heads_of program = map (λ f. record { name = f.name; line = f.line }) program.functions

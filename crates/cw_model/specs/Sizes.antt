@@ -1,4 +1,5 @@
--- What passes a limit: the lines of tokens, declarations, heads, regions and loops, and the counts of a whole program.
+-- Limits: the lines of tokens, declarations, heads, regions and loops above a limit, and the counts of a whole
+-- program.
 use Rattle.std.specs.Prelude.{ℕ, ◌+◌, ◌-◌, ◌*◌, nat_le, if◌then◌else◌, List, [], ◌∷◌, ◌++◌, length, drop, map}
 use Rattle.std.specs.Prelude.{flat_map, sum_by, Option, Some, None}
 use Rattle.cw_model.specs.declared.token.Token.{Token}
@@ -18,7 +19,7 @@ use Rattle.cw_model.specs.Meaning.{function_named}
 use Rattle.cw_model.specs.Lines.{unless}
 use Rattle.cw_model.specs.Sites.{call_sites}
 
--- brackets open after a token; a closing one of any kind takes one off
+-- the number of open brackets after a token; a closing bracket of any kind closes one
 abbrev pub open_after : ℕ → Kind → ℕ
 open_after n kind.LeftParen = n + 1
 open_after n kind.LeftBracket = n + 1
@@ -28,14 +29,14 @@ open_after n kind.RightBracket = n - 1
 open_after n kind.RightBrace = n - 1
 open_after n _ = n
 
--- tokens in a row after a token; a semicolon or a brace ends the row
+-- the number of tokens in a row after a token; a semicolon or a brace ends the row
 abbrev pub row_after : ℕ → Kind → ℕ
 row_after n kind.Semicolon = 0
 row_after n kind.LeftBrace = 0
 row_after n kind.RightBrace = 0
 row_after n _ = n + 1
 
--- the lines of tokens at which too many brackets are open, or which stand too far in a row
+-- the lines of tokens at which too many brackets are open, or at which a row is too long
 abbrev pub token_faults : (brackets row : ℕ) → List Token → List ℕ
 token_faults brackets row [] = []
 token_faults brackets row (t ∷ ts) =
@@ -44,17 +45,17 @@ token_faults brackets row (t ∷ ts) =
     unless (nat_le opened MOST_OPEN_BRACKETS) t.line
     ++ (unless (nat_le next MOST_TOKENS_IN_A_ROW) t.line ++ token_faults opened next ts)
 
--- what is there a first time, by its name
+-- the first entry of each name
 abbrev pub first_places : List (Name × ℕ) → List Name → List (Name × ℕ)
 first_places [] known = []
 first_places (d ∷ ds) known = if is_among d.0 known then first_places ds known else d ∷ first_places ds (d.0 ∷ known)
 
--- the lines after the first so many
+-- the lines after the first `most` ones
 abbrev pub lines_beyond : ℕ → List ℕ → List ℕ
 lines_beyond most lines = drop most lines
 
 abbrev mutual
-  -- the line of each name that a statement of a line declares, in order
+  -- the line of each name that a statement declares, in source order
   pub declaring_lines : ℕ → Stmt → List ℕ
   declaring_lines line (Declare x e) = line ∷ []
   declaring_lines line (DeclareArray a e) = line ∷ []
@@ -67,13 +68,13 @@ abbrev mutual
   declaring_lines line (Region tag b) = declaring_lines_in b
   declaring_lines line _ = []
 
-  -- the same of a block
+  -- the line of each name that a block declares, in source order
   pub declaring_lines_in : Block → List ℕ
   declaring_lines_in End = []
   declaring_lines_in (Then line s b) = declaring_lines line s ++ declaring_lines_in b
 
 abbrev mutual
-  -- the tag and the line of each region in a statement of a line
+  -- the tag and the line of each region in a statement
   pub regions_in : ℕ → Stmt → List (Name × ℕ)
   regions_in line (If e b) = regions_in_block b
   regions_in line (IfElse e b c) = regions_in_block b ++ regions_in_block c
@@ -84,13 +85,13 @@ abbrev mutual
   regions_in line (Region tag b) = (tag, line) ∷ regions_in_block b
   regions_in line _ = []
 
-  -- the same of a block
+  -- the tag and the line of each region in a block
   pub regions_in_block : Block → List (Name × ℕ)
   regions_in_block End = []
   regions_in_block (Then line s b) = regions_in line s ++ regions_in_block b
 
 abbrev mutual
-  -- the line of each loop in a statement of a line
+  -- the line of each loop in a statement
   pub loops_in : ℕ → Stmt → List ℕ
   loops_in line (If e b) = loops_in_block b
   loops_in line (IfElse e b c) = loops_in_block b ++ loops_in_block c
@@ -101,7 +102,7 @@ abbrev mutual
   loops_in line (Region tag b) = loops_in_block b
   loops_in line _ = []
 
-  -- the same of a block
+  -- the line of each loop in a block
   pub loops_in_block : Block → List ℕ
   loops_in_block End = []
   loops_in_block (Then line s b) = loops_in line s ++ loops_in_block b
@@ -110,13 +111,14 @@ abbrev mutual
 abbrev pub regions_of : Program → List (Name × ℕ)
 regions_of program = flat_map (λ f. regions_in_block f.body) program.functions
 
--- too many parameters, and the lines of declarations past the limit; parameters count at the head
+-- the line of a head with too many parameters, and the lines of declarations above the limit; parameters are in the
+-- head's line
 abbrev pub function_limits : Function → List ℕ
 function_limits f =
     unless (nat_le (length f.params) MOST_PARAMETERS) f.line
     ++ lines_beyond MOST_DECLARED (map (λ p. f.line) f.params ++ declaring_lines_in f.body)
 
--- the lines of functions, reducers, heads, declarations and regions that pass a limit
+-- the lines of functions, reducers, heads, declarations and regions above a limit
 abbrev pub limit_faults : Program → List ℕ
 limit_faults program =
     lines_beyond MOST_FUNCTIONS (map (λ f. f.line) program.functions)
@@ -125,11 +127,12 @@ limit_faults program =
     ++ (flat_map (λ d. unless (nat_le (length d.0) MOST_TAG_BYTES) d.1) (regions_of program)
     ++ lines_beyond MOST_TAGS (map (λ d. d.1) (first_places (regions_of program) [])))))
 
--- the lines of loops past the limit
+-- the lines of loops above the limit
 abbrev pub loop_faults : Program → List ℕ
 loop_faults program = lines_beyond MOST_LOOPS (flat_map (λ f. loops_in_block f.body) program.functions)
 
--- the instructions of an expression, in a loop over these arrays: an index into one of them is two longer
+-- the number of instructions of an expression inside loops over these arrays: an index into one of them costs two
+-- more
 abbrev pub size_of : List Name → Expr → ℕ
 size_of over (Number n) = 1
 size_of over (Variable x) = 1
@@ -139,19 +142,20 @@ size_of over (Negative e) = size_of over e + 1
 size_of over (Not e) = size_of over e + 1
 size_of over (Binary operator d e) = size_of over d + size_of over e + 1
 
--- the instructions of integer arguments
+-- the number of instructions of the integer arguments of a call
 abbrev pub arguments_size : List Name → List Param → List Expr → ℕ
 arguments_size over [] es = 0
 arguments_size over (p ∷ ps) [] = 0
 arguments_size over (p ∷ ps) (e ∷ es) = (if wants_array p then 0 else size_of over e) + arguments_size over ps es
 
--- the instructions of a return
+-- the number of instructions of a return
 abbrev pub returned_size : List Name → Option Expr → ℕ
 returned_size over None = 1
 returned_size over (Some e) = size_of over e + 1
 
 abbrev mutual
-  -- the instructions of a statement with its loops lowered, each construct, branch, jump and end counted once
+  -- the number of instructions of a statement after lowering of loops, each construct, branch, jump and end counted
+  -- once
   pub stmt_size : List Function → List Name → Stmt → ℕ
   stmt_size fs over (Declare x e) = size_of over e + 1
   stmt_size fs over (DeclareArray a e) = size_of over e + 1
@@ -174,16 +178,16 @@ abbrev mutual
   stmt_size fs over (Print e) = size_of over e + 1
   stmt_size fs over (Return e) = returned_size over e
 
-  -- the same of a block
+  -- the number of instructions of a block
   pub block_size : List Function → List Name → Block → ℕ
   block_size fs over End = 0
   block_size fs over (Then line s b) = stmt_size fs over s + block_size fs over b
 
--- the end of a void function is one instruction
+-- the number of instructions of a function; the end of a void function is one instruction
 abbrev pub function_size : List Function → Function → ℕ
 function_size fs f = block_size fs [] f.body + (if f.gives_int then 0 else 1)
 
--- the static size of a program
+-- the static size of a program, in instructions
 abbrev pub static_size : Program → ℕ
 static_size program = sum_by (function_size program.functions) program.functions
 
@@ -191,7 +195,7 @@ static_size program = sum_by (function_size program.functions) program.functions
 abbrev pub call_count : Program → ℕ
 call_count program = length (call_sites program)
 
--- a program of too many instructions or call statements counts at line 1
+-- a program with too many instructions or call statements has a fault in line 1
 abbrev pub program_faults : Program → List ℕ
 program_faults program =
     unless (nat_le (static_size program) MOST_INSTRUCTIONS) 1

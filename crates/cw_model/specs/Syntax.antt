@@ -1,4 +1,4 @@
--- The source program as a tree.
+-- The abstract syntax tree of a source program.
 use Rattle.std.specs.Prelude.{ℕ, ℤ, Bool, true, false, List, Option}
 use Rattle.cw_model.specs.declared.syntax.Operator.{Operator}
 use Rattle.cw_model.specs.declared.syntax.CallKind.{CallKind}
@@ -6,7 +6,7 @@ use Rattle.cw_model.specs.declared.syntax.Reduction.{Reduction}
 use Rattle.cw_model.specs.declared.syntax.NameKind.{NameKind}
 use Rattle.cw_model.specs.declared.syntax.NameKind.TheVariants.{Integer, Array, Const}
 
--- a name by its bytes
+-- a name, as its bytes
 abbrev pub Name : Type 0
 Name = List ℕ
 
@@ -27,19 +27,19 @@ mutual
     DeclareArray : Name → Expr → Stmt
     Assign : Name → Expr → Stmt
     AssignElement : Name → Expr → Expr → Stmt
-    -- a value is told to a reducer; typing asks that the reducer reduces so
+    -- an update of a reducer with a value; typing requires that the reducer's declaration says the same reduction
     Reduce : (how : Reduction) (reducer : Name) → Expr → Stmt
-    -- call statements are numbered from 1 by place: each is a site
+    -- call statements are numbered from 1 in source order; each of them is a site
     Call : (kind : CallKind) (site : ℕ) (target : Option Name) (callee : Name) → List Expr → Stmt
-    -- a call by the function that a loop was lowered to of itself: with no site and no depth of its own
+    -- a recursive call of the function that a loop was lowered to: it is no site, and it is as deep as its caller
     Start : (kind : CallKind) (callee : Name) → List Expr → Stmt
-    -- the first call of the function that a loop was lowered to, on a range and on the slices of its arrays there
+    -- the first call of the function that a loop was lowered to, with the range and the slices of the loop's arrays
     Begin : (callee : Name) (from to : Expr) (captured over : List Name) → Stmt
     Sync : Stmt
     If : Expr → Block → Stmt
     IfElse : Expr → Block → Block → Stmt
     While : Expr → Block → Stmt
-    -- the three names of a loop's head: typing asks that they are one
+    -- `cilk_for`, with the three names in its head; typing requires that they are equal
     For : (variable tested stepped : Name) (from to : Expr) (grain : ℕ) (over : List Name) → Block → Stmt
     Scope : Block → Stmt
     Cut : (array : Name) (at : Expr) (left right : Name) → Block → Stmt
@@ -47,23 +47,23 @@ mutual
     Print : Expr → Stmt
     Return : Option Expr → Stmt
 
-  -- statements in order, each with the line of its first token
+  -- the statements of a block in order, each with the line of its first token
   pub data Block : Type 0 where
     End : Block
     Then : (line : ℕ) → Stmt → Block → Block
 
--- an array, whether it may be written or is only read
+-- the name is an array, writable or read-only
 abbrev pub is_array_kind : NameKind → Bool
 is_array_kind Integer = false
 is_array_kind Array = true
 is_array_kind Const = true
 
--- an array that is only read
+-- the name is a read-only array
 abbrev pub is_const_kind : NameKind → Bool
 is_const_kind Const = true
 is_const_kind _ = false
 
--- an array that may be written
+-- the name is a writable array
 abbrev pub is_written_kind : NameKind → Bool
 is_written_kind Array = true
 is_written_kind _ = false
@@ -73,19 +73,19 @@ pub record Param : Type 0 where
   pub name : Name
   pub kind : NameKind
 
--- an array stands for the parameter
+-- the argument for this parameter is an array
 abbrev pub wants_array : Param → Bool
 wants_array p = is_array_kind p.kind
 
--- an array stands for it, which is taken from the caller until the call returns
+-- the argument for this parameter is an array that the call takes from its caller until it returns
 abbrev pub takes_array : Param → Bool
 takes_array p = is_written_kind p.kind
 
--- an array stands for it, which is only read
+-- the argument for this parameter is an array that the call only reads
 abbrev pub reads_array : Param → Bool
 reads_array p = is_const_kind p.kind
 
--- a function, with the line of its name
+-- a function, with the line in which its name is declared
 pub record Function : Type 0 where
   pub name : Name
   pub line : ℕ
@@ -93,13 +93,13 @@ pub record Function : Type 0 where
   pub params : List Param
   pub body : Block
 
--- a reducer, with how it reduces and the line of its first token
+-- a reducer, with its reduction and the line of its first token
 pub record Reducer : Type 0 where
   pub name : Name
   pub how : Reduction
   pub line : ℕ
 
--- a source: its reducers and its functions, each in their order
+-- a program: its reducers and its functions, each in source order
 pub record Program : Type 0 where
   pub reducers : List Reducer
   pub functions : List Function

@@ -1,4 +1,4 @@
--- What the normal form of a tree keeps, and which trees have the same one.
+-- The measures that the normal form of a tree preserves, and the trees with equal normal forms.
 use Rattle.std.specs.Prelude.{◌≡◌, ℕ, ◌+◌, sum_by}
 use Rattle.std.specs.List.{range_with_len}
 use Rattle.cw_model.specs.declared.burden.Burden.{Burden}
@@ -6,7 +6,7 @@ use Rattle.cw_model.specs.Syntax.{Name}
 use Rattle.cw_model.specs.Trees.{Mark, Tree, Leaf, Seq, Par, Marked, work, span, burdened_span}
 use Rattle.cw_model.specs.Rows.{site_row, region_row}
 
--- trees that differ only in how series are grouped, how strands are cut, and where strands of no instructions stand
+-- the trees differ only in the grouping of series, the division into strands, and the positions of empty strands
 pub data Regrouped : Tree → Tree → Type 0 where
   same : (t : Tree) → Regrouped t t
   back : {t u : Tree} → Regrouped t u → Regrouped u t
@@ -20,14 +20,14 @@ pub data Regrouped : Tree → Tree → Type 0 where
       → Regrouped (Par child rest) (Par child' rest')
   in_mark : {t t' : Tree} → (mark : Mark) → Regrouped t t' → Regrouped (Marked mark t) (Marked mark t')
 
--- all that is read off two trees is the same: work, burdened spans, and the rows of every site and every region
+-- the measures of two trees are equal: work, burdened spans, and the rows of all sites and all regions
 pub record ReadSame (t u : Tree) : Type 0 where
   pub same_work : work t ≡ work u
   pub same_span : (burden : Burden) → burdened_span burden t ≡ burdened_span burden u
   pub same_site_row : (site : ℕ) → site_row site t ≡ site_row site u
   pub same_region_row : (burden : Burden) (tag : Name) → region_row burden tag t ≡ region_row burden tag u
 
--- the own work of the sites below a number adds up to the work of a tree, and their own span to its span
+-- the own work of the sites below a number adds up to the tree's work, and their own span to its span
 pub record SitesAddUp (count : ℕ) (t : Tree) : Type 0 where
   pub work_adds_up : sum_by (λ site. (site_row site t).own_work) (range_with_len 0 count) ≡ work t
   pub span_adds_up : sum_by (λ site. (site_row site t).own_span) (range_with_len 0 count) ≡ span t

@@ -1,4 +1,4 @@
--- What a call takes of its budget.
+-- The budget that a call spends.
 use Rattle.std.specs.Prelude.{◌≡◌, ℕ, ◌+◌, List}
 use Rattle.cw_model.specs.Syntax.{Function}
 use Rattle.cw_model.specs.Frames.{Frame}
@@ -6,7 +6,7 @@ use Rattle.cw_model.specs.Trees.{work, tree_of}
 use Rattle.cw_model.specs.Outcome.{Trace, Done}
 use Rattle.cw_model.specs.Meaning.{Entry, Returned, call}
 
--- a call that is done takes the work of its tree
+-- a call that is done spends exactly the work of its tree
 abbrev pub CallsTakeTheirWork : Type 0
 CallsTakeTheirWork =
     (bound depth : ℕ) (fs : List Function) (entry : Entry) (f : Function) (given : Frame) (line left : ℕ)

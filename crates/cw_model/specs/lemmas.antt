@@ -1,4 +1,4 @@
--- Lemmas on the definitions, which the proofs of the crates above cite.
+-- Lemmas about the definitions, for the proofs of the crates above.
 pub mod Kept
 pub mod Spans
 pub mod Firsts

@@ -1,4 +1,4 @@
-//! What is charged for a spawn.
+//! The burden: the charge for each spawn on a path.
 
 ghost use Rattle.std.specs.Prelude.{◌≡◌};
 ghost use Rattle.cw_model.specs.Burdens.{at_child, at_rest};
@@ -6,23 +6,24 @@ ghost use Rattle.cw_model.specs.Burdens.{at_child, at_rest};
 /// Which edges of a spawn are charged.
 #[derive(Clone, Copy, Debug, PartialEq, Eq)]
 pub enum Edges {
-    /// The continuation edge alone, from the spawn to the rest of its block: what a theft costs the thief.
+    /// Only the continuation edge, from the spawn to the continuation of its block: the thief's cost of a steal.
     Spawn,
-    /// The continuation edge, and the return edge from the spawned call to the join: what a theft costs at the join, too.
+    /// The continuation edge and the return edge, from the spawned call to the join: adds the cost of a steal at the
+    /// join.
     Both,
 }
 
-/// What is charged for each spawn, in instructions.
+/// The charge for each spawn, in instructions.
 #[derive(Clone, Copy, Debug, PartialEq, Eq)]
 pub struct Burden {
-    /// For each edge that is charged: 0 to 1,000,000,000.
+    /// The charge for each charged edge: 0 to 1,000,000,000.
     pub charge: u64,
     /// The edges that are charged.
     pub edges: Edges,
 }
 
 impl Burden {
-    /// What a path is charged that runs through the spawned call, in instructions.
+    /// Returns the charge for a path that goes through the spawned call, in instructions.
     #[inline(always)]
     pub fn at_child(&self) -> u64
         ensures { result ≡ at_child self.now }
@@ -33,7 +34,7 @@ impl Burden {
         }
     }
 
-    /// What a path is charged that runs through the rest of the block, in instructions.
+    /// Returns the charge for a path that goes through the continuation, in instructions.
     #[inline(always)]
     pub fn at_rest(&self) -> u64
         ensures { result ≡ at_rest self.now }

@@ -1,4 +1,4 @@
-//! What the language means, what is counted, and worked examples that compute.
+//! Defines the meaning of the language and all measures, with worked examples that compute.
 #![tactic(auto)]
 
 pub mod burden;

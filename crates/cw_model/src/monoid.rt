@@ -1,4 +1,4 @@
-//! Values that are joined in order.
+//! Values that can be joined, in order.
 
 ghost use Rattle.std.specs.Prelude.{◌≡◌, IfOk};
 
@@ -11,11 +11,15 @@ pub trait Monoid {
 
     ghost joined: { Self → Self → Self };
 
-    /// The value that changes nothing where it is joined. Takes no memory.
+    /// Returns the neutral value of `join`. Allocates no memory.
     fn unit(alloc: Global) -> Self
         ensures { result ≡ empty };
 
-    /// This value and then the right one; an error only where memory was refused.
+    /// Joins this value and the one to its right.
+    ///
+    /// # Errors
+    ///
+    /// Returns an `AllocError` if memory runs out.
     fn join(self, right: Self) -> Result<Self, AllocError>
         ensures { IfOk result (λ whole. whole ≡ joined self right) };
 

@@ -1,4 +1,4 @@
-//! Parts of a program's tree that every stage has as they are.
+//! Parts of a program's syntax tree that all stages share.
 
 ghost use Rattle.std.specs.Prelude.{◌≡◌, IfOk};
 ghost use Rattle.std.specs.Arc.{arc_value};
@@ -7,7 +7,7 @@ use std::alloc::{AllocError, Global};
 use std::marker::Model;
 use std::sync::Arc;
 
-/// A name by its bytes, which stand in memory once for all that share it.
+/// A name, as bytes in shared memory.
 #[derive(Drop, Debug)]
 pub struct Name {
     text: Arc<Vec<u8>>,
@@ -23,7 +23,11 @@ impl Model for Name {
 }
 
 impl Name {
-    /// The name with these bytes, which are copied; an error where memory runs out.
+    /// Returns the name with a copy of these bytes.
+    ///
+    /// # Errors
+    ///
+    /// Returns an `AllocError` if memory runs out.
     pub fn new(alloc: Global, text: &[u8]) -> Result<Name, AllocError>
         ensures { IfOk result (λ name. name ≡ text.now) }
     {
@@ -31,8 +35,12 @@ impl Name {
         Ok(Name { text })
     }
 
-    /// The same name once more, whose bytes are shared. It takes no memory but where 2^63 share them already: then they
-    /// are copied, and it is an error where memory runs out.
+    /// Returns the same name, with shared bytes. It allocates memory only if 2^63 names share the bytes already; then
+    /// it copies them.
+    ///
+    /// # Errors
+    ///
+    /// Returns an `AllocError` if memory runs out.
     pub fn share(&self, alloc: Global) -> Result<Name, AllocError>
         ensures { IfOk result (λ name. name ≡ self.now) }
     {
@@ -42,7 +50,7 @@ impl Name {
         }
     }
 
-    /// The bytes of the name.
+    /// Returns the bytes of the name.
     pub fn as_bytes(&self) -> &[u8]
         ensures { result.now ≡ self.now }
     {
@@ -50,7 +58,7 @@ impl Name {
     }
 }
 
-/// An operator between two operands. What a new one touches stands in docs/DEVELOPING.md.
+/// A binary operator. docs/DEVELOPING.md lists what a new operator touches.
 #[derive(Clone, Copy, Debug, PartialEq, Eq)]
 pub enum Operator {
     Equal,
@@ -66,27 +74,26 @@ pub enum Operator {
     Modulo,
 }
 
-/// How a reducer makes one total of the values that the parts of a run tell it. What a new kind touches stands in
-/// docs/DEVELOPING.md.
+/// How a reducer combines the values of its updates into a total. docs/DEVELOPING.md lists what a new kind touches.
 #[derive(Clone, Copy, Debug, PartialEq, Eq)]
 pub enum Reduction {
     /// The sum of the values.
     Sum,
-    /// The greatest of the values, where there is one.
+    /// The maximum of the values, if there are any.
     Max,
 }
 
-/// What a local name stands for.
+/// The kind of a local name.
 #[derive(Clone, Copy, Debug, PartialEq, Eq)]
 pub enum NameKind {
     Integer,
-    /// An array, which may be written, cut and passed to any parameter for an array.
+    /// An array that may be written, cut and passed to any parameter for an array.
     Array,
-    /// An array that is only read: a parameter that says so.
+    /// A read-only array: a parameter that is declared `const`.
     Const,
 }
 
-/// Whether a call may run beside what follows it.
+/// Whether a call may run in parallel with the statements after it.
 #[derive(Clone, Copy, Debug, PartialEq, Eq)]
 pub enum CallKind {
     Plain,

@@ -1,12 +1,11 @@
-//! Tokens, as the lexer gives them and the grammar reads them. What a new word or sign touches stands in
-//! docs/DEVELOPING.md.
+//! Tokens, the interface between lexer and grammar. docs/DEVELOPING.md lists what a new keyword or symbol touches.
 
-/// What a token is.
+/// The kind of a token.
 #[derive(Clone, Copy, Debug, PartialEq, Eq)]
 pub enum Kind {
-    /// A word that is no keyword.
+    /// A word that is not a keyword.
     Name,
-    /// A number with its value.
+    /// A number, with its value.
     Number(u64),
     Int,
     Void,
@@ -55,8 +54,8 @@ pub enum Kind {
     Not,
 }
 
-/// A token: what it is, the bytes of the text from `start` up to `end` that spell it, and the line
-/// (from 1) that it begins in.
+/// A token: its kind, the range of bytes of the text that spells it (`start` up to, not including, `end`), and the
+/// line in which it begins, counted from 1.
 #[derive(Clone, Copy, Debug, PartialEq, Eq)]
 pub struct Token {
     pub kind: Kind,

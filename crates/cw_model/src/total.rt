@@ -1,10 +1,10 @@
-//! What reducers come to.
+//! The totals of reducers.
 
-/// What a reducer comes to over a run, or over a part of one.
+/// The total of a reducer over a run, or over a part of a run.
 #[derive(Clone, Copy, Debug, PartialEq, Eq)]
 pub enum Total {
-    /// The sum of the values that it was told; 0 where there was none.
+    /// The sum of the values of all updates; 0 without updates.
     Sum(i128),
-    /// The greatest of the values that it was told; none where there was none.
+    /// The maximum of the values of all updates; `None` without updates.
     Max(Option<i64>),
 }

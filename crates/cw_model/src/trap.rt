@@ -1,27 +1,27 @@
-//! Traps. What a new one touches stands in docs/DEVELOPING.md.
+//! Traps. docs/DEVELOPING.md lists what a new trap touches.
 
 ghost use Rattle.std.specs.Prelude.{◌≡◌};
 ghost use Rattle.cw_model.specs.Ints.{trap_number};
 
-/// Why an instruction traps.
+/// The reason for which an instruction traps.
 #[derive(Clone, Copy, Debug, PartialEq, Eq)]
 pub enum Trap {
-    /// A result that 64 bits do not hold.
+    /// A result outside the range of 64 bits.
     Overflow,
-    /// A quotient or remainder by 0.
+    /// A division or remainder by 0.
     DivisionByZero,
-    /// An index, a cut's place or a loop's range outside its array.
+    /// An index, the index of a cut, or the range of a loop is outside its array.
     OutOfBounds,
-    /// The length of an array below 0 or above 16,777,216.
+    /// The length of an array is below 0 or above 16,777,216.
     BadLength,
-    /// More than 2,147,483,647 turns of a loop.
+    /// A loop has more than 2,147,483,647 iterations.
     TooManyTurns,
-    /// A call at a depth above 10,000.
+    /// The depth of a call is above 10,000.
     TooDeep,
 }
 
 impl Trap {
-    /// The number that the trap is reported by, from 1 to 6.
+    /// Returns the number by which the trap is reported, from 1 to 6.
     pub fn number(&self) -> u8
         ensures { result ≡ trap_number self.now }
     {

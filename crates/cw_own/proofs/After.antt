@@ -1,4 +1,4 @@
--- What is taken after a statement and after a block, by names and by slots.
+-- The locals held after a statement and after a block, by names and by slots.
 use Rattle.std.proofs.Common.{◌≡◌, ℕ, pos, ◌+◌, ◌≤◌, ◌==◌, nat_lt, Bool, true, false, not, ◌&&◌, ◌||◌, if◌then◌else◌, List, [], ◌∷◌, ◌++◌}
 use Rattle.std.proofs.Common.{length, map, Option, Some, None, option_map, ◌⊎◌, inl, inr, ⊎_elim, subst, refl, sym, ap, ◌∙◌}
 use Rattle.std.specs.List.{list_all}
@@ -36,15 +36,15 @@ use Rattle.cw_own.proofs.Following.{holds_freed, holds_inside, holds_left, holds
 use Rattle.cw_own.proofs.Ending.{all_locals, drop_block}
 use Rattle.cw_own.proofs.Returning.{none_after_all, no_return}
 
--- rows and holders
+-- the locals held from outside, for each set of holders
 abbrev pub Outside : Type 0
 Outside = (Holder → Bool) → Row
 
--- a return stands only at the top of a function, where nothing is held from outside
+-- a return occurs only at the top level of a function, where nothing is held from outside
 abbrev pub AtTop : Returns → Outside → Slots → Type 0
 AtTop returns outside cuts = (returns ≡ Nowhere) ⊎ (((p : Holder → Bool) → outside p ≡ no_local) × ((k : ℕ) → cuts k ≡ false))
 
--- arrays that are passed, in any order
+-- taking an integer commutes with passing arrays
 int_later : (es : List spec.Argument) (slot : ℕ) (row : Held) → with_arrays es (taking_int slot row) ≡ taking_int slot (with_arrays es row)
 int_later [] slot row = refl
 int_later (spec.Int e ∷ es) slot row = int_later es slot row
@@ -68,7 +68,7 @@ frozen_later (spec.Shared u ∷ es) slot row =
     ap (with_arrays es) (same_held (freezing u.slot (freezing slot row)) (freezing slot (freezing u.slot row)) (λ k. refl) (λ k. refl) (λ k. or_swap (k == u.slot) (k == slot) (row.frozen k)))
     ∙ frozen_later es slot (freezing u.slot row)
 
--- an integer's name alone is no array
+-- an integer variable as an argument is not an array
 pub int_argument : (known : Known) (locals : Locals) (ps : List Param) (e : Expr) → Knows known locals → is_fine known e ≡ true → resolved_argument locals ps e ≡ spec.Int (resolved_expr locals e)
 int_argument known locals ps (Number n) k h = refl
 int_argument known locals ps (Variable x) k h = ap (λ b. if b then spec.passed_to ps (use_of locals.arrays x) else spec.Int (spec.Variable (use_of locals.ints x))) (k.apart x (k.ints x h))
@@ -82,11 +82,11 @@ pub array_argument : (known : Known) (locals : Locals) (ps : List Param) (a : Na
     → resolved_argument locals ps (Variable a) ≡ spec.passed_to ps (use_of locals.arrays a)
 array_argument known locals ps a k h = ap (λ b. if b then spec.passed_to ps (use_of locals.arrays a) else spec.Int (spec.Variable (use_of locals.ints a))) (k.arrays a h)
 
--- a parameter of a name and a kind
+-- a parameter with this name and this kind
 abbrev pub param : Name → NameKind → Param
 param name kind = record { name = name; kind = kind }
 
--- a name that is taken goes before those that are frozen
+-- a taken name may be recorded before the frozen names
 holds_among : (locals : Locals) (depth : ℕ) (outside : Outside) (xs : List Name) (t : Name × Holder) (taken : Taken) (here : Held) (cuts : Slots) →
     Holds locals depth outside (t ∷ frozen_by depth xs taken) here cuts → Holds locals depth outside (frozen_by depth xs (t ∷ taken)) here cuts
 holds_among locals depth outside xs t taken here cuts h p =
@@ -203,7 +203,7 @@ masked_arrays k n r q h d f c u free none = by (nat_lt k n) refl
     by false e = sym (ap (λ r. r || (((q && false) || (d && false)) || (c && u))) (free (not_lt_of k n e))
         ∙ ap (λ u. ((q && false) || (d && false)) || (c && u)) (none (not_lt_of k n e)) ∙ all_none q d c)
 
--- the names of a block end with it
+-- the names of a block are not held after it
 pub holds_end : (program : Program) (returns : Returns) (known : Known) (locals : Locals) (depth : ℕ) (outside : Outside) (b : Block)
     (before : Taken) (here : Held) (cuts : Slots) (taken : Taken) (row : Held) (less : Slots) →
     Knows known locals → faults_in_block program returns known b ≡ [] → Holds locals depth outside before here cuts → ((k : ℕ) → less k ≡ true → cuts k ≡ true) →
@@ -219,7 +219,7 @@ holds_end program returns known locals depth outside b before here cuts taken ro
     (λ le. still_none (less k) (cuts k) (fewer k) (neither_second ((outside holding.is_cut).arrays k) (cuts k) ((entry holding.is_cut).arrays_end k le)))))
     (drop_block program returns known locals b (held p taken) (all_of p depth outside row less) k fine (last p)))
 
--- what goes on after a branch
+-- the locals held after a branch
 pub holds_goes : (program : Program) (lists : Lists) (returns : Returns) (known : Known) (locals : Locals) (depth : ℕ) (outside : Outside) (b : Block) (here : Held) (cuts : Slots) (taken : Taken) →
     AtTop returns outside cuts → faults_in_block program returns known b ≡ [] →
     Holds locals depth outside taken (held_within (known_row locals) (after_all (known_row locals) (spec.resolved_block lists locals b) here))
@@ -257,7 +257,7 @@ holds_goes program lists returns known locals depth outside b here cuts taken to
         (λ nowhere. let f : block_returns b ≡ false = no_return program known b (subst (λ r. faults_in_block program r known b ≡ []) nowhere fine) in absurd (cc (e, f)))
         (λ none. nothing e none) top
 
--- what is known after a statement
+-- the known locals after a statement
 pub known_next : (lists : Lists) (locals : Locals) (s : Stmt) → known_after (known_row locals) (spec.resolved_stmt lists locals s) ≡ known_row (spec.locals_after locals s)
 known_next lists locals (Declare x e) = sym (known_int locals x)
 known_next lists locals (DeclareArray a e) = sym (known_array locals a)
@@ -278,7 +278,7 @@ known_next lists locals (Region tag c) = refl
 known_next lists locals (Print e) = refl
 known_next lists locals (Return e) = refl
 
--- typing knows the locals after a statement
+-- the types know the locals after a statement
 pub knows_next : (program : Program) (returns : Returns) (known : Known) (locals : Locals) (line : ℕ) (s : Stmt) → Knows known locals
     → faults_in program returns known line s ≡ [] → Knows (declares s known) (spec.locals_after locals s)
 knows_next program returns known locals line (Declare x e) k fine =
@@ -355,7 +355,7 @@ pub head_new : (program : Program) (known : Known) (x y z : Name) (from to : Exp
 head_new program known x y z from to grain over h =
     first_true _ _ (first_true _ _ (first_true _ _ (first_true _ _ (first_true _ _ (first_true _ _ (first_true _ (list_all (λ a. is_writable known a) over) h))))))
 
--- the two names of a cut are known in its block
+-- the two parts of a cut are known in its block
 pub knows_cut : (program : Program) (known : Known) (locals : Locals) (a l r : Name) → Knows known locals → Cuts program known a l r →
     Knows ((r, name_kind.Array) ∷ (l, name_kind.Array) ∷ known) (spec.with_array r (spec.with_array l locals))
 knows_cut program known locals a l r k c =
@@ -363,7 +363,7 @@ knows_cut program known locals a l r k c =
     knows_array ((l, name_kind.Array) ∷ known) (spec.with_array l locals) r
     (fresh_name program ((l, name_kind.Array) ∷ known) (spec.with_array l locals) r one (new_beside program known l r c.right c.apart)) one
 
--- a branch, as it goes on
+-- the locals held after a branch that continues
 pub branch_after : (program : Program) (lists : Lists) (returns : Returns) (known : Known) (locals : Locals) (depth : ℕ) (outside : Outside) (b : Block) (taken : Taken) (here : Held) (cuts : Slots) →
     Knows known locals → Steady depth outside → AtTop returns outside cuts → faults_in_block program returns known b ≡ [] → Holds locals depth outside taken here cuts →
     Holds (all_locals locals b) depth outside (taken_after_all program.functions depth b taken)
@@ -376,7 +376,7 @@ branch_after program lists returns known locals depth outside b taken here cuts 
     (after_all (known_row locals) (spec.resolved_block lists locals b) here) (cuts_after_all (spec.resolved_block lists locals b) cuts)
     k fine h (no_more_all (spec.resolved_block lists locals b) cuts) last)
 
--- any number of turns
+-- the locals held after any number of iterations
 pub while_after : (program : Program) (lists : Lists) (returns : Returns) (known : Known) (locals : Locals) (depth : ℕ) (outside : Outside)
     (e : Expr) (b : Block) (taken : Taken) (here : Held) (cuts : Slots) →
     Knows known locals → Steady depth outside → AtTop returns outside cuts → faults_in_block program returns known b ≡ [] → Holds locals depth outside taken here cuts →
@@ -392,7 +392,7 @@ while_after program lists returns known locals depth outside e b taken here cuts
     (holds_either locals depth outside taken _ here row cuts (cuts_after_all b' cuts) h
     (branch_after program lists returns known locals depth outside b taken here cuts k steady top fine h last)))
 
--- a sync block with no name of its own before it
+-- the locals held after a sync block without names of its own before it
 pub scope_after : (program : Program) (lists : Lists) (known : Known) (locals : Locals) (depth : ℕ) (outside : Outside) (b : Block) (taken : Taken) (here : Held) (cuts : Slots) →
     Knows known locals → Steady depth outside → faults_in_block program Nowhere known b ≡ [] → Holds locals depth outside taken here cuts →
     Holds (all_locals locals b) (depth + 1) (entered outside depth here) (taken_after_all program.functions (depth + 1) b taken)

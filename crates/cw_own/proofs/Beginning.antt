@@ -1,4 +1,4 @@
--- What is known as a function begins.
+-- The known locals at the start of a function.
 use Rattle.std.proofs.Common.{◌≡◌, ℕ, ◌+◌, nat_lt, Bool, true, false, not, ◌||◌, if◌then◌else◌, cond, List, [], ◌∷◌, ◌++◌, length, map, filter, subst, refl, sym, ap, ◌∙◌, arith}
 use Rattle.std.proofs.lemmas.Bool.Decides.{nat_tests}
 use Rattle.std.proofs.lemmas.Slice.Eq.{bytes_eq-Decides}
@@ -23,12 +23,12 @@ use Rattle.cw_model.specs.declared.syntax.NameKind.TheVariants as name_kind
 use Rattle.cw_model.specs.Syntax.{wants_array, is_array_kind}
 use Rattle.cw_model.specs.lemmas.Names.{names_of, heads_are}
 
--- these parameters, after locals that are known
+-- the locals with these parameters appended
 abbrev pub params_after : Locals → List Param → Locals
 params_after locals [] = locals
 params_after locals (p ∷ ps) = params_after (if wants_array p then spec.with_array p.name locals else spec.with_int p.name locals) ps
 
--- parameters that differ, and are not known before
+-- parameters with distinct names that were not known before
 abbrev pub AreFresh : Locals → List Param → Type 0
 AreFresh locals [] = Unit {0}
 AreFresh locals (p ∷ ps) = Fresh p.name locals × AreFresh (if wants_array p then spec.with_array p.name locals else spec.with_int p.name locals) ps

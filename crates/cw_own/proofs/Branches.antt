@@ -1,4 +1,4 @@
--- What a statement with blocks is, and how deep.
+-- The kind and the depth of a statement with blocks.
 use Rattle.std.proofs.Common.{◌≡◌, ℕ, List, ◌∷◌, Box, Vec, Global, ap}
 use Rattle.cw_tree.specs.declared.resolved.Expr.{Expr}
 use Rattle.cw_tree.specs.declared.resolved.Line.{Line}

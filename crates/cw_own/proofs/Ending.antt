@@ -17,7 +17,7 @@ use Rattle.cw_own.proofs.Showing.{Shows, shows_as, shows_row, known_row}
 use Rattle.cw_own.proofs.Knowing.{Knows, fresh_name, knows_int, knows_array, shows_drop_int, shows_drop_array}
 use Rattle.cw_own.proofs.Fitting.{less}
 
--- the locals that are known at the end of a block
+-- the known locals at the end of a block
 abbrev pub all_locals : Locals → Block → Locals
 all_locals locals End = locals
 all_locals locals (Then line s b) = all_locals (spec.locals_after locals s) b

@@ -1,4 +1,4 @@
--- In a tree that fits, each slot that is declared, taken or listed is small.
+-- In a tree whose slots are below their counts, each slot that is declared, taken or listed is small.
 use Rattle.std.proofs.Common.{◌≡◌, ℕ, ◌≤◌, nat_lt, nat_le, true, ◌&&◌, List, [], ◌∷◌, length, map, flat_map, Option, Some, None, refl, arith}
 use Rattle.std.specs.List.{list_all}
 use Rattle.std.proofs.lemmas.Bool.Decides.{nat_tests}
@@ -13,7 +13,7 @@ use Rattle.cw_tree.specs.Resolved.{While, For, Scope, Cut, Region, Print, Return
 use Rattle.cw_tree.specs.Bounds.{Counts, is_below, fits_expr, fits_argument, fits_target, fits_head, fits_parts, fits_stmt, fits_block, fits_function, counts_of, is_fitting}
 use Rattle.cw_own.specs.Bounds.{is_small, small_argument, small_target, small_stmt, small_block, small_function}
 
--- few enough slots
+-- the numbers of slots are small
 record Few (n : Counts) : Type 0 where
   pub ints : n.ints ≤ MOST_DECLARED
   pub arrays : n.arrays ≤ MOST_DECLARED
@@ -115,7 +115,7 @@ functions_small tree (f ∷ fs) fits few =
     (functions_small tree fs (second_true (fits_function tree f) (list_all (fits_function tree) fs) fits)
     (right_none (function_limits (plain_function f)) (flat_map function_limits (map plain_function fs)) few))
 
--- each function of a tree that fits and passes no limit
+-- each function of a tree that exceeds no limit is small
 pub tree_small : (tree : Resolved) → is_fitting tree ≡ true → limit_faults (plain tree) ≡ [] → list_all small_function tree.functions ≡ true
 tree_small tree fits within =
     let beyond = lines_beyond MOST_FUNCTIONS (map (λ (f : model.Function). f.line) (plain tree).functions) in

@@ -1,4 +1,4 @@
--- What is taken, by names and holders, is what the rows hold.
+-- The names that are taken, with their holders, are the locals that the rows hold.
 use Rattle.std.proofs.Common.{◌≡◌, ℕ, ◌+◌, ◌≤◌, ◌==◌, Bool, true, false, not, ◌&&◌, ◌||◌, ◌∷◌, ◌++◌, refl, sym, ap, ◌∙◌, arith}
 use Rattle.std.proofs.lemmas.Bool.Decides.{nat_tests}
 use Rattle.std.proofs.Math.Bool.{or-false, and-false, or_assoc, and-true}
@@ -17,25 +17,25 @@ use Rattle.cw_own.proofs.Keeping.{same_rows}
 use Rattle.cw_own.proofs.Holding.{held, is_cut, but_spawn, but_cut, held_append, held_freed, uncut_test, held_uncut, held_same}
 use Rattle.cw_own.proofs.Showing.{Shows, shows_as, shows_row, shows_either, shows_int, shows_array, shows_push_int, shows_push_array}
 
--- the arrays that holders of a kind hold, of spawns of a sync block
+-- the arrays held by holders of a kind, among spawns of a sync block
 abbrev pub spun : (Holder → Bool) → ℕ → Held → Slots
 spun p depth here = λ k. (p (SpawnIn depth) && here.arrays k) || (p (ReaderIn depth) && here.frozen k)
 
--- what holders of a kind hold, of spawns of a sync block and of cuts
+-- the locals that holders of a kind hold, among spawns of a sync block and cuts
 abbrev pub part : (Holder → Bool) → ℕ → Held → Slots → Row
 part p depth here cuts = record {
   ints = λ k. p (SpawnIn depth) && here.ints k;
   arrays = λ k. spun p depth here k || (p CutOf && cuts k);
 }
 
--- and of those from outside
+-- the locals that holders of a kind hold, including those from outside
 abbrev pub all_of : (Holder → Bool) → ℕ → ((Holder → Bool) → Row) → Held → Slots → Row
 all_of p depth outside here cuts = either_row (outside p) (part p depth here cuts)
 
 abbrev pub Holds : Locals → ℕ → ((Holder → Bool) → Row) → Taken → Held → Slots → Type 0
 Holds locals depth outside taken here cuts = (p : Holder → Bool) → Shows locals (held p taken) (all_of p depth outside here cuts)
 
--- what is held from outside is held by no spawn from this depth on, and by no cut
+-- no spawn from this depth on, and no cut, holds what is held from outside
 pub record Steady (depth : ℕ) (outside : (Holder → Bool) → Row) : Type 0 where
   pub spawns : (d : ℕ) → depth ≤ d → (p : Holder → Bool) → outside (but_spawn d p) ≡ outside p
   pub cuts : (p : Holder → Bool) → outside (but_cut p) ≡ outside p
@@ -128,7 +128,7 @@ holds_array locals depth outside taken here cuts x there h p = by (p (SpawnIn de
         (p (ReaderIn depth) && here.frozen k) (p CutOf && cuts k) e))
         (h p))
 
--- a spawn that only reads freezes
+-- a spawn that only reads an array freezes it
 pub holds_frozen : (locals : Locals) (depth : ℕ) (outside : (Holder → Bool) → Row) (taken : Taken) (here : Held) (cuts : Slots) (x : Name) →
     is_among x locals.arrays ≡ true → Holds locals depth outside taken here cuts →
     Holds locals depth outside ((x, ReaderIn depth) ∷ taken) (freezing (slot_of x locals.arrays) here) cuts
@@ -152,13 +152,13 @@ holds_frozen locals depth outside taken here cuts x there h p = by (p (ReaderIn 
         ((k == slot_of x locals.arrays) || here.frozen k) (p (SpawnIn depth) && here.arrays k) (p CutOf && cuts k) e))
         (h p))
 
--- two ways on
+-- the integers held after two branches
 two_ints : (r q a b : Bool) → ((r || (q && a)) || (r || (q && b))) ≡ (r || (q && (a || b)))
 two_ints true q a b = refl
 two_ints false false a b = refl
 two_ints false true a b = refl
 
--- each kind of holder on both ways
+-- each kind of holder in both branches
 two_parts : (x y z x' y' z' : Bool) → (((x || y) || z) || ((x' || y') || z')) ≡ (((x || x') || (y || y')) || (z || z'))
 two_parts x y z x' y' z' = four_or (x || y) z (x' || y') z' ∙ ap (λ b. b || (z || z')) (four_or x y x' y')
 
@@ -210,7 +210,7 @@ freed_arrays r q a d m c u n e =
     ∙ ap (λ x. r || (((q && false) || x) || ((c && true) && u))) (off d m)
     ∙ ap (λ x. r || (((q && false) || (d && false)) || (x && u))) (and-true c)
 
--- a join
+-- a join frees what the spawns of its sync block hold
 pub holds_freed : (locals : Locals) (depth : ℕ) (outside : (Holder → Bool) → Row) (taken : Taken) (here : Held) (cuts : Slots) → Steady depth outside →
     Holds locals depth outside taken here cuts → Holds locals depth outside (freed depth taken) none_held cuts
 holds_freed locals depth outside taken here cuts steady h p =
@@ -226,7 +226,7 @@ holds_freed locals depth outside taken here cuts steady h p =
     ∙ freed_arrays ((outside p).arrays k) (p (SpawnIn depth)) (here.arrays k) (p (ReaderIn depth)) (here.frozen k) (p CutOf) (cuts k) (depth == depth) (equal depth depth refl)))
     (h left))
 
--- what is held from outside as a sync block begins
+-- the locals held from outside at the start of a sync block
 abbrev pub entered : ((Holder → Bool) → Row) → ℕ → Held → (Holder → Bool) → Row
 entered outside depth here p = record {
   ints = λ k. (outside p).ints k || (p (SpawnIn depth) && here.ints k);
@@ -263,7 +263,7 @@ entered_arrays : (r x n m c : Bool) → (r || (x || c)) ≡ ((r || x) || (((n &&
 entered_arrays r x n m c =
     sym (or_assoc r x c) ∙ ap (λ b. (r || x) || (b || c)) (sym (ap (λ a. a || (m && false)) (and-false n) ∙ and-false m))
 
--- a sync block begins
+-- the start of a sync block
 pub holds_inside : (locals : Locals) (depth : ℕ) (outside : (Holder → Bool) → Row) (taken : Taken) (here : Held) (cuts : Slots) →
     Holds locals depth outside taken here cuts → Holds locals (depth + 1) (entered outside depth here) taken none_held cuts
 holds_inside locals depth outside taken here cuts h p =
@@ -273,7 +273,7 @@ holds_inside locals depth outside taken here cuts h p =
     (λ k. entered_arrays ((outside p).arrays k) (spun p depth here k) (p (SpawnIn (depth + 1))) (p (ReaderIn (depth + 1))) (p CutOf && cuts k)))
     (h p)
 
--- a sync block ends
+-- the end of a sync block
 left_ints : (r q a m b n : Bool) → n ≡ true → ((r || ((q && true) && a)) || ((m && not n) && b)) ≡ (r || (q && a))
 left_ints r q a m b n e =
     ap (λ n. (r || ((q && true) && a)) || ((m && not n) && b)) e
@@ -314,7 +314,7 @@ holds_left locals depth outside here taken inner cuts steady h p =
     (p CutOf) (cuts k) (depth + 1 == depth + 1) (equal (depth + 1) (depth + 1) refl)))
     (h left))
 
--- one name more
+-- the agreement holds after a name is added to the known locals
 pub holds_push_int : (locals : Locals) (depth : ℕ) (outside : (Holder → Bool) → Row) (taken : Taken) (here : Held) (cuts : Slots) (y : Name) →
     Holds locals depth outside taken here cuts → Holds (spec.with_int y locals) depth outside taken here cuts
 holds_push_int locals depth outside taken here cuts y h p = shows_push_int locals y (held p taken) (all_of p depth outside here cuts) (h p)
@@ -335,7 +335,7 @@ put_off_last : (c r h u v : Bool) → c ≡ false → (r || (h || (c && u))) ≡
 put_off_last true r h u v e = cc
 put_off_last false r h u v e = refl
 
--- an array is cut
+-- a cut takes its array
 pub holds_cut : (locals : Locals) (depth : ℕ) (outside : (Holder → Bool) → Row) (taken : Taken) (here : Held) (cuts : Slots) (a : Name) →
     is_among a locals.arrays ≡ true → Holds locals depth outside taken here cuts →
     Holds locals depth outside ((a, CutOf) ∷ taken) here (with_slot (slot_of a locals.arrays) cuts)
@@ -372,7 +372,7 @@ freed_cut r x c u n e = ap (λ y. r || (x || y)) (by c) ∙ sym (ap (λ n. r || 
     by true = refl
     by false = refl
 
--- the end of a cut
+-- the end of a cut frees its array
 pub holds_uncut : (locals : Locals) (depth : ℕ) (outside : (Holder → Bool) → Row) (taken : Taken) (here : Held) (cuts : Slots) (a : Name) → Steady depth outside →
     is_among a locals.arrays ≡ true → Holds locals depth outside taken here cuts →
     Holds locals depth outside (cut_ended a taken) here (without_slot (slot_of a locals.arrays) cuts)

@@ -1,4 +1,4 @@
--- What holds a name, by a test of holders.
+-- The holders of a name, by a test of holders.
 use Rattle.std.proofs.Common.{◌≡◌, ℕ, Bool, true, false, not, ◌&&◌, ◌||◌, cond, filter, map, List, [], ◌∷◌, ◌++◌, refl, sym, ap, ◌∙◌}
 use Rattle.std.proofs.lemmas.Slice.Eq.{bytes_eq-Decides}
 use Rattle.std.proofs.Math.Bool.{and-false, or_assoc, and-true}
@@ -7,7 +7,7 @@ use Rattle.cw_model.specs.Names.{same_name, is_among}
 use Rattle.cw_model.specs.Ownership.{Holder, SpawnIn, ReaderIn, CutOf, Taken, is_reader, is_taken, is_held, is_spawn_in, freed, is_cut_of, cut_ended, without}
 use Rattle.cw_own.proofs.Words.{if_or, none_of_both}
 
--- a holder of this kind holds the name
+-- a holder that passes the test holds the name
 abbrev pub held : (Holder → Bool) → Taken → Name → Bool
 held p [] x = false
 held p (t ∷ taken) x = (same_name x t.0 && p t.1) || held p taken x
@@ -20,15 +20,15 @@ is_cut (SpawnIn d) = false
 is_cut (ReaderIn d) = false
 is_cut CutOf = true
 
--- one that does not only read
+-- the holder does not only read
 abbrev pub no_reader : Holder → Bool
 no_reader h = not (is_reader h)
 
--- not by a spawn of this sync block
+-- the holder passes the test, and it is not a spawn of this sync block
 abbrev pub but_spawn : ℕ → (Holder → Bool) → Holder → Bool
 but_spawn depth p h = p h && not (is_spawn_in depth h)
 
--- not by a cut
+-- the holder passes the test, and it is not a cut
 abbrev pub but_cut : (Holder → Bool) → Holder → Bool
 but_cut p h = p h && not (is_cut h)
 
@@ -118,6 +118,6 @@ held_uncut a p ((n, h) ∷ taken) x = by (not (is_cut_of a (n, h))) refl (held_u
         here true same = sym (and-false (p h)) ∙ ap (λ b. p h && b) (sym e) ∙ ap (λ b. p h && not b) (cut_is h same)
         here false same = refl
 
--- names that are held by no holder of a greater kind are held by none of a lesser one
+-- equal tests of holders give the same result
 pub held_same : (p q : Holder → Bool) (taken : Taken) (x : Name) → ((h : Holder) → p h ≡ q h) → held p taken x ≡ held q taken x
 held_same p q taken x h = ap (λ f. held f taken x) (λ i. λ k. h k i)

@@ -1,4 +1,5 @@
--- What is taken after a statement is what it takes where nothing is taken before it, and what it keeps of what was taken.
+-- The locals held after a statement are those held after it if nothing was held before, and a part of those held
+-- before.
 use Rattle.std.proofs.Common.{◌≡◌, ℕ, Bool, true, false, not, ◌&&◌, ◌||◌, List, [], ◌∷◌, ◌==◌, Option, Some, None, refl, sym, ap, ◌∙◌}
 use Rattle.std.proofs.Math.Bool.{and-true}
 use Rattle.cw_model.specs.declared.syntax.CallKind.TheVariants.{Plain, Spawned}
@@ -17,11 +18,11 @@ same_held h g p q r = λ i. record { ints = λ k. p k i; arrays = λ k. q k i; f
 abbrev every : Held
 every = record { ints = λ k. true; arrays = λ k. true; frozen = λ k. true }
 
--- what is held by both
+-- the intersection of what two hold
 abbrev both_held : Held → Held → Held
 both_held h g = record { ints = both h.ints g.ints; arrays = both h.arrays g.arrays; frozen = both h.frozen g.frozen }
 
--- a step holds something of its own, and keeps something of what was held
+-- a step holds what it holds without anything held before, and keeps a part of what was held before
 pub record Acts (f : Held → Held) : Type 0 where
   pub kept : Held
   pub law : (here : Held) → f here ≡ either_held (f none_held) (both_held here kept)
@@ -143,7 +144,7 @@ mutual
   block_acts known End = all_stays
   block_acts known (Then line s b) = one_after_another (after known s) (after_all (known_after known s) b) (stmt_acts known s) (block_acts (known_after known s) b)
 
--- what any number of turns leaves: what one turn takes where nothing is taken before it, beside what was taken
+-- any number of iterations hold what was held before and what one iteration holds that begins with nothing held
 pub turn_law : (known : Row) (b : Block) (here : Held) →
     either_held here (held_within known (after_all known b here)) ≡ either_held here (gain known b)
 turn_law known b here =
@@ -154,7 +155,7 @@ turn_law known b here =
     (λ k. turn_adds ((gain known b).arrays k) (here.arrays k) (a.kept.arrays k))
     (λ k. turn_adds ((gain known b).frozen k) (here.frozen k) (a.kept.frozen k))
 
--- an end of a cut frees arrays and takes none
+-- the end of a cut only frees arrays
 implied : (a b : Bool) → (a ≡ true → b ≡ true) → (a || b) ≡ b
 implied true b h = sym (h refl)
 implied false b h = refl
@@ -191,6 +192,6 @@ mutual
   no_more_all End cuts k h = h
   no_more_all (Then line s b) cuts k h = no_more s cuts k (no_more_all b (cuts_after s cuts) k h)
 
--- a way that cuts nothing more is no other
+-- after a block no array is cut that was not cut before it
 pub cuts_stay : (b : Block) (cuts : Slots) (k : ℕ) → (cuts_after_all b cuts k || cuts k) ≡ cuts k
 cuts_stay b cuts k = implied (cuts_after_all b cuts k) (cuts k) (no_more_all b cuts k)

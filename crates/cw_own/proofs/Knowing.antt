@@ -1,4 +1,4 @@
--- What the typing of a program knows of its locals.
+-- The consequences of the types of a program for its locals.
 use Rattle.std.proofs.Common.{◌≡◌, ℕ, ◌+◌, ◌==◌, nat_lt, Bool, true, false, not, ◌&&◌, ◌||◌, if◌then◌else◌, [], ◌∷◌, ◌++◌, length, map, refl, sym, ap, ◌∙◌, arith, length-append}
 use Rattle.std.proofs.lemmas.Bool.Decides.{nat_tests}
 use Rattle.std.proofs.Math.Bool.{or-false, or-true}
@@ -15,14 +15,14 @@ use Rattle.cw_own.proofs.Showing.{known_row, Shows, slot_kept}
 use Rattle.cw_model.specs.declared.syntax.NameKind.TheVariants as name_kind
 use Rattle.cw_model.specs.lemmas.Names.{same_are}
 
--- the kinds that typing knows are those of the locals, and no name is of both
+-- the known kinds agree with the locals, and no name is both an integer and an array
 pub record Knows (known : Known) (locals : Locals) : Type 0 where
   pub ints : (x : Name) → is_int known x ≡ true → is_among x locals.ints ≡ true
   pub arrays : (x : Name) → is_array known x ≡ true → is_among x locals.arrays ≡ true
   pub apart : (x : Name) → is_among x locals.ints ≡ true → is_among x locals.arrays ≡ false
   pub names : (x : Name) → is_among x (map (λ k. k.0) known) ≡ (is_among x locals.ints || is_among x locals.arrays)
 
--- a name that is known as nothing
+-- the name is neither an integer nor an array
 pub record Fresh (y : Name) (locals : Locals) : Type 0 where
   pub no_int : is_among y locals.ints ≡ false
   pub no_array : is_among y locals.arrays ≡ false
@@ -98,7 +98,7 @@ knows_array known locals y f k = record {
     names_by x false e =
         k.names x ∙ sym (ap (λ b. is_among x locals.ints || b) (among_push x locals.arrays y ∙ ap (λ b. is_among x locals.arrays || b) e ∙ or-false (is_among x locals.arrays)))
 
--- typing knows an array so, whether it may be written or is only read
+-- an array is known as an array, whether it may be written or only read
 pub knows_const : (known : Known) (locals : Locals) (y : Name) → Knows ((y, name_kind.Array) ∷ known) locals → Knows ((y, name_kind.Const) ∷ known) locals
 knows_const known locals y k = record { ints = k.ints; arrays = k.arrays; apart = k.apart; names = k.names }
 
@@ -117,7 +117,7 @@ known_array locals y =
     same_rows (known_row (spec.with_array y locals)) (with_array (length locals.arrays) (known_row locals))
     (λ k. refl) (λ k. one_below k (length locals.arrays) (length (locals.arrays ++ y ∷ [])) (omega (arith, count)))
 
--- within what is known before, without a name that was declared since
+-- a set within the locals known before, without an integer that was declared since
 pub shows_drop_int : (locals : Locals) (y : Name) (P : Name → Bool) (row : Row) → Fresh y locals → Shows (spec.with_int y locals) P row →
     Shows locals (λ x. not (same_name x y) && P x) (both_rows (known_row locals) row)
 shows_drop_int locals y P row f s = record {
@@ -164,7 +164,7 @@ shows_drop_int locals y P row f s = record {
         ∙ ap (λ b. b || row.arrays (slot_of x locals.arrays)) (ints_part x i d ei)
         ∙ ap (λ b. (nat_lt (slot_of x locals.ints) (length locals.ints) && row.ints (slot_of x locals.ints)) || b) (arrays_part x a ea)
 
--- the same of an array
+-- a set within the locals known before, without an array that was declared since
 pub shows_drop_array : (locals : Locals) (y : Name) (P : Name → Bool) (row : Row) → Fresh y locals → Shows (spec.with_array y locals) P row →
     Shows locals (λ x. not (same_name x y) && P x) (both_rows (known_row locals) row)
 shows_drop_array locals y P row f s = record {

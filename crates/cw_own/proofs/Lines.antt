@@ -39,7 +39,7 @@ use Rattle.cw_own.proofs.After.{Outside, AtTop, known_next, knows_next, top_stay
 use Rattle.cw_own.proofs.Wording.{row_of_taken, row_of_held, Sees, Inner, Rounds, rounds_int, rounds_array, rounds_head, read_same, write_same, pass_same, loose_same, index_same}
 use Rattle.cw_own.proofs.Passing.{slot_call, call_same, differ_named, over_same}
 
--- the same least line, whatever came before
+-- two lists have the same least line, also with any line before
 pub record Same (xs ys : List ℕ) : Type 0 where
   pub at : (o : Option ℕ) → lowest o xs ≡ lowest o ys
 
@@ -48,7 +48,7 @@ same_append xs ys zs ws f g = record {
   at = λ o. lowest-append o xs zs ∙ ap (λ p. lowest p zs) (f.at o) ∙ g.at (lowest o ys) ∙ sym (lowest-append o ys ws);
 }
 
--- a line goes before others
+-- a line may be moved before other lines
 moved : (us bs ts : List ℕ) → Same (bs ++ (us ++ ts)) ((us ++ bs) ++ ts)
 moved us bs ts = record {
   at = λ o.
@@ -75,7 +75,7 @@ slot_new x (y ∷ names) h e = by (same_name x y) h (λ g. slot_new x names g e)
     by true h f = cc
     by false h f = ap suc (f h)
 
--- a name that is known stays where it is
+-- a known name keeps its slot
 pub record Stays (x : Name) (before after : List Name) : Type 0 where
   pub there : is_among x after ≡ true
   pub slot : slot_of x after ≡ slot_of x before
@@ -126,7 +126,7 @@ array_stays x locals (Then line (Region tag c) b) h = array_stays x locals b h
 array_stays x locals (Then line (Print e) b) h = array_stays x locals b h
 array_stays x locals (Then line (Return e) b) h = array_stays x locals b h
 
--- no name is of both kinds at the end of a block
+-- at the end of a block, no name is both an integer and an array
 pub record KnownEnd (locals : Locals) : Type 0 where
   pub known : Known
   pub knows : Knows known locals
@@ -138,7 +138,7 @@ known_end program returns known locals (Then line s b) k fine =
     (knows_next program returns known locals line s k (left_none (faults_in program returns known line s) _ fine))
     (right_none (unless (not (surely_returns s) || ends_block b) line) (faults_in_block program returns (declares s known) b) (right_none (faults_in program returns known line s) _ fine))
 
--- names that are known, by names and by slots
+-- a set of known names, by names and by slots
 abbrev pub Names : Locals → List Name → Type 0
 Names locals known = Shows locals (λ x. is_among x known) (known_row locals)
 
@@ -238,11 +238,11 @@ pub over_shown : (known : Known) (locals : Locals) (xs : List Name) → Knows kn
 over_shown known locals xs k h =
     shows_as locals (λ y. is_among y xs || false) (λ y. is_among y xs) _ (λ y. sym (or-false (is_among y xs))) (uses_shown known locals xs (λ y. false) no_slot k h (shows_none locals))
 
--- what the rows have as held
+-- the locals held, in three parts
 abbrev pub taken_rows : Held → Held → Slots → rows.Taken
 taken_rows outer here cuts = record { outer = outer; here = here; cuts = cuts }
 
--- what is held from outside, by holders and by slots
+-- the locals held from outside, by holders and by slots
 pub record Stands (depth : ℕ) (outside : Outside) (outer : Held) : Type 0 where
   pub steady : Steady depth outside
   pub taken : outside no_reader ≡ record { ints = outer.ints; arrays = outer.arrays }
@@ -289,7 +289,7 @@ sees locals depth outside outer taken here cuts s h = record {
       (h any_holder));
 }
 
--- at the end of a block
+-- the locals held at the end of a block
 ended : (locals : Locals) (depth : ℕ) (outside : Outside) (outer : Held) (closing : Closing) (taken : Taken) (here : Held) (cuts : Slots)
     → Stands depth outside outer → Holds locals depth outside taken here cuts →
     Sees locals (own.at_end closing depth taken) (rules.at_end closing (taken_rows outer here cuts))
@@ -306,7 +306,7 @@ left_array : (x : Name) (slot : ℕ) (locals : Locals) (taken : Taken) (t : rows
 left_array x slot locals taken t line apart same s =
     ap (λ b. unless (not b) line) (array_shown locals (is_held taken) (row_of_held t) x apart s.held_so ∙ ap (array_held t) same)
 
--- what a statement declares is noted at the end of its block
+-- a declaration is tested at the end of its block
 left_same : (program : Program) (lists : Lists) (returns : Returns) (known : Known) (locals : Locals) (line : ℕ) (s : Stmt) (b : Block)
     (taken : Taken) (t : rows.Taken) (declared : Declared) → Knows known locals → faults_in program returns known line s ≡ [] →
     KnownEnd (all_locals (spec.locals_after locals s) b) → Sees (all_locals (spec.locals_after locals s) b) taken t →
@@ -352,11 +352,11 @@ return_fine Alone known e h = cc
 both_rules : (a b c d : Bool) → a ≡ b → c ≡ d → (a && c) ≡ (b && d)
 both_rules a b c d e f = ap (λ x. x && c) e ∙ ap (λ x. b && x) f
 
--- a block, as a list of lines
+-- a block as a list of lines
 pub whole_block : (xs ls es : List ℕ) → Same xs (ls ++ (es ++ [])) → Same xs (ls ++ es)
 whole_block xs ls es f = record { at = λ o. f.at o ∙ ap (λ r. lowest o (ls ++ r)) (none_after es) }
 
--- a rule, and lines behind it
+-- a rule followed by other lines
 rule_and : (a b : Bool) (line : ℕ) (xs ys : List ℕ) → a ≡ b → Same xs ys → Same (unless a line ++ xs) (unless b line ++ ys)
 rule_and a b line xs ys e f = same_append (unless a line) (unless b line) xs ys (record { at = λ o. ap (λ c. lowest o (unless c line)) e }) f
 
@@ -374,7 +374,7 @@ block_whole program lists names locals depth outer around l closing b taken here
     whole_block (owner_faults_in program.functions around names depth closing taken [] b) (lines_in l (known_row locals) (taken_rows outer here cuts) (spec.resolved_block lists locals b))
     (left_at_end closing (known_row locals) (taken_rows outer here cuts) (spec.resolved_block lists locals b)) f
 
--- the parts of a block, in another order
+-- the parts of a block in another order
 together : (here more xs : List ℕ) (ls es : List ℕ) (left' left declared : List ℕ) → Same here xs → Same more (ls ++ (es ++ left'))
     → left' ≡ left ++ declared → Same (here ++ more) ((xs ++ ls) ++ ((left ++ es) ++ declared))
 together here more xs ls es left' left declared f g e = record {

@@ -1,4 +1,4 @@
--- The lines by slots are those of the language.
+-- The lines by slots are the lines of the language definition.
 use Rattle.std.proofs.Common.{◌≡◌, Bool, true, false, not, ◌&&◌, ◌||◌, if◌then◌else◌, List, [], ◌∷◌, map, flat_map, None, inr, refl, sym, ap, ◌∙◌}
 use Rattle.std.specs.List.{list_all, list_any}
 use Rattle.std.proofs.Math.Bool.{and-false}
@@ -28,7 +28,7 @@ use Rattle.cw_model.specs.lemmas.Kept.{left_none, right_none, kept}
 use Rattle.cw_tree.specs.lemmas.Looked.{body_is, all_right}
 use Rattle.cw_own.proofs.Keeping.{same_rows}
 
--- a function
+-- the lines of a function
 function_by_slot : (program : Program) (lists : Lists) → lists.callees ≡ program.functions → (f : Function) → is_right_function lists f ≡ true
     → faults_of program (plain_function f) ≡ [] → Same (owner_faults_of program.functions (plain_function f)) (function_lines f)
 function_by_slot program lists same f right fine =
@@ -69,7 +69,7 @@ functions_by_slot program lists same (f ∷ fs) right fine =
     (functions_by_slot program lists same fs (second_true (is_right_function lists f) (list_all (is_right_function lists) fs) right)
     (right_none (faults_of program (plain_function f)) (flat_map (faults_of program) (map plain_function fs)) fine))
 
--- the least line by slots is that of the language
+-- the least line by slots is the least line of the language definition
 pub ownership_by_slot : (tree : Resolved) → is_resolved tree ≡ true → type_faults (plain tree) ≡ [] →
     lowest None (ownership_faults (plain tree)) ≡ lowest None (flat_map function_lines tree.functions)
 ownership_by_slot tree right none =

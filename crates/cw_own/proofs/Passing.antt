@@ -26,7 +26,7 @@ use Rattle.cw_own.proofs.Knowing.{Knows, array_apart}
 use Rattle.cw_own.proofs.After.{param, int_argument, array_argument}
 use Rattle.cw_own.proofs.Wording.{Sees, Rounds, read_same, write_same, pass_same, lend_same, held_too}
 
--- names that are written or passed, one after another
+-- names that are written or passed, in sequence
 write_more : (around : Around) (taken : Taken) (x : Name) (xs : List Name) → may_write around taken (x ∷ xs) ≡ (may_write around taken (x ∷ []) && may_write around taken xs)
 write_more around taken x xs = by (is_held taken x) (is_outer around x) (list_any (λ y. is_held taken y) xs) (list_any (λ y. is_outer around y) xs)
   where
@@ -36,7 +36,7 @@ write_more around taken x xs = by (is_held taken x) (is_outer around x) (list_an
     by false true false d = refl
     by false false c d = refl
 
--- no name is there twice, and none is seen before
+-- no name occurs twice, and none of `seen` occurs
 abbrev pub once : List Name → List Name → Bool
 once seen [] = true
 once seen (x ∷ xs) = not (is_among x seen) && once (x ∷ seen) xs
@@ -73,7 +73,7 @@ differ_is xs = sym (once_is [] xs ∙ ap (λ b. differ xs && not b) (none_among 
 abbrev arrays_row : Slots → Row
 arrays_row set = record { ints = no_slot; arrays = set }
 
--- names that are arrays, seen one after another
+-- adding a known array to the names seen adds its slot
 seen_more : (locals : Locals) (a : Name) (seen : List Name) (set : Slots) → is_among a locals.arrays ≡ true → Shows locals (λ x. is_among x seen) (arrays_row set) →
     Shows locals (λ x. is_among x (a ∷ seen)) (arrays_row (with_slot (slot_of a locals.arrays) set))
 seen_more locals a seen set there s =
@@ -93,7 +93,7 @@ named_is known locals (x ∷ xs) seen set k h s =
 pub differ_named : (known : Known) (locals : Locals) (xs : List Name) → Knows known locals → list_all (λ a. is_array known a) xs ≡ true → differ xs ≡ named_once no_slot (map (use_of locals.arrays) xs)
 differ_named known locals xs k h = differ_is xs ∙ named_is known locals xs [] no_slot k h (shows_none locals)
 
--- the arrays of a loop
+-- the rule for the arrays of a loop agrees by names and by slots
 pub over_same : (known : Known) (locals : Locals) (around : Around) (l : Option Loop) (taken : Taken) (t : rows.Taken) (xs : List Name)
     → Knows known locals → list_all (λ a. is_array known a) xs ≡ true → Rounds locals around l → Sees locals taken t →
     may_write around taken xs ≡ list_all (λ (u : spec.Use). rules.may_pass l t u.slot) (map (use_of locals.arrays) xs)
@@ -104,7 +104,7 @@ over_same known locals around l taken t (x ∷ xs) k h r s =
     ∙ ap (λ b. b && may_write around taken xs) (pass_same known locals around l taken t x k array r s)
     ∙ ap (λ b. rules.may_pass l t (slot_of x locals.arrays) && b) (over_same known locals around l taken t xs k (second_true (is_array known x) (list_all (λ a. is_array known a) xs) h) r s)
 
--- what an argument gives away, and what is only read of it
+-- the arrays that an argument gives away, and those that it only reads
 abbrev given_of : NameKind → Expr → List Name
 given_of kind e = if is_written_kind kind then names_in e else []
 
@@ -114,7 +114,7 @@ lent_of kind e = if is_const_kind kind then names_in e else []
 inner_more : (around : Around) (x : Name) (xs : List Name) → are_inner around (x ∷ xs) ≡ (not (is_outer around x) && are_inner around xs)
 inner_more around x xs = not_either (is_outer around x) (list_any (λ y. is_outer around y) xs)
 
--- arguments that are read, given away or only read
+-- the rules for arguments that are read, given away or only read agree by names and by slots
 args_same : (known : Known) (locals : Locals) (around : Around) (l : Option Loop) (taken : Taken) (t : rows.Taken) (ps : List Param) (es : List Expr)
     → Knows known locals → are_arguments known ps es ≡ true → Rounds locals around l → Sees locals taken t →
     ((list_all (λ e. may_read around taken e) es && may_write around taken (arrays_given ps es)) && are_inner around (arrays_lent ps es))
@@ -192,7 +192,7 @@ args_same known locals around l taken t (p ∷ ps) (e ∷ es) k h r s =
     by name_kind.Const (Not e) f more = cc
     by name_kind.Const (Binary o d e) f more = cc
 
--- no array is given away twice
+-- the rule that no array is given away twice agrees by names and by slots
 passed_is : (known : Known) (locals : Locals) (ps : List Param) (es : List Expr) (seen : List Name) (set : Slots) → Knows known locals
     → are_arguments known ps es ≡ true → Shows locals (λ x. is_among x seen) (arrays_row set) →
     once seen (arrays_given ps es) ≡ passed_once set (resolved_arguments locals ps es)
@@ -275,7 +275,7 @@ away_shown known locals (p ∷ ps) (e ∷ es) P set k h s =
     by name_kind.Const (Not e) f more = cc
     by name_kind.Const (Binary o d e) f more = cc
 
--- none of them is only read
+-- the rule that no array that is given away is only read agrees by names and by slots
 read_is : (known : Known) (locals : Locals) (ps : List Param) (es : List Expr) (away : List Name) (set : Slots) → Knows known locals
     → are_arguments known ps es ≡ true → Shows locals (λ x. is_among x away) (arrays_row set) →
     not (list_any (λ a. is_among a away) (arrays_lent ps es)) ≡ none_read set (resolved_arguments locals ps es)
@@ -335,13 +335,13 @@ call_words true true true true false n = refl
 call_words true true true false true n = refl
 call_words true true true false false n = refl
 
--- a call, as the language has it, of these parameters
+-- a call with these parameters, by the definition of the language
 abbrev model_call : Around → Taken → List Param → Option Name → List Expr → Bool
 model_call around taken ps target es =
     list_all (λ e. may_read around taken e) es && may_write around taken (target_names target ++ arrays_given ps es) && differ (arrays_given ps es)
     && may_lend around (arrays_given ps es) (arrays_lent ps es)
 
--- and by slots
+-- a call with these parameters, by slots
 abbrev pub slot_call : Locals → Option Loop → rows.Taken → List Param → Option Name → List Expr → Bool
 slot_call locals l t ps target es =
     list_all (rules.may_give l t) (resolved_arguments locals ps es) && rules.may_target l t (option_map (use_of locals.ints) target) && passed_once no_slot (resolved_arguments locals ps es)

@@ -1,4 +1,4 @@
--- What is told of a tree is right, and whatever is a reason of one is enough for its refusal.
+-- The reported reasons of a tree are correct, and each reason of a tree suffices for its rejection.
 use Rattle.std.proofs.Common.{◌≡◌, ℕ, zero, suc, ◌≤◌, ◌<◌, true, List, [], ◌∷◌, length, slice_index_or, flat_map, Option, Some}
 use Rattle.std.proofs.Common.{None, option_map, MatchOption, Contains, refl, sym, ap, ◌∙◌, subst, arith}
 use Rattle.std.proofs.lemmas.List.Elements.{All-contains}
@@ -23,7 +23,7 @@ use Rattle.cw_own.specs.declared.reason.Disowned.{Disowned}
 use Rattle.cw_own.proofs.Ownership.{ownership_by_slot}
 use Rattle.cw_own.proofs.Telling.{line_of, lines_of, functions_lines, first_line, first_is_there}
 
--- the least line of the language is that of the reasons
+-- the least line of the language definition is the least line of the reasons
 least_is : (tree : Resolved) → is_resolved tree ≡ true → type_faults (plain tree) ≡ [] →
     lowest None (ownership_faults (plain tree)) ≡ option_map line_of (soonest line_in None (ownership_reasons tree))
 least_is tree right fine =
@@ -40,18 +40,18 @@ told_right tree right fine (Some at) h = record {
   told = first_is_there (ownership_reasons (resolved_of tree)) (at.line, reason_of at.reason) (sym h);
 }
 
--- the first line that is told is the least, and what is told of it is right
+-- the first recorded line is the least, and its reason is correct
 pub first_right : (tree : Tree) → is_resolved (resolved_of tree) ≡ true → type_faults (program_of tree) ≡ [] → (told : Reasons Disowned) →
     AreNoted tree told → IsFirstTold tree told
 first_right tree right fine told h =
     told_right tree right fine (first_of told.places)
     (sym (first-map line_and_reason told.places) ∙ ap first_of h ∙ first-none line_in (ownership_reasons (resolved_of tree)))
 
--- the least lines are told
+-- the recorded lines are the least
 pub all_right : (tree : Tree) (told : Reasons Disowned) → AreNoted tree told → AreTold tree told
 all_right tree told h = sym (there-map line_and_reason told.places) ∙ ap there h ∙ there-rising line_in (ownership_reasons (resolved_of tree))
 
--- the line of a reason that is there
+-- the line of a reason of the list
 at_place : (rs : List (ℕ × Reason)) (x : ℕ × Reason) (k : ℕ) → k < length rs → slice_index_or rs k x ≡ x → (k < length (lines_of rs)) × (slice_index_or (lines_of rs) k x.0 ≡ x.0)
 at_place [] x k lt h = absurd (omega (arith, lt))
 at_place (r ∷ rs) x zero lt h = (omega arith, ap line_of h)

@@ -1,4 +1,4 @@
--- What surely returns leaves nothing taken, and stands in no sync block inside a function.
+-- After a statement that surely returns nothing is held, and such a statement is in no inner sync block of a function.
 use Rattle.std.proofs.Common.{◌≡◌, ℕ, true, false, not, ◌||◌, [], Some, None, refl, ap, ◌∙◌}
 use Rattle.std.proofs.Math.Bool.{and-false}
 use Rattle.cw_facts.specs.Tests.{first_false, first_true, second_true}

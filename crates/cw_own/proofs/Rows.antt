@@ -18,7 +18,7 @@ row_with row place = bit_or row (1 * 2 ^ place % 2 ^ 64)
 from_parts : (k new : ℕ) → k / 64 ≡ new / 64 → k % 64 ≡ new % 64 → k ≡ new
 from_parts k new p q = omega (arith, p, q)
 
--- in the row of the new slot
+-- slots in the same word as the new slot
 same_row : (rows : List ℕ) (new k : ℕ) → new / 64 < length rows → new % 64 < 64 → k / 64 ≡ new / 64 →
     slots_of (slice_set rows (new / 64) (row_with (slice_index rows (new / 64)) (new % 64))) k ≡ with_slot new (slots_of rows) k
 same_row rows new k inside small same =
@@ -39,7 +39,7 @@ same_row rows new k inside small same =
           ∙ sym (ap (λ b. b || slots_of rows k) (not_equal k new (λ h. e.1 (ap (λ x. x % 64) h))))
     ]
 
--- in another row
+-- slots in another word than the new slot
 other_row : (rows : List ℕ) (new k : ℕ) → k / 64 ≢ new / 64 →
     slots_of (slice_set rows (new / 64) (row_with (slice_index rows (new / 64)) (new % 64))) k ≡ with_slot new (slots_of rows) k
 other_row rows new k apart =
@@ -60,7 +60,7 @@ one_taken rows new four bound =
 abbrev row_without : ℕ → ℕ → ℕ
 row_without row place = bit_and row (bit_not w64 (1 * 2 ^ place % 2 ^ 64))
 
--- in the row of the old slot
+-- slots in the same word as the old slot
 same_row_less : (rows : List ℕ) (old k : ℕ) → old / 64 < length rows → old % 64 < 64 → k % 64 < 64 → k / 64 ≡ old / 64 →
     slots_of (slice_set rows (old / 64) (row_without (slice_index rows (old / 64)) (old % 64))) k ≡ without_slot old (slots_of rows) k
 same_row_less rows old k inside small small' same =
@@ -81,7 +81,7 @@ same_row_less rows old k inside small small' same =
           ∙ sym (ap (λ b. not b && slots_of rows k) (not_equal k old (λ h. e.1 (ap (λ x. x % 64) h))))
     ]
 
--- in another row
+-- slots in another word than the old slot
 other_row_less : (rows : List ℕ) (old k : ℕ) → k / 64 ≢ old / 64 →
     slots_of (slice_set rows (old / 64) (row_without (slice_index rows (old / 64)) (old % 64))) k ≡ without_slot old (slots_of rows) k
 other_row_less rows old k apart =

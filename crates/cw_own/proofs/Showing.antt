@@ -1,4 +1,4 @@
--- Sets of names, shown by rows of slots.
+-- Sets of names, represented by rows of slots.
 use Rattle.std.proofs.Common.{◌≡◌, ℕ, suc, ◌<◌, ◌≤◌, ◌==◌, nat_lt, Bool, true, false, ◌||◌, if◌then◌else◌, List, [], ◌∷◌, ◌++◌, length, refl, sym, ap, ◌∙◌, arith, length-append}
 use Rattle.std.proofs.lemmas.Bool.Decides.{nat_tests}
 use Rattle.std.proofs.Math.Bool.{or-false, or_assoc}
@@ -20,7 +20,7 @@ slot_kept x (z ∷ names) y h = first (same_name x z) (slot_kept x names y) h
     first true f g = refl
     first false f g = ap suc (f g)
 
--- where no slot from the end on is in a set, one name more changes nothing
+-- if a set has no slot from the end on, appending a name does not change it
 pub slot_push : (x : Name) (names : List Name) (y : Name) (slots : Slots) → ((slot : ℕ) → length names ≤ slot → slots slot ≡ false) →
     slots (slot_of x (names ++ y ∷ [])) ≡ slots (slot_of x names)
 slot_push x [] y slots free = first (same_name x y)
@@ -35,7 +35,7 @@ slot_push x (z ∷ names) y slots free = first (same_name x z) (slot_push x name
     first true h = refl
     first false h = h
 
--- where these locals are known, the names of the set are those whose slots are in the row
+-- the names of the set are the known locals whose slots are in the row
 pub record Shows (locals : Locals) (P : Name → Bool) (row : Row) : Type 0 where
   pub same : (x : Name) → P x ≡ (row.ints (slot_of x locals.ints) || row.arrays (slot_of x locals.arrays))
   pub ints_end : (k : ℕ) → length locals.ints ≤ k → row.ints k ≡ false
@@ -63,7 +63,7 @@ shows_either locals P Q r s a b = record {
   arrays_end = λ k h. ap (λ p. p || s.arrays k) (a.arrays_end k h) ∙ b.arrays_end k h;
 }
 
--- one name more is known, and in no set
+-- a new name is known, and it is in no set
 pub shows_push_int : (locals : Locals) (y : Name) (P : Name → Bool) (row : Row) → Shows locals P row → Shows (spec.with_int y locals) P row
 shows_push_int locals y P row s =
     let count = length-append locals.ints (y ∷ []) in
@@ -85,7 +85,7 @@ shows_push_array locals y P row s =
 beyond_not : (m n k : ℕ) → m < n → n ≤ k → (k == m) ≡ false
 beyond_not m n k lt le = grind (arith, nat_tests)
 
--- a known integer more
+-- adds a known integer to the set
 pub shows_int : (locals : Locals) (x : Name) (P : Name → Bool) (row : Row) → is_among x locals.ints ≡ true → Shows locals P row →
     Shows locals (λ z. same_name z x || P z) (with_int (slot_of x locals.ints) row)
 shows_int locals x P row there s = record {
@@ -97,7 +97,7 @@ shows_int locals x P row there s = record {
   arrays_end = s.arrays_end;
 }
 
--- a known array more
+-- adds a known array to the set
 pub shows_array : (locals : Locals) (x : Name) (P : Name → Bool) (row : Row) → is_among x locals.arrays ≡ true → Shows locals P row →
     Shows locals (λ z. same_name z x || P z) (with_array (slot_of x locals.arrays) row)
 shows_array locals x P row there s = record {
@@ -109,7 +109,7 @@ shows_array locals x P row there s = record {
   arrays_end = λ k h. ap (λ b. b || row.arrays k) (beyond_not (slot_of x locals.arrays) (length locals.arrays) k (slot_in x locals.arrays there) h) ∙ s.arrays_end k h;
 }
 
--- an integer is in the set where its slot is in the row
+-- an integer is in the set exactly if its slot is in the row
 pub int_shown : (locals : Locals) (P : Name → Bool) (row : Row) (x : Name) → is_among x locals.arrays ≡ false → Shows locals P row →
     P x ≡ row.ints (slot_of x locals.ints)
 int_shown locals P row x apart s =
@@ -122,6 +122,6 @@ array_shown locals P row x apart s =
     let end : row.ints (slot_of x locals.ints) ≡ false = let e = slot_out x locals.ints apart in s.ints_end (slot_of x locals.ints) (omega (arith, e)) in
     s.same x ∙ ap (λ b. b || row.arrays (slot_of x locals.arrays)) end
 
--- the row of what is known
+-- the row of the known locals
 abbrev pub known_row : Locals → Row
 known_row locals = record { ints = λ k. nat_lt k (length locals.ints); arrays = λ k. nat_lt k (length locals.arrays) }

@@ -1,4 +1,4 @@
--- Lists one after another.
+-- Concatenated lists of reasons.
 use Rattle.std.proofs.Common.{◌≡◌, ℕ, List, [], ◌∷◌, ◌++◌, Option, Some, None, refl, ap}
 use Rattle.std.specs.Option.{option_or}
 use Rattle.cw_reasons.specs.Rising.{kept}
@@ -13,21 +13,21 @@ pub appended : {A : Type 0} → (xs ys zs : List A) → (xs ++ ys) ++ zs ≡ xs 
 appended [] ys zs = refl
 appended (x ∷ xs) ys zs = ap (λ r. x ∷ r) (appended xs ys zs)
 
--- reasons after reasons
+-- recording two lists after each other records their concatenation
 pub kept_append : (ps : List (Option (ℕ × Reason))) (xs ys : List (ℕ × Reason)) → kept line_in ps (xs ++ ys) ≡ kept line_in (kept line_in ps xs) ys
 kept_append = kept-append line_in
 
--- what is found in a line is one reason more
+-- recording the reason found in a line
 pub found_kept : (line : ℕ) (found : Option Disowned) (ps : List (Option (At Disowned))) → told_at (with_found line found ps) ≡ kept line_in (told_at ps) (reasons_at line (told_of found))
 found_kept line None ps = refl
 found_kept line (Some r) ps = keep-map line_in line_and_reason (record { line = line; reason = r }) ps
 
--- nothing is found beside what was found
+-- nothing more is found
 pub found_nothing : (a : Option Reason) → option_or a None ≡ a
 found_nothing None = refl
 found_nothing (Some r) = refl
 
--- what is found first of three
+-- the search for the first reason is associative
 pub found_grouped : (a b c : Option Reason) → option_or (option_or a b) c ≡ option_or a (option_or b c)
 found_grouped None b c = refl
 found_grouped (Some r) b c = refl

@@ -45,7 +45,7 @@ ends_none : (u : Use) (h : Option Holder) → is_none (ends_by u h) ≡ is_none 
 ends_none u None = refl
 ends_none u (Some h) = refl
 
--- a test that gives something where it holds
+-- a value that exists exactly if the test holds
 given_none : {A : Type 0} → (b : Bool) (x : A) → is_none (if b then Some x else None) ≡ not b
 given_none true x = refl
 given_none false x = refl
@@ -139,7 +139,7 @@ return_none : (around : Option Turn) (taken : Taken) (e : Option Expr) → is_no
 return_none around taken None = refl
 return_none around taken (Some e) = read_none around taken e
 
--- the first of more
+-- the first value of two
 next_none : {A : Type 0} → (b : Bool) (x : A) (rest : Option A) (more : Bool) → is_none rest ≡ more → is_none (if b then Some x else rest) ≡ (not b && more)
 next_none true x rest more h = refl
 next_none false x rest more h = h
@@ -227,7 +227,7 @@ element_none around taken u i e =
     turned false x true false = refl
     turned false x false e = refl
 
--- a reason is told just where a rule is broken
+-- a reason exists exactly if a rule is broken
 pub why_none : (around : Option Turn) (taken : Taken) (s : Stmt) → is_none (why around taken s) ≡ rule.keeps (loops around) taken s
 why_none around taken (Declare u e) = read_none around taken e
 why_none around taken (DeclareArray u e) = read_none around taken e
@@ -330,7 +330,7 @@ pub functions_lines : (fs : List Function) → lines_of (flat_map function_reaso
 functions_lines [] = refl
 functions_lines (f ∷ fs) = joined_lines (function_reasons f) (flat_map function_reasons fs) _ _ (function_lines f) (functions_lines fs)
 
--- the first of reasons is of the least line
+-- the first of the reasons has the least line
 pub first_line : (first : Option (ℕ × Reason)) (rs : List (ℕ × Reason)) → option_map line_of (soonest line_in first rs) ≡ lowest (option_map line_of first) (lines_of rs)
 first_line first [] = refl
 first_line first (r ∷ rs) = first_line (sooner line_in first r) rs ∙ ap (λ o. lowest o (lines_of rs)) (one first)
@@ -343,7 +343,7 @@ first_line first (r ∷ rs) = first_line (sooner line_in first r) rs ∙ ap (λ 
     one None = refl
     one (Some x) = picked (nat_le x.0 r.0) x
 
--- and is one of them
+-- the first of the reasons is one of the reasons
 later : (r : ℕ × Reason) (rs : List (ℕ × Reason)) (x : ℕ × Reason) → Contains rs x → Contains (r ∷ rs) x
 later r rs x h = Contains-append_right (r ∷ []) rs x h
 

@@ -1,4 +1,4 @@
--- Rows in order: what is set at a place, and what begins.
+-- Rows in order: setting a place, and prefixes.
 use Rattle.std.proofs.Common.{◌≡◌, ℕ, zero, suc, List, [], ◌∷◌, ◌++◌, length, drop, map, slice_set, refl, ap, ◌∙◌}
 use Rattle.cw_own.specs.declared.held.Held as code
 use Rattle.cw_own.specs.Sets.{Row}
@@ -6,7 +6,7 @@ use Rattle.cw_tree.specs.Resolved.{Stmt, Declare, DeclareArray, Assign, AssignEl
 use Rattle.cw_own.specs.Taken.{Held, held_of, Taken, taken_after, left_by}
 use Rattle.cw_own.specs.Rules.{seen_by}
 
--- a place that was kept is set
+-- setting the reserved place fills it
 pub set_kept : (xs ys : List code.Held) (kept : Held) (g : code.Held) (rest : List Held) → map held_of xs ≡ (map held_of ys ++ kept ∷ []) ++ rest →
     map held_of (slice_set xs (length ys) g) ≡ map held_of ys ++ held_of g ∷ rest
 set_kept [] [] kept g rest h = cc
@@ -33,7 +33,7 @@ drop_both [] second rows = refl
 drop_both (x ∷ first) second [] = none_dropped (length second)
 drop_both (x ∷ first) second (r ∷ rows) = drop_both first second rows
 
--- what a statement leaves of what it sees is what is taken after it
+-- the locals that a statement leaves held of those that it sees are the locals held after it
 pub left_is : (known : Row) (s : Stmt) (taken : Taken) → left_by known s (seen_by known taken s) ≡ taken_after known s taken
 left_is known (Declare u e) taken = refl
 left_is known (DeclareArray u e) taken = refl

@@ -1,4 +1,4 @@
--- What may be read, written and passed, by names and by slots.
+-- Names that may be read, written and passed, by names and by slots.
 use Rattle.std.proofs.Common.{◌≡◌, ◌==◌, Bool, true, false, not, ◌&&◌, ◌||◌, List, [], ◌∷◌, ◌++◌, Option, Some, None, refl, sym, ap, ◌∙◌}
 use Rattle.std.specs.List.{list_any}
 use Rattle.std.proofs.Math.Bool.{or-false, or_assoc}
@@ -20,20 +20,20 @@ use Rattle.cw_own.proofs.Knowing.{Knows, array_apart}
 use Rattle.cw_own.proofs.Holding.{held, any_holder, no_reader, held_is, taken_is}
 use Rattle.cw_own.proofs.Words.{or_none_of}
 
--- the row of what is taken
+-- the set of the taken locals
 abbrev pub row_of_taken : rows.Taken → Row
 row_of_taken t = record { ints = λ k. int_taken t k; arrays = λ k. array_taken t k }
 
--- the row of what is held
+-- the set of the held locals
 abbrev pub row_of_held : rows.Taken → Row
 row_of_held t = record { ints = λ k. int_taken t k; arrays = λ k. array_held t k }
 
--- what is taken by names is taken by slots, and what is held is held
+-- names and slots agree on what is taken and on what is held
 pub record Sees (locals : Locals) (taken : Taken) (t : rows.Taken) : Type 0 where
   pub taken_so : Shows locals (is_taken taken) (row_of_taken t)
   pub held_so : Shows locals (is_held taken) (row_of_held t)
 
--- an integer and an array that typing knows
+-- a known integer, and a known array, is taken by names exactly if it is taken by slots
 int_free : (known : Known) (locals : Locals) (taken : Taken) (t : rows.Taken) (x : Name) → Knows known locals → is_int known x ≡ true
     → Sees locals taken t → is_taken taken x ≡ int_taken t (slot_of x locals.ints)
 int_free known locals taken t x k h s = int_shown locals (is_taken taken) (row_of_taken t) x (k.apart x (k.ints x h)) s.taken_so
@@ -50,7 +50,7 @@ array_loose : (known : Known) (locals : Locals) (taken : Taken) (t : rows.Taken)
     → Sees locals taken t → is_held taken x ≡ array_held t (slot_of x locals.arrays)
 array_loose known locals taken t x k h s = array_shown locals (is_held taken) (row_of_held t) x (array_apart known locals x k (k.arrays x h)) s.held_so
 
--- a loop by names and by slots
+-- a loop, by names and by slots
 pub record Inner (locals : Locals) (outer : List Name) (variable : Name) (over : List Name) (l : Loop) : Type 0 where
   pub outside : Shows locals (λ x. is_among x outer) l.outer
   pub known : is_among variable locals.ints ≡ true
@@ -194,7 +194,7 @@ pass_same known locals around l taken t x k h r s =
     ∙ ap (λ b. not b && not (is_outer around x)) (array_loose known locals taken t x k h s)
     ∙ ap (λ b. not (array_held t (slot_of x locals.arrays)) && not b) (outer_array known locals around l x k h r)
 
--- an array that a call only reads
+-- the rule for an array that a call only reads agrees by names and by slots
 pub lend_same : (known : Known) (locals : Locals) (around : Around) (l : Option Loop) (taken : Taken) (t : rows.Taken) (x : Name)
     → Knows known locals → is_array known x ≡ true → Rounds locals around l → Sees locals taken t →
     (not (is_taken taken x) && not (is_outer around x)) ≡ rules.may_lend l t (slot_of x locals.arrays)
@@ -206,7 +206,7 @@ pub loose_same : (known : Known) (locals : Locals) (taken : Taken) (t : rows.Tak
     are_loose taken (x ∷ []) ≡ not (array_held t (slot_of x locals.arrays))
 loose_same known locals taken t x k h s = ap not (or-false (is_held taken x) ∙ array_loose known locals taken t x k h s)
 
--- what is taken is held
+-- a name that is not held is not taken
 pub held_too : (taken : Taken) (x : Name) → is_held taken x ≡ false → is_taken taken x ≡ false
 held_too taken x h = taken_is taken x ∙ less taken (sym (held_is taken x) ∙ h)
   where

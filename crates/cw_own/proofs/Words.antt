@@ -1,18 +1,18 @@
--- Words of tests.
+-- Boolean identities.
 use Rattle.std.proofs.Common.{◌≡◌, Bool, true, false, ◌&&◌, ◌||◌, if◌then◌else◌, refl, not}
 
 pub if_or : (a b : Bool) → (if a then true else b) ≡ (a || b)
 if_or true b = refl
 if_or false b = refl
 
--- the parts of two sums, by their sorts
+-- the terms of two disjunctions, regrouped
 pub four_or : (a b c d : Bool) → ((a || b) || (c || d)) ≡ ((a || c) || (b || d))
 four_or true b c d = refl
 four_or false true true d = refl
 four_or false true false d = refl
 four_or false false c d = refl
 
--- what is taken after two steps is what is taken after the second alone, and what of the first it keeps
+-- two steps hold the locals of the second step, and the part of the first step's locals that the second keeps
 pub two_steps : (a b h k l : Bool) → (a || ((b || (h && k)) && l)) ≡ ((a || (b && l)) || (h && (k && l)))
 two_steps true b h k l = refl
 two_steps false true h k true = refl
@@ -26,7 +26,7 @@ two_steps false false true true l = refl
 two_steps false false true false l = refl
 two_steps false false false k l = refl
 
--- two ways on
+-- two branches hold the locals that each holds, and those that either keeps
 pub two_ways : (a b h k l : Bool) → ((a || (h && k)) || (b || (h && l))) ≡ ((a || b) || (h && (k || l)))
 two_ways true b h k l = refl
 two_ways false true true true l = refl
@@ -36,7 +36,7 @@ two_ways false false true true l = refl
 two_ways false false true false l = refl
 two_ways false false false k l = refl
 
--- what a turn keeps was there before
+-- the locals that an iteration keeps were held before
 pub turn_adds : (a h k : Bool) → (h || (a || (h && k))) ≡ (h || a)
 turn_adds a true k = refl
 turn_adds true false k = refl

@@ -1,4 +1,4 @@
--- Why a program does not keep ownership.
+-- The reasons why a program does not keep ownership.
 use Rattle.std.specs.Prelude.{◌≡◌, MatchOption, map}
 use Rattle.cw_model.specs.Syntax.{Program}
 use Rattle.cw_model.specs.Lines.{IsLeastLine}
@@ -14,21 +14,22 @@ use Rattle.cw_own.specs.declared.reason.Disowned.{Disowned}
 use Rattle.cw_own.specs.Reasons.{IsDisowned, reasons_told}
 use Rattle.cw_own.specs.Views.{line_and_reason, reason_of}
 
--- what must hold of the program where this fault is answered for it; of memory nothing is said
+-- the condition that the program satisfies if the check returns this fault; out of memory implies nothing
 abbrev pub BreaksOwnership : Program → Fault → Type 0
 BreaksOwnership program (fault.Ownership p) = IsLeastLine (ownership_faults program) p.line
 BreaksOwnership program fault.Memory = Unit {0}
 BreaksOwnership program _ = ⊥
 
--- what must hold of a tree of which this is told: the line is the least that breaks a rule, and breaks this one
+-- the line is the least line of the tree that breaks a rule, and it breaks this rule
 pub record IsTold (tree : Tree) (at : At Disowned) : Type 0 where
   pub least : IsLeastLine (ownership_faults (program_of tree)) at.line
   pub told : IsDisowned (resolved_of tree) at.line (reason_of at.reason)
 
--- nothing is told first exactly where the tree keeps ownership, else the least line that breaks a rule, which is broken
+-- the first place is empty exactly if the tree keeps ownership; otherwise it has the least line that breaks a rule,
+-- with a rule that this line breaks
 abbrev pub IsFirstTold : Tree → Reasons Disowned → Type 0
 IsFirstTold tree told = MatchOption (first_of told.places) (KeepsOwnership (program_of tree)) (IsTold tree)
 
--- the least lines that break a rule are told, each with the first rule that it breaks
+-- the recorded lines are the least lines that break a rule, each with the first rule that it breaks
 abbrev pub AreTold : Tree → Reasons Disowned → Type 0
 AreTold tree told = map line_and_reason (there told.places) ≡ reasons_told (resolved_of tree)

@@ -1,9 +1,9 @@
--- What the code has kept of the turns of `while`s.
+-- The recorded iterations of `while` loops in the code.
 use Rattle.std.specs.Prelude.{◌≡◌, true, List, ◌++◌, map}
 use Rattle.cw_own.specs.declared.gains.Gains as code
 use Rattle.cw_own.specs.Taken.{Held, held_of}
 
--- these rows came behind those before, if there was memory for all
+-- these rows were appended, if memory sufficed for all
 abbrev pub Grown : code.Gains → code.Gains → List Held → Type 0
 Grown before after rows =
     after.complete ≡ true

@@ -1,4 +1,4 @@
--- Laws of what is told.
+-- Laws of the reported reasons.
 use Rattle.std.specs.Prelude.{◌≡◌, ℕ, ◌≤◌, true, []}
 use Rattle.cw_model.specs.Lines.{IsLeastLine}
 use Rattle.cw_model.specs.Ownership.{ownership_faults}
@@ -8,13 +8,13 @@ use Rattle.cw_tree.specs.Resolved.{Resolved, plain}
 use Rattle.cw_tree.specs.Slots.{is_resolved}
 use Rattle.cw_own.specs.Reasons.{Reason, IsDisowned}
 
--- the definition of ownership refuses the program, at this line or before it
+-- the definition of ownership rejects the program, at this line or before it
 pub record IsRefusedBefore (program : Program) (line : ℕ) : Type 0 where
   pub least : ℕ
   pub is : IsLeastLine (ownership_faults program) least
   pub before : least ≤ line
 
--- a tree that is resolved and well typed, of which a reason of ownership holds, is refused by the definition
+-- the definition rejects every resolved and well-typed tree for which a reason of ownership is true
 abbrev pub DisownedAreRefused : Type 0
 DisownedAreRefused =
     (tree : Resolved) → is_resolved tree ≡ true → type_faults (plain tree) ≡ [] → (line : ℕ) (r : Reason) →

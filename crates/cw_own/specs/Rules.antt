@@ -1,4 +1,4 @@
--- The rules of ownership by slots: which lines break one, over a tree with each name looked up.
+-- The rules of ownership by slots: the lines of a resolved tree that break a rule.
 use Rattle.std.specs.Prelude.{ℕ, ◌==◌, Bool, true, false, not, ◌&&◌, ◌||◌, List, [], ◌∷◌, ◌++◌, Option, Some, None}
 use Rattle.std.specs.List.{list_all}
 use Rattle.cw_model.specs.Lines.{unless}
@@ -13,25 +13,25 @@ use Rattle.cw_own.specs.Taken.{either_held, Taken, nothing, int_taken, array_tak
 use Rattle.cw_own.specs.Taken.{joined, with_parts}
 use Rattle.cw_own.specs.Taken.{known_after, taken_after, taken_after_all, gain, with_params}
 
--- the innermost loop around: the locals from outside its body and its variable, the slot of that, and the arrays of the
--- loop
+-- the innermost enclosing loop: the locals outside its body together with its variable, the slot of the variable, and
+-- the arrays of the loop
 pub record Loop : Type 0 where
   pub outer : Row
   pub variable : ℕ
   pub over : Slots
 
--- the arrays of a loop, more than these
+-- adds the slots of these uses to a set
 abbrev pub with_uses : List Use → Slots → Slots
 with_uses [] set = set
 with_uses (u ∷ us) set = with_uses us (with_slot u.slot set)
 
--- the loop of this head, where these locals are known before it
+-- the loop with this head, if these locals are known before it
 abbrev pub loop_in : Head → Row → Loop
 loop_in head known =
     record
     { outer = with_int head.variable.slot known; variable = head.variable.slot; over = with_uses head.over no_slot }
 
--- the head of a further loop names no array of the loop around
+-- the loop as the head of an inner loop sees it: the head must not name its arrays
 abbrev pub for_head : Option Loop → Option Loop
 for_head None = None
 for_head (Some l) = Some (record { outer = l.outer; variable = l.variable; over = no_slot })
@@ -46,17 +46,17 @@ abbrev pub is_outer_array : Option Loop → ℕ → Bool
 is_outer_array None slot = false
 is_outer_array (Some l) slot = l.outer.arrays slot
 
--- this integer alone
+-- the expression is exactly this integer
 abbrev pub is_variable : ℕ → Expr → Bool
 is_variable slot (Variable u) = slot == u.slot
 is_variable slot _ = false
 
--- an outer array is named only as x[i], where the loop is over x and its variable is i
+-- an outer array may be named only as x[i], where the loop is over x and its variable is i
 abbrev pub may_index : Option Loop → ℕ → Expr → Bool
 may_index None slot e = true
 may_index (Some l) slot e = not (l.outer.arrays slot) || (l.over slot && is_variable l.variable e)
 
--- an expression names nothing taken, and keeps the rule of the loop around
+-- an expression names nothing taken, and keeps the rule of the enclosing loop
 abbrev pub may_read : Option Loop → Taken → Expr → Bool
 may_read around taken (Number n) = true
 may_read around taken (Variable u) = not (int_taken taken u.slot)
@@ -67,56 +67,56 @@ may_read around taken (Negative e) = may_read around taken e
 may_read around taken (Not e) = may_read around taken e
 may_read around taken (Binary operator d e) = may_read around taken d && may_read around taken e
 
--- an integer that is written is neither taken nor from outside the loop
+-- an integer that is neither taken nor from outside the loop may be written
 abbrev pub may_write : Option Loop → Taken → ℕ → Bool
 may_write around taken slot = not (int_taken taken slot) && not (is_outer_int around slot)
 
--- an array that is given away or cut is neither held nor from outside the loop
+-- an array that is neither held nor from outside the loop may be given away or cut
 abbrev pub may_pass : Option Loop → Taken → ℕ → Bool
 may_pass around taken slot = not (array_held taken slot) && not (is_outer_array around slot)
 
--- an array that a call only reads is neither taken nor from outside the loop
+-- an array that is neither taken nor from outside the loop may be passed to a call that only reads it
 abbrev pub may_lend : Option Loop → Taken → ℕ → Bool
 may_lend around taken slot = not (array_taken taken slot) && not (is_outer_array around slot)
 
--- the result goes to an integer that may be written, if it goes anywhere
+-- the integer that receives a result, if there is one, may be written
 abbrev pub may_target : Option Loop → Taken → Option Use → Bool
 may_target around taken None = true
 may_target around taken (Some u) = may_write around taken u.slot
 
--- an argument may be read, or passed
+-- an argument may be read or passed
 abbrev pub may_give : Option Loop → Taken → Argument → Bool
 may_give around taken (Int e) = may_read around taken e
 may_give around taken (Array u) = may_pass around taken u.slot
 may_give around taken (Shared u) = may_lend around taken u.slot
 
--- what is returned may be read, if anything is returned
+-- the expression of a return, if there is one, may be read
 abbrev pub may_return : Option Loop → Taken → Option Expr → Bool
 may_return around taken None = true
 may_return around taken (Some e) = may_read around taken e
 
--- no array is given away twice, nor one of these
+-- no array is given away twice, and none of `seen` is given away
 abbrev pub passed_once : Slots → List Argument → Bool
 passed_once seen [] = true
 passed_once seen (Int e ∷ es) = passed_once seen es
 passed_once seen (Array u ∷ es) = not (seen u.slot) && passed_once (with_slot u.slot seen) es
 passed_once seen (Shared u ∷ es) = passed_once seen es
 
--- the arrays that are given away, more than these
+-- adds the arrays that are given away to a set
 abbrev pub given_away : List Argument → Slots → Slots
 given_away [] set = set
 given_away (Int e ∷ es) set = given_away es set
 given_away (Array u ∷ es) set = given_away es (with_slot u.slot set)
 given_away (Shared u ∷ es) set = given_away es set
 
--- none of these arrays is only read
+-- no array of `given` is passed to be read
 abbrev pub none_read : Slots → List Argument → Bool
 none_read given [] = true
 none_read given (Int e ∷ es) = none_read given es
 none_read given (Array u ∷ es) = none_read given es
 none_read given (Shared u ∷ es) = not (given u.slot) && none_read given es
 
--- no array is named twice, nor one of these
+-- no array is named twice, and none of `seen` is named
 abbrev pub named_once : Slots → List Use → Bool
 named_once seen [] = true
 named_once seen (u ∷ us) = not (seen u.slot) && named_once (with_slot u.slot seen) us
@@ -127,7 +127,7 @@ head_keeps around taken head =
     may_read (for_head around) taken head.from && may_read (for_head around) taken head.to
     && list_all (λ u. may_pass around taken u.slot) head.over && named_once no_slot head.over
 
--- a statement keeps the rules, but for what stands in its blocks
+-- a statement keeps the rules, apart from its inner blocks
 abbrev pub keeps : Option Loop → Taken → Stmt → Bool
 keeps around taken (Declare u e) = may_read around taken e
 keeps around taken (DeclareArray u e) = may_read around taken e
@@ -149,34 +149,34 @@ keeps around taken (Region tag b) = true
 keeps around taken (Print e) = may_read around taken e
 keeps around taken (Return e) = may_return around taken e
 
--- the line of a declaration whose name is held as its block ends
+-- the line of a declaration whose name is held at the end of its block
 abbrev pub left_line : Taken → ℕ → Stmt → List ℕ
 left_line taken line (Declare u e) = unless (not (int_taken taken u.slot)) line
 left_line taken line (DeclareArray u e) = unless (not (array_held taken u.slot)) line
 left_line taken line _ = []
 
--- the lines of the declarations of a block whose names are held as it ends
+-- the lines of the declarations of a block whose names are held at its end
 abbrev pub left_lines : Taken → Block → List ℕ
 left_lines taken End = []
 left_lines taken (Then line s b) = left_line taken line s ++ left_lines taken b
 
--- a sync block joins its own spawns at its end, another block none
+-- a sync block joins its own spawns at its end; another block joins none
 abbrev pub at_end : Closing → Taken → Taken
 at_end Joins taken = joined taken
 at_end Leaves taken = taken
 
--- the lines of the declarations of a block that are still held as it ends
+-- the lines of the declarations of a block whose names are held after its end
 abbrev pub left_at_end : Closing → (known : Row) → Taken → Block → List ℕ
 left_at_end closing known taken b = left_lines (at_end closing (taken_after_all known b taken)) b
 
--- what the test and the body of a `while` see as taken: also what a turn takes
+-- the locals that the test and the body of a `while` see as held, which include those that an iteration holds
 abbrev pub seen_by : (known : Row) → Taken → Stmt → Taken
 seen_by known taken (While e b) =
     record { outer = taken.outer; here = either_held taken.here (gain known b); cuts = taken.cuts }
 seen_by known taken _ = taken
 
 abbrev mutual
-  -- the lines in the blocks of a statement that break a rule, where so much is known and so much is taken
+  -- the lines in the inner blocks of a statement that break a rule, if these locals are known and held
   pub lines_within : Option Loop → (known : Row) → Taken → Stmt → List ℕ
   lines_within around known taken (If e b) = lines_in around known taken b ++ left_at_end Leaves known taken b
   lines_within around known taken (IfElse e b c) =
@@ -195,14 +195,14 @@ abbrev mutual
       lines_in around known (inside taken) b ++ left_at_end Joins known (inside taken) b
   lines_within around known taken _ = []
 
-  -- the lines of the statements of a block that break a rule, its blocks included
+  -- the lines of the statements of a block and of their inner blocks that break a rule
   pub lines_in : Option Loop → (known : Row) → Taken → Block → List ℕ
   lines_in around known taken End = []
   lines_in around known taken (Then line s b) =
       (unless (keeps around (seen_by known taken s) s) line ++ lines_within around known (seen_by known taken s) s)
       ++ lines_in around (known_after known s) (taken_after known s taken) b
 
--- the lines of a block that break a rule, also of its declarations whose names are taken as it ends
+-- the lines of a block that break a rule, including its declarations whose names are held at its end
 abbrev pub block_lines : Option Loop → (known : Row) → Taken → Closing → Block → List ℕ
 block_lines around known taken closing b = lines_in around known taken b ++ left_at_end closing known taken b
 

@@ -1,5 +1,5 @@
--- What is taken or frozen, by slots. A spawn holds for the innermost sync block around it, and what it held is free
--- again as that block joins: so inside a sync block what spawns outside of it hold stays as it is.
+-- The locals that are taken or frozen, by slots. A spawn holds locals for its innermost sync block, and the end of this
+-- block frees them. So what spawns outside of a sync block hold does not change inside of it.
 use Rattle.std.specs.Prelude.{◌≡◌, ℕ, length, drop, Bool, ◌||◌, List, [], ◌∷◌, ◌++◌, ◌+◌, if◌then◌else◌, Option, Some}
 use Rattle.std.specs.Prelude.{None}
 use Rattle.cw_model.specs.declared.syntax.CallKind.{CallKind}
@@ -13,29 +13,29 @@ use Rattle.cw_own.specs.declared.taken.Taken as code
 use Rattle.cw_own.specs.Sets.{Slots, no_slot, with_slot, without_slot, either, both, slots_of, Row, with_int}
 use Rattle.cw_own.specs.Sets.{with_array}
 
--- what spawns of a sync block hold: the integers and the arrays that they took, and the arrays that they only read
+-- the locals that the spawns of a sync block took, and the arrays that they only read
 pub record Held : Type 0 where
   pub ints : Slots
   pub arrays : Slots
   pub frozen : Slots
 
--- they hold nothing
+-- nothing is held
 abbrev pub none_held : Held
 none_held = record { ints = no_slot; arrays = no_slot; frozen = no_slot }
 
--- one integer more is taken
+-- takes an integer
 abbrev pub taking_int : ℕ → Held → Held
 taking_int slot held = record { ints = with_slot slot held.ints; arrays = held.arrays; frozen = held.frozen }
 
--- one array more is taken
+-- takes an array
 abbrev pub taking_array : ℕ → Held → Held
 taking_array slot held = record { ints = held.ints; arrays = with_slot slot held.arrays; frozen = held.frozen }
 
--- one array more is frozen
+-- freezes an array
 abbrev pub freezing : ℕ → Held → Held
 freezing slot held = record { ints = held.ints; arrays = held.arrays; frozen = with_slot slot held.frozen }
 
--- what one of two holds
+-- the union of two values
 abbrev pub either_held : Held → Held → Held
 either_held h k = record {
   ints = either h.ints k.ints;
@@ -43,7 +43,7 @@ either_held h k = record {
   frozen = either h.frozen k.frozen;
 }
 
--- what is held of these locals
+-- the part of these locals that is held
 abbrev pub held_within : (known : Row) → Held → Held
 held_within known h = record {
   ints = both known.ints h.ints;
@@ -51,7 +51,7 @@ held_within known h = record {
   frozen = both known.arrays h.frozen;
 }
 
--- what is held: by spawns outside the innermost sync block, by those inside it, and the arrays that are cut
+-- the locals held by spawns outside the innermost sync block and inside it, and the arrays that are cut
 pub record Taken : Type 0 where
   pub outer : Held
   pub here : Held
@@ -73,20 +73,20 @@ array_taken taken slot = taken.outer.arrays slot || (taken.here.arrays slot || t
 abbrev pub array_held : Taken → ℕ → Bool
 array_held taken slot = array_taken taken slot || (taken.outer.frozen slot || taken.here.frozen slot)
 
--- as a sync block begins
+-- the locals held at the start of a sync block
 abbrev pub inside : Taken → Taken
 inside taken = record { outer = either_held taken.outer taken.here; here = none_held; cuts = taken.cuts }
 
--- as the block of a cut of this array begins
+-- the locals held at the start of the block of a cut of this array
 abbrev pub inside_cut : ℕ → Taken → Taken
 inside_cut a taken =
     record { outer = either_held taken.outer taken.here; here = none_held; cuts = with_slot a taken.cuts }
 
--- after a join
+-- the locals held after a join
 abbrev pub joined : Taken → Taken
 joined taken = record { outer = taken.outer; here = none_held; cuts = taken.cuts }
 
--- after two branches that leave this much: what one of them leaves, of the locals that are known
+-- the locals held after two branches: the known locals that either branch leaves held
 abbrev pub after_branches : (known : Row) → (branch other : Taken) → Taken
 after_branches known branch other = record {
   outer = branch.outer;
@@ -94,35 +94,35 @@ after_branches known branch other = record {
   cuts = either branch.cuts other.cuts;
 }
 
--- the integer that a result goes to, if it goes anywhere
+-- takes the integer that receives a result, if there is one
 abbrev pub with_target : Option Use → Held → Held
 with_target None held = held
 with_target (Some u) held = taking_int u.slot held
 
--- the arrays that are given away, and those that are only read
+-- takes the arrays that are given away, and freezes those that are only read
 abbrev pub with_arrays : List Argument → Held → Held
 with_arrays [] held = held
 with_arrays (Int e ∷ es) held = with_arrays es held
 with_arrays (Array u ∷ es) held = with_arrays es (taking_array u.slot held)
 with_arrays (Shared u ∷ es) held = with_arrays es (freezing u.slot held)
 
--- a spawn takes its target and what is given away, and freezes what it only reads; a plain call gives all back
+-- a spawn takes its target and given arrays and freezes the arrays that it only reads; a plain call keeps none
 abbrev pub taken_by_call : CallKind → Option Use → List Argument → Held → Held
 taken_by_call Plain target es here = here
 taken_by_call Spawned target es here = with_arrays es (with_target target here)
 
--- with the two parts of a cut
+-- adds the two parts of a cut
 abbrev pub with_parts : Parts → Row → Row
 with_parts parts known = with_array parts.right.slot (with_array parts.left.slot known)
 
--- the locals that are known after a statement
+-- the known locals after a statement
 abbrev pub known_after : Row → Stmt → Row
 known_after known (Declare u e) = with_int u.slot known
 known_after known (DeclareArray u e) = with_array u.slot known
 known_after known _ = known
 
 abbrev mutual
-  -- what the spawns of the innermost sync block hold after a statement, where these locals are known before it
+  -- the locals that the spawns of the innermost sync block hold after a statement, if these locals are known before it
   pub after : (known : Row) → Stmt → Held → Held
   after known (Call kind site target f es) here = taken_by_call kind target es here
   after known Sync here = none_held
@@ -130,21 +130,21 @@ abbrev mutual
   after known (If e b) here = either_held (held_within known (after_all known b here)) here
   after known (IfElse e b c) here =
       either_held (held_within known (after_all known b here)) (held_within known (after_all known c here))
-  -- what was taken before, and what one turn takes where nothing is taken before it
+  -- the locals held before, and those that one iteration holds if it begins with nothing held
   after known (While e b) here = either_held here (held_within known (after_all known b none_held))
   after known _ here = here
 
-  -- the same of a block
+  -- the locals that the spawns of the innermost sync block hold after a block
   pub after_all : (known : Row) → Block → Held → Held
   after_all known End here = here
   after_all known (Then line s b) here = after_all (known_after known s) b (after known s here)
 
--- what one turn of a `while` takes where nothing is taken before it
+-- the locals that one iteration of a `while` holds if it begins with nothing held
 abbrev pub gain : (known : Row) → Block → Held
 gain known b = held_within known (after_all known b none_held)
 
 abbrev mutual
-  -- what one turn of each `while` of a statement takes, in their order, the outer one first
+  -- the locals that one iteration of each `while` of a statement holds, in order, outer loops first
   pub turns : (known : Row) → Stmt → List Held
   turns known (If e b) = turns_in known b
   turns known (IfElse e b c) = turns_in known b ++ turns_in known c
@@ -155,13 +155,13 @@ abbrev mutual
   turns known (Region tag b) = turns_in known b
   turns known _ = []
 
-  -- the same of a block
+  -- the locals that one iteration of each `while` of a block holds, in order
   pub turns_in : (known : Row) → Block → List Held
   turns_in known End = []
   turns_in known (Then line s b) = turns known s ++ turns_in (known_after known s) b
 
 abbrev mutual
-  -- the arrays that are cut after a statement: the end of a cut frees its array
+  -- the arrays that are cut after a statement; the end of a cut frees its array
   pub cuts_after : Stmt → Slots → Slots
   cuts_after (IfElse e b c) cuts = either (cuts_after_all b cuts) (cuts_after_all c cuts)
   cuts_after (For head b) cuts = cuts_after_all b cuts
@@ -170,43 +170,43 @@ abbrev mutual
   cuts_after (Region tag b) cuts = cuts_after_all b cuts
   cuts_after _ cuts = cuts
 
-  -- the same of a block
+  -- the arrays that are cut after a block
   pub cuts_after_all : Block → Slots → Slots
   cuts_after_all End cuts = cuts
   cuts_after_all (Then line s b) cuts = cuts_after_all b (cuts_after s cuts)
 
--- what is taken after a statement
+-- the locals held after a statement
 abbrev pub taken_after : (known : Row) → Stmt → Taken → Taken
 taken_after known s taken =
     record { outer = taken.outer; here = after known s taken.here; cuts = cuts_after s taken.cuts }
 
--- what a statement leaves taken, where this much is seen by its test and its blocks
+-- the locals held after a statement whose test and blocks see these locals as held
 abbrev pub left_by : (known : Row) → Stmt → Taken → Taken
 left_by known (While e b) seen = seen
 left_by known s seen = taken_after known s seen
 
--- what one turn of each `while` in the blocks of a statement takes
+-- the locals that one iteration of each `while` in the inner blocks of a statement holds
 abbrev pub turns_within : (known : Row) → Stmt → List Held
 turns_within known (While e b) = turns_in known b
 turns_within known s = turns known s
 
--- rows that begin with these
+-- the second list begins with the first
 abbrev pub BeginWith : List Held → List Held → Type 0
 BeginWith first rows = rows ≡ first ++ drop (length first) rows
 
--- what is taken after a block
+-- the locals held after a block
 abbrev pub taken_after_all : (known : Row) → Block → Taken → Taken
 taken_after_all known b taken =
     record { outer = taken.outer; here = after_all known b taken.here; cuts = cuts_after_all b taken.cuts }
 
--- the locals that are known with these parameters, where so many integers and arrays come before them
+-- the known locals with these parameters, after this number of integers and arrays
 abbrev pub with_params : (ints arrays : ℕ) → List Param → Row → Row
 with_params ints arrays [] known = known
 with_params ints arrays (p ∷ ps) known =
     if wants_array p then with_params ints (arrays + 1) ps (with_array arrays known)
     else with_params (ints + 1) arrays ps (with_int ints known)
 
--- what rows of the code hold
+-- the abstraction of the locals that a value of the code holds
 abbrev pub held_of : code_held.Held → Held
 held_of h = record {
   ints = slots_of h.taken.ints.words;
@@ -214,6 +214,6 @@ held_of h = record {
   frozen = slots_of h.frozen.words;
 }
 
--- what the code has as held
+-- the abstraction of the held locals and of the cut arrays
 abbrev pub taken_of : code.Taken → Taken
 taken_of t = record { outer = held_of t.outer; here = held_of t.here; cuts = slots_of t.cuts.words }

@@ -1,4 +1,4 @@
--- The definitions over what the code holds: its rows, its loop, its lines and its statements.
+-- The definitions over values of the code: its rows, its loop, its lines and its statements.
 use Rattle.std.specs.Prelude.{◌≡◌, ℕ, List, ◌∷◌, Option, Some, map, option_map, flat_map, length, drop}
 use Rattle.std.specs.Option.{option_or}
 use Rattle.cw_model.specs.Ownership.{Joins, Leaves}
@@ -35,15 +35,15 @@ use Rattle.cw_own.specs.Reasons.{Reason, Held as IsHeld, EndsHeld, GivenTwice, G
 use Rattle.cw_own.specs.Reasons.{OuterArray, OtherElement, Turn, turn_in, why_call, left_reasons, reasons_within, reasons_in}
 use Rattle.cw_own.specs.Reasons.{block_reasons, function_reasons, line_in, ownership_reasons}
 
--- the set of slots that the code holds
+-- the abstraction of a set of slots
 abbrev pub set_of : code_bits.Bits → Slots
 set_of bits = slots_of bits.words
 
--- what the code has as held, in order
+-- the abstraction of the locals that the rows hold, in order
 abbrev pub rows_of : List code_held.Held → List Held
 rows_of rows = map held_of rows
 
--- a rule that the code tells
+-- the abstraction of a broken rule
 abbrev pub reason_of : code_reason.Disowned → Reason
 reason_of (reason.Held u how holder since) = IsHeld (use_of u.now) how holder
 reason_of (reason.EndsHeld u holder since) = EndsHeld (use_of u.now) holder
@@ -54,27 +54,27 @@ reason_of (reason.OuterWritten u line) = OuterWritten (use_of u.now) line
 reason_of (reason.OuterArray u how line) = OuterArray (use_of u.now) how line
 reason_of (reason.OtherElement u how variable line) = OtherElement (use_of u.now) how (use_of variable.now) line
 
--- one, if it tells one
+-- the abstraction of a broken rule, if there is one
 abbrev pub told_of : Option code_reason.Disowned → Option Reason
 told_of found = option_map reason_of found
 
--- this was found, unless something was found before
+-- the reason is found, unless one was found before
 abbrev pub Finds : (before after : Option code_reason.Disowned) → (found : Option Reason) → Type 0
 Finds before after found = told_of after ≡ option_or (told_of before) found
 
--- one with its line
+-- the abstraction of a line with the rule that it breaks
 abbrev pub line_and_reason : At code_reason.Disowned → ℕ × Reason
 line_and_reason at = (at.line, reason_of at.reason)
 
--- the lines at these places that break a rule, each with that
+-- the abstraction of the lines of these places, each with the rule that it breaks
 abbrev pub told_at : List (Option (At code_reason.Disowned)) → List (Option (ℕ × Reason))
 told_at places = map (option_map line_and_reason) places
 
--- those so far
+-- the abstraction of the recorded lines
 abbrev pub places_told : code_told.Told → List (Option (ℕ × Reason))
 places_told told = told_at told.reasons.places
 
--- the turn of a loop that the code holds
+-- the abstraction of a loop
 abbrev pub turn_of : code_loop.Loop → Turn
 turn_of l = record {
   outer = row_of l.outer;
@@ -84,70 +84,70 @@ turn_of l = record {
   head = l.line;
 }
 
--- the turn of the loop around, if there is one
+-- the abstraction of the enclosing loop, if there is one
 abbrev pub around_of : Option code_loop.Loop → Option Turn
 around_of around = option_map turn_of around
 
--- the use that the code holds, if it holds one
+-- the abstraction of a use, if there is one
 abbrev pub used : Option code_use.Use → Option Use
 used target = option_map use_of target
 
--- the expression that the code holds, if it holds one
+-- the abstraction of an expression, if there is one
 abbrev pub returned : Option code_expr.Expr → Option Expr
 returned e = option_map expr_of e
 
--- a loop of this head over these lines
+-- a loop with this head and these lines
 abbrev pub for_of : code_head.Head → List code_line.Line → Stmt
 for_of head lines = For (head_of head) (block_of lines)
 
--- a cut for these lines
+-- a cut with these lines
 abbrev pub cut_of : code_cut.Cut → List code_line.Line → Stmt
 cut_of cut lines = Cut (parts_of cut) (block_of lines)
 
--- what the spawns of a sync block hold after a call
+-- the locals that the spawns of a sync block hold after a call
 abbrev pub after_call : code_call.Call → code_held.Held → Held
 after_call call here =
     taken_by_call call.kind (used call.target) (map argument_of call.arguments.items) (held_of here)
 
--- which rule is broken, where these are the loop around and what is held
+-- the broken rule for this enclosing loop and these held locals
 abbrev pub why_here : {A : Type 0} → (Option Turn → Taken → A) → Option code_loop.Loop → code_taken.Taken → A
 why_here rule around taken = rule (around_of around) (taken_of taken)
 
--- which rule a call breaks
+-- the rule that a call breaks
 abbrev pub why_of_call : Option code_loop.Loop → code_taken.Taken → code_call.Call → Option Reason
 why_of_call around taken call =
     why_call (around_of around) (taken_of taken) (used call.target) (listed_of call.callee)
     (map argument_of call.arguments.items)
 
--- the same after these lines, without the locals that end with them
+-- the locals that the spawns of a sync block hold after these lines, without the locals whose scope ends with them
 abbrev pub after_lines : (known : code_row.Row) → List code_line.Line → code_held.Held → Held
 after_lines known lines here = held_within (row_of known) (after_all (row_of known) (block_of lines) (held_of here))
 
--- the same after an `if` with these lines
+-- the locals that the spawns of a sync block hold after an `if` with these lines
 abbrev pub after_if : (known : code_row.Row) → List code_line.Line → code_held.Held → Held
 after_if known lines here = either_held (after_lines known lines here) (held_of here)
 
--- the same after a `while` with these lines
+-- the locals that the spawns of a sync block hold after a `while` with these lines
 abbrev pub after_while : (known : code_row.Row) → List code_line.Line → code_held.Held → Held
 after_while known lines here = either_held (held_of here) (gain (row_of known) (block_of lines))
 
--- what the test and the blocks of a statement see as taken
+-- the locals that the test and the blocks of a statement see as held
 abbrev pub sees : (known : code_row.Row) → code_taken.Taken → code_stmt.Stmt → Taken
 sees known taken stmt = seen_by (row_of known) (taken_of taken) (stmt_of stmt)
 
--- what is taken after a statement, whose blocks see this as taken
+-- the locals held after a statement whose blocks see these locals as held
 abbrev pub left_after : (known : code_row.Row) → code_taken.Taken → code_stmt.Stmt → Taken
 left_after known taken stmt = left_by (row_of known) (stmt_of stmt) (taken_of taken)
 
--- what is taken behind a sync block inside another: its cuts are all that it leaves
+-- the locals held after an inner sync block, which differ from those before it only in cuts
 abbrev pub left_by_scope : (known : code_row.Row) → code_taken.Taken → List code_line.Line → Taken
 left_by_scope known taken lines = left_by (row_of known) (Scope (block_of lines)) (taken_of taken)
 
--- the same behind the block of a cut, whose array is whole again
+-- the locals held after the block of a cut, whose array is free again
 abbrev pub left_by_cut : (known : code_row.Row) → code_taken.Taken → code_cut.Cut → List code_line.Line → Taken
 left_by_cut known taken cut lines = left_by (row_of known) (cut_of cut lines) (taken_of taken)
 
--- the same behind an `if` with these lines
+-- the locals held after an `if` with these lines
 abbrev pub left_by_if : (known : code_row.Row) → code_taken.Taken → List code_line.Line → Taken
 left_by_if known taken lines =
     record {
@@ -156,96 +156,96 @@ left_by_if known taken lines =
       cuts = (taken_of taken).cuts;
     }
 
--- what is taken after these lines
+-- the locals held after these lines
 abbrev pub taken_after_lines : (known : code_row.Row) → code_taken.Taken → List code_line.Line → Taken
 taken_after_lines known taken lines = taken_after_all (row_of known) (block_of lines) (taken_of taken)
 
--- what one turn of each `while` takes, of a statement
+-- the locals that one iteration of each `while` of a statement holds
 abbrev pub turns_of : (known : code_row.Row) → code_stmt.Stmt → List Held
 turns_of known stmt = turns (row_of known) (stmt_of stmt)
 
--- the same, in the blocks of a statement
+-- the locals that one iteration of each `while` in the inner blocks of a statement holds
 abbrev pub turns_inside : (known : code_row.Row) → code_stmt.Stmt → List Held
 turns_inside known stmt = turns_within (row_of known) (stmt_of stmt)
 
--- the same, in these lines
+-- the locals that one iteration of each `while` in these lines holds
 abbrev pub turns_of_lines : (known : code_row.Row) → List code_line.Line → List Held
 turns_of_lines known lines = turns_in (row_of known) (block_of lines)
 
--- the same, of a `while` with these lines as its body
+-- the locals that one iteration of each `while` holds, for a `while` with these lines as its body
 abbrev pub turns_of_while : (known : code_row.Row) → List code_line.Line → List Held
 turns_of_while known lines = gain (row_of known) (block_of lines) ∷ turns_of_lines known lines
 
--- the rows are left that come after these
+-- the rows after these rows remain
 abbrev pub Past : List Held → (before after : List code_held.Held) → Type 0
 Past first before after = rows_of after ≡ drop (length first) (rows_of before)
 
--- the declarations whose names are held as these lines end
+-- the declarations whose names are held at the end of these lines, with the reasons
 abbrev pub still_taken : code_taken.Taken → List code_line.Line → List (ℕ × Reason)
 still_taken taken lines = left_reasons (taken_of taken) (block_of lines)
 
--- the lines that break a rule, of these
+-- the lines among these that break a rule, with the reasons
 abbrev pub reasons_among : Option code_loop.Loop → (known : code_row.Row) → code_taken.Taken → List code_line.Line →
     List (ℕ × Reason)
 reasons_among around known taken lines =
     reasons_in (around_of around) (row_of known) (taken_of taken) (block_of lines)
 
--- the same, of a block that joins no spawn at its end
+-- the lines that break a rule in a block that joins no spawn at its end
 abbrev pub reasons_leaving : Option code_loop.Loop → (known : code_row.Row) → code_taken.Taken → List code_line.Line →
     List (ℕ × Reason)
 reasons_leaving around known taken lines =
     block_reasons (around_of around) (row_of known) (taken_of taken) Leaves (block_of lines)
 
--- the same, of a sync block
+-- the lines that break a rule in a sync block
 abbrev pub reasons_joining : Option code_loop.Loop → (known : code_row.Row) → code_taken.Taken → List code_line.Line →
     List (ℕ × Reason)
 reasons_joining around known taken lines =
     block_reasons (around_of around) (row_of known) (taken_of taken) Joins (block_of lines)
 
--- the same, in the branches of a statement: of what line it is says a loop alone
+-- the lines that break a rule in the branches of a statement; only a loop needs the line of the statement
 abbrev pub reasons_of_either : Option code_loop.Loop → (known : code_row.Row) → code_taken.Taken → code_stmt.Stmt →
     List (ℕ × Reason)
 reasons_of_either around known taken stmt =
     reasons_within (around_of around) (row_of known) (taken_of taken) 0 (stmt_of stmt)
 
--- the same, in the blocks of a statement of this line
+-- the lines that break a rule in the inner blocks of a statement in this line
 abbrev pub reasons_inside : Option code_loop.Loop → (known : code_row.Row) → code_taken.Taken → (line : ℕ) →
     code_stmt.Stmt → List (ℕ × Reason)
 reasons_inside around known taken line stmt =
     reasons_within (around_of around) (row_of known) (taken_of taken) line (stmt_of stmt)
 
--- the same, of a sync block inside another
+-- the lines that break a rule in an inner sync block
 abbrev pub reasons_of_scope : Option code_loop.Loop → (known : code_row.Row) → code_taken.Taken →
     List code_line.Line → List (ℕ × Reason)
 reasons_of_scope around known taken lines =
     block_reasons (around_of around) (row_of known) (inside (taken_of taken)) Joins (block_of lines)
 
--- the same, of the block of a loop with this head, of this line
+-- the lines that break a rule in the block of a loop with this head in this line
 abbrev pub reasons_of_for : (known : code_row.Row) → code_taken.Taken → (line : ℕ) → code_head.Head →
     List code_line.Line → List (ℕ × Reason)
 reasons_of_for known taken line head lines =
     block_reasons (Some (turn_in line (head_of head) (row_of known)))
     (with_int (head_of head).variable.slot (row_of known)) (inside (taken_of taken)) Joins (block_of lines)
 
--- the same, of the block of a cut
+-- the lines that break a rule in the block of a cut
 abbrev pub reasons_of_cut : Option code_loop.Loop → (known : code_row.Row) → code_taken.Taken → code_cut.Cut →
     List code_line.Line → List (ℕ × Reason)
 reasons_of_cut around known taken cut lines =
     block_reasons (around_of around) (with_parts (parts_of cut) (row_of known))
     (inside_cut (parts_of cut).array.slot (taken_of taken)) Joins (block_of lines)
 
--- the same, of a function
+-- the lines that break a rule in a function
 abbrev pub reasons_of : code_function.Function → List (ℕ × Reason)
 reasons_of f = function_reasons (function_of f)
 
--- the same, of all functions
+-- the lines that break a rule in all functions
 abbrev pub reasons_of_all : List code_function.Function → List (ℕ × Reason)
 reasons_of_all fs = flat_map function_reasons (map function_of fs)
 
--- these were noted
+-- `after` is `before` with these reasons recorded
 abbrev pub Noted : (before after : code_told.Told) → List (ℕ × Reason) → Type 0
 Noted before after reasons = places_told after ≡ kept line_in (places_told before) reasons
 
--- those of a tree were noted
+-- the reasons of a tree are recorded
 abbrev pub AreNoted : Tree → Reasons code_reason.Disowned → Type 0
 AreNoted tree reasons = told_at reasons.places ≡ kept line_in no_place (ownership_reasons (resolved_of tree))

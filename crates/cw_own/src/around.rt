@@ -13,8 +13,8 @@ use crate::bits::Bits;
 use crate::row::Row;
 use cw_tree::resolved::{Head, Use};
 
-/// A loop: the locals from outside its body and its variable, that variable, and the arrays of the loop, which the head of
-/// a further loop may not name; and the line of the loop's head.
+/// Represents a loop: the locals outside its body together with its variable, that variable, the arrays of the loop,
+/// which the head of an inner loop must not name, and the line of the loop's head.
 #[derive(Clone, Copy)]
 pub struct Loop<'a> {
     pub outer: Row,
@@ -25,7 +25,7 @@ pub struct Loop<'a> {
 }
 
 impl<'a> Loop<'a> {
-    /// The loop of a head of this line, where these locals are known before it.
+    /// Returns the loop with this head in this line; `known` are the locals known before it.
     pub fn new(line: u32, head: &'a Head, known: &Row) -> Loop<'a>
         requires variable { is_small (use_of head.now.variable) ≡ true }
         requires over { list_all is_small (map use_of head.now.over.items) ≡ true }
@@ -42,7 +42,7 @@ impl<'a> Loop<'a> {
         }
     }
 
-    /// Whether an array is one of the loop's that may be named here.
+    /// Reports whether an array is one of the loop's arrays that may be named here.
     pub fn may_name(&self, slot: u32) -> bool
         ensures { result ≡ named (turn_of self.now) slot }
     {
@@ -50,7 +50,7 @@ impl<'a> Loop<'a> {
     }
 }
 
-// A set with the slots of these uses.
+// Adds the slots of these uses to a set.
 fn with_uses(set: Bits, uses: &[Use]) -> Bits
     requires { list_all is_small (map use_of uses.now) ≡ true }
     ensures { set_of result ≡ with_uses (map use_of uses.now) (set_of set) }
@@ -62,7 +62,7 @@ fn with_uses(set: Bits, uses: &[Use]) -> Bits
     set
 }
 
-/// What the head of a further loop sees of the loop around: it names none of its arrays.
+/// Returns the loop as the head of an inner loop sees it: the head must not name its arrays.
 pub fn for_head<'a>(around: &Option<Loop<'a>>) -> Option<Loop<'a>>
     ensures { around_of result ≡ option_map head_in (around_of around.now) }
 {

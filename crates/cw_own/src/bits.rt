@@ -5,21 +5,22 @@ ghost use Rattle.cw_model.specs.declared.limits.TheConstants.{MOST_DECLARED};
 ghost use Rattle.cw_own.specs.Sets.{no_slot, with_slot, without_slot, either, both};
 ghost use Rattle.cw_own.specs.Views.{set_of};
 
-/// A set of slots, each below 256, the most names that a function declares: slot `s` is bit `s % 64` of word `s / 64`.
+/// Represents a set of slots below 256, the maximum number of names that a function declares: slot `s` is bit
+/// `s % 64` of word `s / 64`.
 #[derive(Clone, Copy)]
 pub struct Bits {
     pub words: [u64; 4],
 }
 
 impl Bits {
-    /// No slot.
+    /// Returns the empty set.
     pub fn none() -> Bits
         ensures { set_of result ≡ no_slot }
     {
         Bits { words: [0; 4] }
     }
 
-    /// Whether a slot is there; none from 256 on is.
+    /// Reports whether a slot is in the set; slots from 256 on are not.
     pub fn has(&self, slot: u32) -> bool
         ensures { result ≡ set_of self.now slot }
     {
@@ -29,7 +30,7 @@ impl Bits {
         }
     }
 
-    /// One slot more.
+    /// Adds a slot.
     pub fn add(&mut self, slot: u32)
         requires { slot < MOST_DECLARED }
         ensures { set_of self.new ≡ with_slot slot (set_of self.old) }
@@ -37,7 +38,7 @@ impl Bits {
         self.words[(slot / 64) as usize] |= 1 << (slot % 64);
     }
 
-    /// One slot less.
+    /// Removes a slot.
     pub fn remove(&mut self, slot: u32)
         requires { slot < MOST_DECLARED }
         ensures { set_of self.new ≡ without_slot slot (set_of self.old) }
@@ -45,7 +46,7 @@ impl Bits {
         self.words[(slot / 64) as usize] &= !(1 << (slot % 64));
     }
 
-    /// The slots of one of two sets.
+    /// Returns the union of two sets.
     pub fn either(&self, other: &Bits) -> Bits
         ensures { set_of result ≡ either (set_of self.now) (set_of other.now) }
     {
@@ -55,7 +56,7 @@ impl Bits {
         }
     }
 
-    /// The slots of both sets.
+    /// Returns the intersection of two sets.
     pub fn both(&self, other: &Bits) -> Bits
         ensures { set_of result ≡ both (set_of self.now) (set_of other.now) }
     {

@@ -1,8 +1,9 @@
-//! What one turn of each `while` holds.
+//! Computes the locals that one iteration of each `while` holds.
 //!
-//! What is held after a statement is what was held before it, without what the statement frees, and with what it takes
-//! and freezes. So what any number of turns holds is what one turn holds that begins with nothing held, beside what was
-//! held before: each body is looked at once for it, and once more for its faults.
+//! The locals held after a statement are those held before it, minus those that the statement frees, plus those that
+//! it takes and freezes. So any number of iterations holds the locals held before the loop, and those that one
+//! iteration holds if it begins with nothing held. Therefore each body is traversed once to compute these, and once
+//! more to find its faults.
 
 ghost use Rattle.std.specs.Prelude.{◌≡◌, ◌∷◌, [], length, slice_set, map, true};
 ghost use Rattle.std.specs.List.{list_all};
@@ -21,7 +22,7 @@ use cw_model::syntax::CallKind;
 use cw_tree::resolved::{Argument, Call, Line, Stmt, Use};
 use std::alloc::Global;
 
-// The integer that a result goes to is taken, if there is one.
+// Takes the integer that receives a result, if there is one.
 fn take_target(held: &mut Held, target: &Option<Use>, watch: &Watch)
     requires { small_target (used target.now) ≡ true }
     ensures { held_of held.new ≡ with_target (used target.now) (held_of held.old) }
@@ -31,7 +32,7 @@ fn take_target(held: &mut Held, target: &Option<Use>, watch: &Watch)
     }
 }
 
-// The arrays that are given away are taken, and those that are only read are frozen.
+// Takes the arrays that are given away, and freezes those that are only read.
 fn take_arrays(held: &mut Held, es: &[Argument], watch: &Watch)
     requires { list_all small_argument (map argument_of es.now) ≡ true }
     ensures { held_of held.new ≡ with_arrays (map argument_of es.now) (held_of held.old) }
@@ -45,7 +46,7 @@ fn take_arrays(held: &mut Held, es: &[Argument], watch: &Watch)
     }
 }
 
-/// A call: a spawn takes its target and the arrays that are given away, and freezes those that it only reads.
+/// Applies a call: a spawn takes its target and the arrays that are given away, and freezes those that it only reads.
 pub fn after_call(here: &mut Held, call: &Call, watch: &Watch)
     requires target { small_target (used call.now.target) ≡ true }
     requires arguments { list_all small_argument (map argument_of call.now.arguments.items) ≡ true }
@@ -60,7 +61,7 @@ pub fn after_call(here: &mut Held, call: &Call, watch: &Watch)
     }
 }
 
-/// The local that a statement declares is known, if it declares one.
+/// Adds the local that a statement declares to the known locals, if it declares one.
 pub fn know(known: &mut Row, stmt: &Stmt)
     requires { small_stmt (stmt_of stmt.now) ≡ true }
     ensures { row_of known.new ≡ known_after (row_of known.old) (stmt_of stmt.now) }
@@ -72,17 +73,18 @@ pub fn know(known: &mut Row, stmt: &Stmt)
     }
 }
 
-/// What one turn of each `while` holds, in order, as far as there was memory for it; and what is watched.
+/// Holds the locals that one iteration of each `while` holds, in order, as far as memory sufficed, and the watched
+/// local.
 #[derive(Drop)]
 pub struct Gains {
     pub rows: Vec<Held>,
-    /// There was memory for each.
+    /// Whether memory sufficed for all of them.
     pub complete: bool,
     pub watch: Watch,
 }
 
 impl Gains {
-    /// None so far, where this local is watched.
+    /// Returns an empty value that watches this local.
     pub fn new(alloc: Global, local: Option<Local>) -> Gains
         ensures complete { result.complete ≡ true }
         ensures rows { result.rows.items ≡ [] }
@@ -94,7 +96,7 @@ impl Gains {
         }
     }
 
-    // Keeps a place, to be set later.
+    // Reserves a place that `set` fills later.
     fn keep(&mut self) -> usize
         ensures place { result ≡ length self.old.rows.items }
         ensures grown { Grown self.old self.new (none_held ∷ []) }
@@ -106,7 +108,7 @@ impl Gains {
         place
     }
 
-    // Sets a place.
+    // Fills a place.
     fn set(&mut self, place: usize, row: Held)
         ensures complete { self.new.complete ≡ self.old.complete }
         ensures rows { self.new.rows.items ≡ slice_set self.old.rows.items place row }
@@ -117,7 +119,8 @@ impl Gains {
     }
 }
 
-// What the spawns of the innermost sync block hold after these statements; adds what a turn of each `while` holds.
+// Computes the locals that the spawns of the innermost sync block hold after these statements; appends those that an
+// iteration of each `while` holds.
 #[cycle(gains)]
 fn after_all(known: &Row, lines: &[Line], here: &mut Held, gains: &mut Gains)
     requires { small_block (block_of lines.now) ≡ true }
@@ -133,7 +136,8 @@ fn after_all(known: &Row, lines: &[Line], here: &mut Held, gains: &mut Gains)
     }
 }
 
-// The same of a block, without the locals that end with it.
+// Computes the locals that the spawns of the innermost sync block hold after a block, without the locals whose scope
+// ends with it.
 #[cycle(gains)]
 fn after_block(known: &Row, lines: &[Line], here: &mut Held, gains: &mut Gains)
     requires { small_block (block_of lines.now) ≡ true }
@@ -144,7 +148,8 @@ fn after_block(known: &Row, lines: &[Line], here: &mut Held, gains: &mut Gains)
     *here = here.within(known, &gains.watch);
 }
 
-// The same of a block whose spawns are joined at its end: nothing of it is held.
+// Appends the locals that an iteration of each `while` holds in a block that joins its spawns at its end; none of
+// them remains held.
 #[cycle(gains)]
 fn after_scope(known: &Row, lines: &[Line], gains: &mut Gains)
     requires { small_block (block_of lines.now) ≡ true }
@@ -154,7 +159,7 @@ fn after_scope(known: &Row, lines: &[Line], gains: &mut Gains)
     after_all(known, lines, &mut inside, gains);
 }
 
-// The same of an `if` with this block.
+// Computes the locals held after an `if` with this block.
 #[cycle(gains)]
 fn after_if(known: &Row, lines: &[Line], here: &mut Held, gains: &mut Gains)
     requires { small_block (block_of lines.now) ≡ true }
@@ -166,7 +171,7 @@ fn after_if(known: &Row, lines: &[Line], here: &mut Held, gains: &mut Gains)
     *here = branch.either(here);
 }
 
-// The same of a statement with two branches.
+// Computes the locals held after a statement with two branches.
 #[cycle(gains)]
 fn after_either(known: &Row, stmt: &Stmt, here: &mut Held, gains: &mut Gains)
     requires small { small_stmt (stmt_of stmt.now) ≡ true }
@@ -200,8 +205,8 @@ fn after_either(known: &Row, stmt: &Stmt, here: &mut Held, gains: &mut Gains)
     }
 }
 
-// The same of a `while` with this block: what one turn holds where nothing is held before it, beside what is held. What the
-// turn holds stands before that of its body.
+// Computes the locals held after a `while` with this block: those held before it, and those that one iteration holds
+// if it begins with nothing held. The entry for this loop precedes the entries of its body.
 #[cycle(gains)]
 fn after_while(known: &Row, lines: &[Line], here: &mut Held, gains: &mut Gains)
     requires { small_block (block_of lines.now) ≡ true }
@@ -215,7 +220,7 @@ fn after_while(known: &Row, lines: &[Line], here: &mut Held, gains: &mut Gains)
     *here = here.either(&gain);
 }
 
-// The same of a statement.
+// Computes the locals held after a statement.
 #[cycle(gains)]
 fn after(known: &Row, stmt: &Stmt, here: &mut Held, gains: &mut Gains)
     requires { small_stmt (stmt_of stmt.now) ≡ true }
@@ -250,7 +255,7 @@ fn after(known: &Row, stmt: &Stmt, here: &mut Held, gains: &mut Gains)
     }
 }
 
-/// What one turn of each `while` of a function holds, and whether there was memory for that.
+/// Appends the locals that one iteration of each `while` of a function holds, and records whether memory sufficed.
 pub fn turns(known: &Row, lines: &[Line], gains: &mut Gains)
     requires { small_block (block_of lines.now) ≡ true }
     ensures { Grown gains.old gains.new (turns_of_lines known.now lines.now) }

@@ -1,4 +1,4 @@
-//! What the spawns of a sync block hold.
+//! The locals that the spawns of a sync block hold.
 
 ghost use Rattle.std.specs.Prelude.{◌≡◌, ◌<◌};
 ghost use Rattle.cw_model.specs.declared.limits.TheConstants.{MOST_DECLARED};
@@ -9,15 +9,15 @@ use crate::bits::Bits;
 use crate::row::Row;
 use crate::told::Watch;
 
-/// Since which line the local that is watched is taken, and frozen.
+/// Holds the lines since which the watched local is taken and frozen.
 #[derive(Clone, Copy)]
 pub struct Since {
     pub taken: Option<u32>,
     pub frozen: Option<u32>,
 }
 
-/// What spawns hold: the locals that they took, and beside them the arrays that they froze, which are only read until the
-/// join; and since which line they hold the local that is watched.
+/// Holds the locals that spawns took, the arrays that they froze, which may only be read until the join, and the
+/// lines since which they hold the watched local.
 #[derive(Clone, Copy)]
 pub struct Held {
     pub taken: Row,
@@ -26,7 +26,7 @@ pub struct Held {
 }
 
 impl Held {
-    /// Nothing.
+    /// Returns a value that holds nothing.
     pub fn none() -> Held
         ensures { held_of result ≡ none_held }
     {
@@ -40,7 +40,7 @@ impl Held {
         }
     }
 
-    /// An integer more is taken.
+    /// Takes an integer.
     pub fn take_int(&mut self, slot: u32, watch: &Watch)
         requires { slot < MOST_DECLARED }
         ensures { held_of self.new ≡ taking_int slot (held_of self.old) }
@@ -51,7 +51,7 @@ impl Held {
         }
     }
 
-    /// An array more is taken.
+    /// Takes an array.
     pub fn take_array(&mut self, slot: u32, watch: &Watch)
         requires { slot < MOST_DECLARED }
         ensures { held_of self.new ≡ taking_array slot (held_of self.old) }
@@ -62,7 +62,7 @@ impl Held {
         }
     }
 
-    /// An array more is frozen.
+    /// Freezes an array.
     pub fn freeze(&mut self, slot: u32, watch: &Watch)
         requires { slot < MOST_DECLARED }
         ensures { held_of self.new ≡ freezing slot (held_of self.old) }
@@ -73,14 +73,14 @@ impl Held {
         }
     }
 
-    /// Nothing is held any more.
+    /// Releases everything that is held.
     pub fn clear(&mut self)
         ensures { held_of self.new ≡ none_held }
     {
         *self = Held::none();
     }
 
-    /// What one of two holds.
+    /// Returns the union of two values.
     pub fn either(&self, other: &Held) -> Held
         ensures { held_of result ≡ either_held (held_of self.now) (held_of other.now) }
     {
@@ -94,7 +94,7 @@ impl Held {
         }
     }
 
-    /// What is held of these locals.
+    /// Returns the part of these locals that is held.
     pub fn within(&self, known: &Row, watch: &Watch) -> Held
         ensures { held_of result ≡ held_within (row_of known.now) (held_of self.now) }
     {
@@ -107,7 +107,7 @@ impl Held {
 }
 
 impl Since {
-    // The same, if what is watched is one of these locals.
+    // Returns the lines if the watched local is one of these locals.
     fn within(&self, known: &Row, watch: &Watch) -> Since {
         if watch.is_in(known) {
             return *self;

@@ -1,9 +1,9 @@
-//! What holds of all reasons.
+//! Laws of all reasons.
 
 ghost use Rattle.cw_own.specs.Laws.{DisownedAreRefused};
 
-/// A program of which a reason of ownership holds in a line is refused by the definition of ownership, at that line or
-/// before it: so whatever such a reason tells is, by itself, enough for the refusal.
+/// States that the definition of ownership rejects each program for which a reason of ownership is true in a line, at
+/// that line or before it. So each reported reason suffices for the rejection.
 pub fn reasons_of_ownership_refuse()
     ensures { DisownedAreRefused }
 {}

@@ -1,4 +1,4 @@
-//! Ownership: which sources touch what a spawn or a cut has taken, and by which rule.
+//! Ownership: finds the sources that touch locals that a spawn or a cut has taken, with the rule that they break.
 #![tactic(auto)]
 
 mod around;

@@ -5,7 +5,7 @@ ghost use Rattle.cw_tree.specs.ResolvedView.{program_of};
 
 use cw_tree::Typed;
 
-/// A tree that keeps every rule of names, types and ownership.
+/// Holds a tree that keeps every rule of names, types and ownership.
 #[derive(Drop, Debug)]
 pub struct Owned {
     pub typed: Typed,

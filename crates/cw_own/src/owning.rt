@@ -1,4 +1,4 @@
-//! The test of ownership.
+//! The check of ownership.
 
 ghost use Rattle.std.specs.Prelude.{◌≡◌, ◌≤◌, IfOk, MatchOption, MatchResult, OnOk, length, map, true};
 ghost use Rattle.std.specs.List.{list_all};
@@ -25,12 +25,15 @@ use cw_tree::Typed;
 use cw_tree::resolved::{Function, Param};
 use std::alloc::{AllocError, Global};
 
-/// The same tree, which keeps ownership.
+/// Checks ownership, and returns the same tree.
 ///
-/// Answers `Ownership` at the least line that breaks a rule of ownership: of a statement that touches what a spawn or a
-/// cut has taken, changes what a spawn has frozen, passes an array twice where it is not only read or names an outer
-/// local of its loop otherwise than to read it, or of a declaration whose name is still held as its block ends. Answers
-/// `Memory` where there is none for a row of 112 bytes for each `while` of one function. The tree is let go then.
+/// # Errors
+///
+/// Returns `Ownership` at the least line that breaks a rule of ownership: of a statement that touches a local that a
+/// spawn or a cut has taken, that changes an array that a spawn has frozen, that passes an array twice and not only
+/// to read it, or that uses an outer local of its loop other than to read it; or of a declaration whose name is still
+/// held at the end of its block. Returns `Memory` if there is no memory for a row of 112 bytes for each `while` of
+/// one function. Drops the tree in each of these cases.
 pub fn own(alloc: Global, typed: Typed) -> Result<Owned, Fault>
     ensures { MatchResult result (λ owned. owned.typed.tree ≡ typed.tree)
         (BreaksOwnership (program_of typed.tree)) }
@@ -42,7 +45,7 @@ pub fn own(alloc: Global, typed: Typed) -> Result<Owned, Fault>
     }
 }
 
-// The least line that breaks a rule, and which.
+// Returns the least line that breaks a rule, with the rule.
 fn first_broken(alloc: Global, typed: &Typed) -> Result<Option<At<Disowned<'_>>>, AllocError>
     ensures { IfOk result (λ told. MatchOption told (KeepsOwnership (program_of typed.now.tree))
         (IsTold typed.now.tree)) }
@@ -51,9 +54,13 @@ fn first_broken(alloc: Global, typed: &Typed) -> Result<Option<At<Disowned<'_>>>
     Ok(told.first())
 }
 
-/// The lines that break a rule of ownership, the least twenty of them, rising, each with the first rule that it breaks and
-/// the names that it breaks it for; none where the tree keeps ownership. Where a name is held in the first of them, since
-/// which line it is. An error where memory is refused, as in `own`.
+/// Returns the least twenty lines that break a rule of ownership, increasing, each with the first rule that it breaks
+/// and the names that break it; no lines if the tree keeps ownership. If a name is held in the first of these lines,
+/// its reason has the line since which the name is held.
+///
+/// # Errors
+///
+/// Returns an error if memory runs out, as in `own`.
 pub fn disowned(alloc: Global, typed: &Typed) -> Result<Reasons<Disowned<'_>>, AllocError>
     ensures first { IfOk result (IsFirstTold typed.now.tree) }
     ensures all { IfOk result (AreTold typed.now.tree) }
@@ -68,7 +75,7 @@ pub fn disowned(alloc: Global, typed: &Typed) -> Result<Reasons<Disowned<'_>>, A
     }
 }
 
-// The local that the reason says is held, if it says so of one.
+// Returns the local that is held according to the reason, if the reason concerns a held local.
 fn held_local(told: Option<At<Disowned<'_>>>) -> Option<Local> {
     match told?.reason {
         Disowned::Held(used, _, holder, _) | Disowned::EndsHeld(used, holder, _) => {
@@ -78,7 +85,7 @@ fn held_local(told: Option<At<Disowned<'_>>>) -> Option<Local> {
     }
 }
 
-// The local of a slot that this holds.
+// Returns the local with this slot that this holder holds.
 fn local_of(slot: u32, holder: Holder) -> Local {
     match holder {
         Holder::Result => Local::Int(slot),
@@ -86,7 +93,7 @@ fn local_of(slot: u32, holder: Holder) -> Local {
     }
 }
 
-// The lines that break a rule, where this local is watched.
+// Returns the lines that break a rule; watches this local.
 fn broken(
     alloc: Global,
     typed: &Typed,
@@ -101,7 +108,7 @@ fn broken(
     Ok(reasons)
 }
 
-// Notes each line of these functions that breaks a rule.
+// Records each line of these functions that breaks a rule.
 #[tactic(auto, using(crate::proofs::Small::kept_append))]
 fn note_functions<'a>(
     alloc: Global,
@@ -117,7 +124,7 @@ fn note_functions<'a>(
     Ok(())
 }
 
-// Notes each line of a function that breaks a rule.
+// Records each line of a function that breaks a rule.
 fn note_function<'a>(
     alloc: Global,
     function: &'a Function,
@@ -140,7 +147,7 @@ fn note_function<'a>(
     Ok(())
 }
 
-// The locals that are parameters: those of each kind have the first slots of that kind.
+// Returns the parameters as known locals: the parameters of each kind have the first slots of the kind.
 fn with_params(params: &[Param]) -> Row
     requires { length (map param_of params.now) ≤ MOST_PARAMETERS }
     ensures { row_of result ≡ with_params 0 0 (map param_of params.now) no_local }

@@ -1,5 +1,6 @@
-//! Which rule a statement breaks by what it reads, writes and passes. Each function looks at one part of a statement, and
-//! notes the first rule that this part breaks where no part before it broke one: so what keeps the rules is only looked at.
+//! Finds the rule that a statement breaks by its reads, writes and passed arrays. Each function examines one part of
+//! a statement, and records the first rule that this part breaks, unless an earlier part broke one. So a statement
+//! that keeps the rules causes only reads.
 #![tactic(auto, using(crate::proofs::Small::found_nothing, crate::proofs::Small::found_grouped))]
 
 ghost use Rattle.std.specs.Prelude.{◌≡◌, Some, map, option_map, true};
@@ -23,7 +24,7 @@ use crate::reason::{Disowned, Holder, Touch};
 use crate::taken::Taken;
 use cw_tree::resolved::{Argument, Call, Cut, Expr, Head, Listed, Stmt, Use};
 
-// Notes a rule that is broken, unless one was before.
+// Records a broken rule, unless one was recorded before.
 #[inline(never)]
 fn keep<'a>(reason: Disowned<'a>, first: &mut Option<Disowned<'a>>)
     ensures { Finds first.old first.new (Some (reason_of reason.entry)) }
@@ -34,7 +35,7 @@ fn keep<'a>(reason: Disowned<'a>, first: &mut Option<Disowned<'a>>)
     }
 }
 
-// Notes a rule that was found to be broken, if one was.
+// Records the rule that was found broken, if there is one.
 fn of_found<'a>(found: Option<Disowned<'a>>, first: &mut Option<Disowned<'a>>)
     ensures { Finds first.old first.new (told_of found.entry) }
 {
@@ -43,7 +44,7 @@ fn of_found<'a>(found: Option<Disowned<'a>>, first: &mut Option<Disowned<'a>>)
     }
 }
 
-// A name is touched while this holds it.
+// Records that a name is touched while this holder holds it.
 #[inline(never)]
 fn of_held<'a>(
     taken: &Taken,
@@ -60,7 +61,7 @@ fn of_held<'a>(
     );
 }
 
-// A name is touched while this holds it, if something does.
+// Records that a name is touched while it is held, if it is held.
 fn of_holder<'a>(
     taken: &Taken,
     used: &'a Use,
@@ -75,7 +76,7 @@ fn of_holder<'a>(
     }
 }
 
-// Whether an expression is this integer alone.
+// Reports whether an expression is exactly this integer.
 fn is_variable(slot: u32, e: &Expr) -> bool
     ensures { result ≡ is_variable slot (expr_of e.now) }
 {
@@ -85,7 +86,7 @@ fn is_variable(slot: u32, e: &Expr) -> bool
     }
 }
 
-// An array from outside the loop is named in another way than it may be.
+// Records that an outer array is used in a way that the loop forbids.
 #[inline(never)]
 fn of_outside<'a>(outer: &Loop<'a>, used: &'a Use, touch: Touch, first: &mut Option<Disowned<'a>>)
     ensures { Finds first.old first.new
@@ -101,7 +102,8 @@ fn of_outside<'a>(outer: &Loop<'a>, used: &'a Use, touch: Touch, first: &mut Opt
     }
 }
 
-// An array is indexed: one from outside may be where the loop is over it, by the loop's variable.
+// Checks an access to an element: an outer array of the loop may be indexed only by the loop's variable, and only if
+// the loop is over it.
 fn of_index<'a>(
     around: &Option<Loop<'a>>,
     touch: Touch,
@@ -121,7 +123,7 @@ fn of_index<'a>(
     }
 }
 
-// An array from outside the loop is named as a whole.
+// Checks the use of an outer array as a whole.
 fn of_outer_array<'a>(
     around: &Option<Loop<'a>>,
     touch: Touch,
@@ -138,7 +140,7 @@ fn of_outer_array<'a>(
     }
 }
 
-// An integer from outside the loop is written.
+// Checks a write to an integer: it must not be from outside the loop.
 fn of_outer_int<'a>(around: &Option<Loop<'a>>, used: &'a Use, first: &mut Option<Disowned<'a>>)
     ensures { Finds first.old first.new (why_outer_int (around_of around.now) (use_of used.now)) }
 {
@@ -149,7 +151,7 @@ fn of_outer_int<'a>(around: &Option<Loop<'a>>, used: &'a Use, first: &mut Option
     }
 }
 
-// An expression names what is taken, or breaks the rule of the loop around.
+// Checks an expression: it must not name a taken local, and it must keep the rule of the loop around it.
 fn of_expr<'a>(
     around: &Option<Loop<'a>>,
     taken: &Taken,
@@ -176,7 +178,7 @@ fn of_expr<'a>(
     }
 }
 
-// An integer that is read is taken.
+// Checks a read of an integer: it must not be taken.
 fn of_read<'a>(taken: &Taken, used: &'a Use, first: &mut Option<Disowned<'a>>)
     ensures { Finds first.old first.new
         (why_int (taken_of taken.now) touch.Read (use_of used.now)) }
@@ -184,7 +186,7 @@ fn of_read<'a>(taken: &Taken, used: &'a Use, first: &mut Option<Disowned<'a>>)
     of_holder(taken, used, Touch::Read, taken.int_holder(used.slot), first);
 }
 
-// An array that is read is taken.
+// Checks a read of an array: it must not be taken.
 fn of_taken<'a>(taken: &Taken, used: &'a Use, first: &mut Option<Disowned<'a>>)
     ensures { Finds first.old first.new (why_taken (taken_of taken.now) (use_of used.now)) }
 {
@@ -197,7 +199,7 @@ fn of_taken<'a>(taken: &Taken, used: &'a Use, first: &mut Option<Disowned<'a>>)
     );
 }
 
-// An array that is read as a whole is taken, or from outside the loop.
+// Checks a read of a whole array: it must be neither taken nor from outside the loop.
 fn of_lent<'a>(
     around: &Option<Loop<'a>>,
     taken: &Taken,
@@ -210,7 +212,7 @@ fn of_lent<'a>(
     of_outer_array(around, Touch::Read, used, first);
 }
 
-// An integer that is written is taken, or from outside the loop.
+// Checks a write to an integer: it must be neither taken nor from outside the loop.
 fn of_write<'a>(
     around: &Option<Loop<'a>>,
     taken: &Taken,
@@ -230,7 +232,8 @@ fn of_write<'a>(
     of_outer_int(around, used, first);
 }
 
-// An array that is given away, cut or named in the head of a loop is held, or from outside the loop around.
+// Checks an array that is given away, cut or named in the head of a loop: it must be neither held nor from outside
+// the loop.
 fn of_whole<'a>(
     around: &Option<Loop<'a>>,
     taken: &Taken,
@@ -245,7 +248,7 @@ fn of_whole<'a>(
     of_outer_array(around, touch, used, first);
 }
 
-// The integer that a result goes to may not be written, if there is one.
+// Checks the integer that receives a result, if there is one.
 fn of_target<'a>(
     around: &Option<Loop<'a>>,
     taken: &Taken,
@@ -260,7 +263,7 @@ fn of_target<'a>(
     }
 }
 
-// An argument may not be read, or passed.
+// Checks an argument.
 fn of_argument<'a>(
     around: &Option<Loop<'a>>,
     taken: &Taken,
@@ -277,7 +280,7 @@ fn of_argument<'a>(
     }
 }
 
-// The first argument that may not be.
+// Checks arguments in order.
 fn of_arguments<'a>(
     around: &Option<Loop<'a>>,
     taken: &Taken,
@@ -292,7 +295,7 @@ fn of_arguments<'a>(
     }
 }
 
-// What is returned may not be read, if anything is returned.
+// Checks the expression of a return, if there is one.
 fn of_return<'a>(
     around: &Option<Loop<'a>>,
     taken: &Taken,
@@ -307,7 +310,7 @@ fn of_return<'a>(
     }
 }
 
-// An array is given away twice.
+// Returns a reason if an array is given away twice.
 fn given_twice<'a>(callee: &'a Listed, es: &'a [Argument]) -> Option<Disowned<'a>>
     requires { list_all small_argument (map argument_of es.now) ≡ true }
     ensures { told_of result ≡ why_twice (listed_of callee.now) no_slot (map argument_of es.now) }
@@ -324,7 +327,7 @@ fn given_twice<'a>(callee: &'a Listed, es: &'a [Argument]) -> Option<Disowned<'a
     None
 }
 
-// The arrays that are given away.
+// Returns the arrays that are given away.
 fn given_away(es: &[Argument]) -> Bits
     requires { list_all small_argument (map argument_of es.now) ≡ true }
     ensures { set_of result ≡ given_away (map argument_of es.now) no_slot }
@@ -338,7 +341,7 @@ fn given_away(es: &[Argument]) -> Bits
     given
 }
 
-// One of the arrays that are given away is read besides.
+// Returns a reason if an array that is given away is also passed to be read.
 fn read_too<'a>(callee: &'a Listed, given: &Bits, es: &'a [Argument]) -> Option<Disowned<'a>>
     ensures { told_of result
         ≡ why_read_too (listed_of callee.now) (set_of given.now) (map argument_of es.now) }
@@ -353,7 +356,7 @@ fn read_too<'a>(callee: &'a Listed, given: &Bits, es: &'a [Argument]) -> Option<
     None
 }
 
-// A call breaks a rule.
+// Checks a call.
 #[inline(never)]
 fn of_call<'a>(
     around: &Option<Loop<'a>>,
@@ -371,7 +374,7 @@ fn of_call<'a>(
     of_found(read_too(&call.callee, &given, &call.arguments), first);
 }
 
-// A loop is over an array twice.
+// Returns a reason if a loop is over an array twice.
 fn over_twice<'a>(uses: &'a [Use]) -> Option<Disowned<'a>>
     requires { list_all is_small (map use_of uses.now) ≡ true }
     ensures { told_of result ≡ why_over_twice no_slot (map use_of uses.now) }
@@ -386,7 +389,7 @@ fn over_twice<'a>(uses: &'a [Use]) -> Option<Disowned<'a>>
     None
 }
 
-// The first array of a loop that may not be named in its head.
+// Checks the arrays of a loop in order.
 fn of_over<'a>(
     around: &Option<Loop<'a>>,
     taken: &Taken,
@@ -401,7 +404,7 @@ fn of_over<'a>(
     }
 }
 
-// The head of a loop breaks a rule.
+// Checks the head of a loop.
 #[inline(never)]
 fn of_head<'a>(
     around: &Option<Loop<'a>>,
@@ -420,7 +423,7 @@ fn of_head<'a>(
     of_found(over_twice(&head.over), first);
 }
 
-// A cut breaks a rule.
+// Checks a cut.
 fn of_cut<'a>(
     around: &Option<Loop<'a>>,
     taken: &Taken,
@@ -433,7 +436,7 @@ fn of_cut<'a>(
     of_whole(around, taken, Touch::Cut, &cut.array, first);
 }
 
-// An assignment to an element breaks a rule: first by what is written, then by what is read.
+// Checks an assignment to an element: first the written array, then the expressions that are read.
 fn of_element<'a>(
     around: &Option<Loop<'a>>,
     taken: &Taken,
@@ -458,7 +461,7 @@ fn of_element<'a>(
     of_expr(around, taken, e, first);
 }
 
-/// The first rule that a statement breaks, but for what stands in its blocks, where none was broken before.
+/// Records the first rule that a statement breaks, apart from its inner blocks, unless a rule was recorded before.
 pub fn of_stmt<'a>(
     around: &Option<Loop<'a>>,
     taken: &Taken,

@@ -2,7 +2,7 @@
 
 use cw_tree::resolved::{Listed, Use};
 
-/// What a statement does with a name.
+/// Represents a use of a name by a statement.
 #[derive(Clone, Copy)]
 pub enum Touch {
     Read,
@@ -12,7 +12,8 @@ pub enum Touch {
     NamedInOver,
 }
 
-/// What holds a name: a spawn, for its result, as an array that it is given or as one that it only reads; or a cut.
+/// Represents the holder of a name: a spawn, for its result, for an array that it is given or for an array that it
+/// only reads; or a cut.
 #[derive(Clone, Copy)]
 pub enum Holder {
     Result,
@@ -21,32 +22,34 @@ pub enum Holder {
     Cut,
 }
 
-/// Since which line something is held.
+/// Represents the start of holding a name.
 #[derive(Clone, Copy)]
 pub struct Start {
     pub line: u32,
-    /// By a spawn of a sync block around the one where it is touched, which a `cilk_sync` there does not join.
+    /// Whether the holder is a spawn of an enclosing sync block, which a `cilk_sync` at the use does not join.
     pub is_around: bool,
 }
 
-/// A rule of ownership that is broken, with the names that it is broken for.
+/// Represents a broken rule of ownership, with the names that break it.
 #[derive(Clone, Copy)]
 pub enum Disowned<'a> {
-    /// A name is touched while something holds it, since this line where that is watched.
+    /// A name is touched while it is held; the start is known for the watched local.
     Held(&'a Use, Touch, Holder, Option<Start>),
-    /// A name of a block is still held as the block ends, since this line where that is watched.
+    /// A name of a block is still held at the end of the block; the start is known for the watched local.
     EndsHeld(&'a Use, Holder, Option<Start>),
-    /// A call of this function is given one array twice.
+    /// A call gives this function one array twice.
     GivenTwice(&'a Use, &'a Listed),
-    /// A call of this function is given an array, and reads it besides.
+    /// A call gives an array to this function, and also passes it to be read.
     GivenAndRead(&'a Use, &'a Listed),
-    /// A loop is over one array twice.
+    /// A loop is over the same array twice.
     OverTwice(&'a Use),
-    /// A loop's body writes an integer from outside, or the variable of the loop, whose head is of this line.
+    /// The body of a loop writes an outer integer or the variable of the loop; the line is the line of the loop's
+    /// head.
     OuterWritten(&'a Use, u32),
-    /// A loop's body touches an array from outside that is none of the loop's, whose head is of this line.
+    /// The body of a loop touches an outer array that is not an array of the loop; the line is the line of the loop's
+    /// head.
     OuterArray(&'a Use, Touch, u32),
-    /// A loop's body touches an array of the loop in another way than at this variable, the index of its turn; the loop's
-    /// head is of this line.
+    /// The body of a loop touches an array of the loop other than at this variable, the index of the iteration; the
+    /// line is the line of the loop's head.
     OtherElement(&'a Use, Touch, &'a Use, u32),
 }

@@ -6,7 +6,7 @@ ghost use Rattle.cw_own.specs.Sets.{no_local, with_int, with_array, either_row, 
 
 use crate::bits::Bits;
 
-/// A set of locals, by the slots of its integers and of its arrays: eight words of 64 bits.
+/// Represents a set of locals by the slots of its integers and of its arrays: eight words of 64 bits.
 #[derive(Clone, Copy)]
 pub struct Row {
     pub ints: Bits,
@@ -14,7 +14,7 @@ pub struct Row {
 }
 
 impl Row {
-    /// No local.
+    /// Returns the empty set.
     pub fn none() -> Row
         ensures { row_of result ≡ no_local }
     {
@@ -24,7 +24,7 @@ impl Row {
         }
     }
 
-    /// One integer more.
+    /// Adds an integer.
     pub fn add_int(&mut self, slot: u32)
         requires { slot < MOST_DECLARED }
         ensures { row_of self.new ≡ with_int slot (row_of self.old) }
@@ -32,7 +32,7 @@ impl Row {
         self.ints.add(slot);
     }
 
-    /// One array more.
+    /// Adds an array.
     pub fn add_array(&mut self, slot: u32)
         requires { slot < MOST_DECLARED }
         ensures { row_of self.new ≡ with_array slot (row_of self.old) }
@@ -40,7 +40,7 @@ impl Row {
         self.arrays.add(slot);
     }
 
-    /// The locals of one of two rows.
+    /// Returns the union of two sets.
     pub fn either(&self, other: &Row) -> Row
         ensures { row_of result ≡ either_row (row_of self.now) (row_of other.now) }
     {
@@ -50,7 +50,7 @@ impl Row {
         }
     }
 
-    /// The locals of both rows.
+    /// Returns the intersection of two sets.
     pub fn both(&self, other: &Row) -> Row
         ensures { row_of result ≡ both_rows (row_of self.now) (row_of other.now) }
     {

@@ -1,4 +1,4 @@
-//! Which lines break a rule of ownership.
+//! Finds the lines that break a rule of ownership.
 
 ghost use Rattle.std.specs.Prelude.{◌≡◌, ◌∷◌, ◌<◌, length, drop, true};
 ghost use Rattle.cw_tree.specs.ResolvedView.{use_of, stmt_of, block_of};
@@ -23,14 +23,14 @@ use crate::taken::Taken;
 use crate::told::Told;
 use cw_tree::resolved::{Cut, Head, Line, Stmt, Use};
 
-/// What one turn of each `while` holds that is still to come, in order.
+/// Holds the locals that one iteration of each remaining `while` holds, in order.
 #[derive(Drop)]
 pub struct Turns<'a> {
     pub left: &'a [Held],
 }
 
 impl<'a> Turns<'a> {
-    // What a turn of the next `while` holds.
+    // Removes and returns the locals that an iteration of the next `while` holds.
     fn next(&mut self) -> &'a Held
         requires { 0 < length self.old.left.now }
         ensures { rows_of self.old.left.now ≡ held_of result.now ∷ rows_of self.new.left.now }
@@ -41,7 +41,8 @@ impl<'a> Turns<'a> {
     }
 }
 
-// What the test and the body of a `while` see as held: also what a turn holds. Another statement sees what is held.
+// Adds, for a `while`, the locals that an iteration holds: its test and its body see them as held. For any other
+// statement, `taken` is unchanged.
 fn see(known: &Row, taken: &mut Taken, stmt: &Stmt, rest: &mut Turns<'_>)
     requires { BeginWith (turns_of known.now stmt.now) (rows_of rest.old.left.now) }
     ensures seen { taken_of taken.new ≡ sees known.now taken.old stmt.now }
@@ -72,7 +73,7 @@ fn see(known: &Row, taken: &mut Taken, stmt: &Stmt, rest: &mut Turns<'_>)
     }
 }
 
-// A name ends while this holds it.
+// Returns a reason if a name whose scope ends is held.
 fn ends<'a>(taken: &Taken, used: &'a Use, holder: Option<Holder>) -> Option<Disowned<'a>>
     ensures { told_of result ≡ ends_by (use_of used.now) holder }
 {
@@ -82,7 +83,7 @@ fn ends<'a>(taken: &Taken, used: &'a Use, holder: Option<Holder>) -> Option<Diso
     }
 }
 
-// The name that a statement declares is held as its block ends.
+// Returns a reason if the name that a statement declares is held at the end of its block.
 fn of_end<'a>(taken: &Taken, stmt: &'a Stmt) -> Option<Disowned<'a>>
     ensures { told_of result ≡ why_left (taken_of taken.now) (stmt_of stmt.now) }
 {
@@ -93,7 +94,7 @@ fn of_end<'a>(taken: &Taken, stmt: &'a Stmt) -> Option<Disowned<'a>>
     }
 }
 
-// Notes the declarations of a block whose names are held as it ends.
+// Records the declarations of a block whose names are held at its end.
 fn note_left<'a>(taken: &Taken, lines: &'a [Line], told: &mut Told<'a>)
     ensures { Noted told.old told.new (still_taken taken.now lines.now) }
 {
@@ -102,7 +103,7 @@ fn note_left<'a>(taken: &Taken, lines: &'a [Line], told: &mut Told<'a>)
     }
 }
 
-// Notes the lines of these statements that break a rule, and holds what is held after them.
+// Records the lines of these statements that break a rule; `taken` becomes the locals held after them.
 #[cycle(rules)]
 #[tactic(auto, using(crate::proofs::Small::kept_append))]
 fn note_all<'a>(
@@ -132,7 +133,8 @@ fn note_all<'a>(
     }
 }
 
-// Notes the lines of a block that break a rule, where it joins no spawn at its end, and holds what is held at its end.
+// Records the lines that break a rule in a block that joins no spawn at its end; `taken` becomes the locals held at
+// its end.
 #[cycle(rules)]
 #[tactic(auto, using(crate::proofs::Small::kept_append))]
 fn note_block<'a>(
@@ -154,7 +156,8 @@ fn note_block<'a>(
     note_left(taken, lines, told);
 }
 
-/// Notes the lines of a sync block that break a rule, and holds what is held once it has joined its spawns.
+/// Records the lines of a sync block that break a rule; `taken` becomes the locals held after it has joined its
+/// spawns.
 #[cycle(rules)]
 #[tactic(auto, using(crate::proofs::Small::kept_append))]
 pub fn note_sync_block<'a>(
@@ -178,7 +181,7 @@ pub fn note_sync_block<'a>(
     note_left(taken, lines, told);
 }
 
-// Notes the lines that break a rule of an `if` with this block, and holds what is held behind it.
+// Records the lines that break a rule in an `if` with this block; `taken` becomes the locals held after it.
 #[cycle(rules)]
 #[tactic(auto, using(crate::proofs::Small::kept_append))]
 fn note_if<'a>(
@@ -201,7 +204,7 @@ fn note_if<'a>(
     taken.here = branch.here.within(known, &told.watch).either(&taken.here);
 }
 
-// The same of a statement with two branches.
+// Records the lines that break a rule in a statement with two branches; `taken` becomes the locals held after it.
 #[cycle(rules)]
 #[tactic(auto, using(crate::proofs::Small::kept_append))]
 fn note_either<'a>(
@@ -245,7 +248,8 @@ fn note_either<'a>(
     }
 }
 
-// The same of a `while` with this block, which sees all that is held behind it.
+// Records the lines that break a rule in a `while` with this block; `taken` already contains all locals held after
+// the loop.
 #[cycle(rules)]
 fn note_while<'a>(
     around: &Option<Loop<'a>>,
@@ -265,7 +269,7 @@ fn note_while<'a>(
     note_block(around, known, &mut inside, lines, rest, told);
 }
 
-// The same of a sync block inside another.
+// Records the lines that break a rule in an inner sync block; `taken` becomes the locals held after it.
 #[cycle(rules)]
 fn note_scope<'a>(
     around: &Option<Loop<'a>>,
@@ -287,7 +291,8 @@ fn note_scope<'a>(
     taken.cuts = inside.cuts;
 }
 
-// The same of a loop with this head, of this line.
+// Records the lines that break a rule in a loop with this head in this line; `taken` becomes the locals held after
+// it.
 #[cycle(rules)]
 fn note_for<'a>(
     known: &Row,
@@ -313,7 +318,8 @@ fn note_for<'a>(
     note_scope(&around, &known, taken, lines, rest, told);
 }
 
-// The same of a cut, in whose block its parts are known.
+// Records the lines that break a rule in a cut, whose parts are known in its block; `taken` becomes the locals held
+// after it.
 #[cycle(rules)]
 fn note_cut<'a>(
     around: &Option<Loop<'a>>,
@@ -343,7 +349,8 @@ fn note_cut<'a>(
     taken.cuts = inside.cuts;
 }
 
-// Notes the lines in the blocks of a statement that break a rule, and holds what is held after the statement.
+// Records the lines that break a rule in the inner blocks of a statement; `taken` becomes the locals held after the
+// statement.
 #[cycle(rules)]
 #[tactic(auto, using(crate::proofs::Small::kept_append))]
 fn note_within<'a>(

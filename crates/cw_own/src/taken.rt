@@ -1,4 +1,4 @@
-//! What is taken, and what is frozen.
+//! The locals that are taken or frozen.
 
 ghost use Rattle.std.specs.Prelude.{◌≡◌, ◌<◌};
 ghost use Rattle.cw_model.specs.declared.limits.TheConstants.{MOST_DECLARED};
@@ -12,21 +12,21 @@ use crate::reason::{Holder, Start};
 use crate::row::Row;
 use crate::told::Watch;
 
-/// What is held: by spawns of the sync blocks around the innermost one, by the spawns of that one, and the arrays that
-/// are cut.
+/// Holds what is held by the spawns of the enclosing sync blocks, what is held by the spawns of the innermost sync
+/// block, and the arrays that are cut.
 ///
-/// A join frees only what the spawns of its own sync block hold, so that inside a sync block the first part stays as it
-/// is, and behind it the parts are again those of before.
+/// A join frees only what the spawns of its own sync block hold. So the first part does not change inside a sync
+/// block, and after the sync block the parts are again what they were before it.
 #[derive(Clone, Copy)]
 pub struct Taken {
     pub outer: Held,
     pub here: Held,
     pub cuts: Bits,
-    /// Since which line the local that is watched is cut.
+    /// The line since which the watched local is cut.
     pub cut_since: Option<u32>,
 }
 
-// Since which line something is held, by spawns of sync blocks around the innermost one, or else by what is in that.
+// Returns the start of holding by a spawn of an enclosing sync block, or otherwise by a holder in the innermost one.
 fn since(outer: Option<u32>, here: Option<u32>) -> Option<Start> {
     let line = outer.or(here)?;
     let is_around = outer.is_some();
@@ -34,7 +34,7 @@ fn since(outer: Option<u32>, here: Option<u32>) -> Option<Start> {
 }
 
 impl Taken {
-    /// Nothing is held.
+    /// Returns a value that holds nothing.
     pub fn nothing() -> Taken
         ensures { taken_of result ≡ nothing }
     {
@@ -46,7 +46,7 @@ impl Taken {
         }
     }
 
-    /// What took an integer, if something did.
+    /// Returns the holder that took an integer, if it is taken.
     pub fn int_holder(&self, slot: u32) -> Option<Holder>
         ensures { result ≡ int_holder (taken_of self.now) slot }
     {
@@ -56,7 +56,7 @@ impl Taken {
         None
     }
 
-    /// What took an array, if something did: what only reads it did not.
+    /// Returns the holder that took an array, if it is taken; a spawn that only reads an array does not take it.
     pub fn array_taker(&self, slot: u32) -> Option<Holder>
         ensures { result ≡ array_taker (taken_of self.now) slot }
     {
@@ -69,7 +69,7 @@ impl Taken {
         None
     }
 
-    // What only reads an array, if something does.
+    // Returns the holder that only reads an array, if there is one.
     fn array_reader(&self, slot: u32) -> Option<Holder>
         ensures { result ≡ array_reader (taken_of self.now) slot }
     {
@@ -79,14 +79,14 @@ impl Taken {
         None
     }
 
-    /// What holds an array, if something does.
+    /// Returns the holder of an array, if it is held.
     pub fn array_holder(&self, slot: u32) -> Option<Holder>
         ensures { result ≡ array_holder (taken_of self.now) slot }
     {
         self.array_taker(slot).or(self.array_reader(slot))
     }
 
-    /// Since which line this holds the local that is watched.
+    /// Returns the start of this holder's hold on the watched local.
     pub fn since(&self, holder: Holder) -> Option<Start> {
         match holder {
             Holder::Result | Holder::Argument => {
@@ -97,7 +97,7 @@ impl Taken {
         }
     }
 
-    /// What is held as a sync block begins.
+    /// Returns the locals held at the start of a sync block.
     pub fn inside(&self) -> Taken
         ensures { taken_of result ≡ inside (taken_of self.now) }
     {
@@ -108,14 +108,14 @@ impl Taken {
         }
     }
 
-    /// A join, and the end of a sync block: nothing is held by its own spawns.
+    /// Applies a join or the end of a sync block: its own spawns hold nothing then.
     pub fn join(&mut self)
         ensures { taken_of self.new ≡ joined (taken_of self.old) }
     {
         self.here.clear();
     }
 
-    /// What is held after two branches: what one of them leaves held, of the locals that are known.
+    /// Returns the locals held after two branches: the known locals that either branch leaves held.
     pub fn after_branches(known: &Row, branch: &Taken, other: &Taken, watch: &Watch) -> Taken
         ensures { taken_of result
             ≡ after_branches (row_of known.now) (taken_of branch.now) (taken_of other.now) }
@@ -128,7 +128,7 @@ impl Taken {
         }
     }
 
-    /// What is held as the block of a cut of this array begins.
+    /// Returns the locals held at the start of the block of a cut of this array.
     pub fn inside_cut(&self, array: u32, watch: &Watch) -> Taken
         requires { array < MOST_DECLARED }
         ensures { taken_of result ≡ inside_cut array (taken_of self.now) }

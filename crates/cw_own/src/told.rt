@@ -1,4 +1,4 @@
-//! The lines that break a rule, and which.
+//! The lines that break a rule, with the rules.
 
 ghost use Rattle.std.specs.Prelude.{◌≡◌, Some};
 ghost use Rattle.cw_reasons.specs.Told.{no_place};
@@ -9,14 +9,14 @@ use crate::reason::{Disowned, Holder, Start};
 use crate::row::Row;
 use cw_reasons::Reasons;
 
-/// A local, of which it is asked since which line it is held.
+/// Represents a local whose start of being held is asked for.
 #[derive(Clone, Copy)]
 pub enum Local {
     Int(u32),
     Array(u32),
 }
 
-/// The local that is watched, if one is, and the line of the statement that is looked at.
+/// Holds the watched local, if there is one, and the line of the current statement.
 #[derive(Clone, Copy)]
 pub struct Watch {
     pub local: Option<Local>,
@@ -24,12 +24,12 @@ pub struct Watch {
 }
 
 impl Watch {
-    /// Watches a local.
+    /// Returns a value that watches this local.
     pub fn new(local: Option<Local>) -> Watch {
         Watch { local, line: 0 }
     }
 
-    /// Whether this integer is watched.
+    /// Reports whether this integer is watched.
     pub fn is_int(&self, slot: u32) -> bool {
         match self.local {
             Some(Local::Int(watched)) => slot == watched,
@@ -37,7 +37,7 @@ impl Watch {
         }
     }
 
-    /// Whether this array is watched.
+    /// Reports whether this array is watched.
     pub fn is_array(&self, slot: u32) -> bool {
         match self.local {
             Some(Local::Array(watched)) => slot == watched,
@@ -45,7 +45,7 @@ impl Watch {
         }
     }
 
-    // Since which line the local of a slot is held, where it is watched.
+    // Returns the start of holding the local with this slot, if the local is watched.
     fn since(&self, slot: u32, holder: Holder, since: Option<Start>) -> Option<Start> {
         let is_watched = match holder {
             Holder::Result => self.is_int(slot),
@@ -57,7 +57,7 @@ impl Watch {
         None
     }
 
-    // The same reason, which tells since which line of what is watched alone.
+    // Returns the same reason, with a start only if it concerns the watched local.
     fn told<'a>(&self, reason: Disowned<'a>) -> Disowned<'a>
         ensures { reason_of result ≡ reason_of reason.entry }
     {
@@ -75,7 +75,7 @@ impl Watch {
         }
     }
 
-    /// Whether what is watched is one of these locals.
+    /// Reports whether the watched local is one of these locals.
     pub fn is_in(&self, known: &Row) -> bool {
         match self.local {
             Some(Local::Int(slot)) => known.ints.has(slot),
@@ -85,7 +85,7 @@ impl Watch {
     }
 }
 
-/// The least lines so far that break a rule, each with the first rule that it breaks; and what is watched.
+/// Holds the least lines so far that break a rule, each with the first rule that it breaks, and the watched local.
 #[derive(Drop)]
 pub struct Told<'a> {
     pub reasons: Reasons<Disowned<'a>>,
@@ -93,7 +93,7 @@ pub struct Told<'a> {
 }
 
 impl<'a> Told<'a> {
-    /// None so far, where this local is watched.
+    /// Returns a value without lines that watches this local.
     pub fn new(local: Option<Local>) -> Told<'a>
         ensures { places_told result ≡ no_place }
     {
@@ -103,7 +103,7 @@ impl<'a> Told<'a> {
         }
     }
 
-    /// One line more, where it breaks a rule.
+    /// Records a line if it breaks a rule.
     #[inline(always)]
     pub fn note(&mut self, found: Option<Disowned<'a>>, line: u32)
         ensures { Noted self.old self.new (reasons_at line (told_of found.entry)) }
@@ -113,7 +113,7 @@ impl<'a> Told<'a> {
         }
     }
 
-    // One line more, which breaks this rule.
+    // Records a line that breaks this rule.
     #[inline(never)]
     fn keep(&mut self, reason: Disowned<'a>, line: u32)
         ensures { Noted self.old self.new (reasons_at line (Some (reason_of reason.entry))) }

@@ -21,7 +21,7 @@ use Rattle.cw_parse.proofs.Openings.{OpeningBy, opening_branch, Headed, headed, 
 abbrev no_else : Against (is_mark mark.Else) (but mark.Else)
 no_else = against mark.Else
 
--- a statement beside its line
+-- a statement with its line
 abbrev with_line : Token → Stmt × ℕ → Line × ℕ
 with_line t y = ((t.line, y.0), y.1)
 
@@ -30,11 +30,11 @@ module _ (text : List ℕ) where
   abbrev pub Lines : ℕ → List Token → Block × ℕ → List Token → Type 0
   Lines site ts y rest = ReadsStmts text site ts y.0 y.1 rest
 
-  -- a statement beside its line
+  -- a statement with its line, as a relation
   pub data Lined (site : ℕ) : List Token → Line × ℕ → List Token → Type 0 where
     lined : {m : ℕ} {t : Token} {ts rest : List Token} {s : Stmt} → ReadsStmt text site (t ∷ ts) s m rest → Lined site (t ∷ ts) ((t.line, s), m) rest
 
-  -- ---- one statement, where blocks are read by `inner`
+  -- ---- one statement; `inner` reads its blocks
 
   module _ (U : Type 0) (n : ℕ) (inner : ℕ → Reader (Block × ℕ)) (blocks : (site : ℕ) → Exact U n (Lines site) any (inner site)) where
     abbrev lines_piece : ℕ → Piece U n any (Block × ℕ)
@@ -95,7 +95,7 @@ module _ (text : List ℕ) where
     StmtBy site t kind.Return = SimpleBy text site t kind.Return
     StmtBy site t _ = λ ts y rest. ⊥
 
-    -- a statement with a block behind its opening
+    -- a statement with a block, after its first token
     from_opening : (site : ℕ) (t : Token) (R : List Token → Opening → List Token → Type 0) (f : Reader Opening) → Branch U n R any t f
         → Branch U n (Seq R (λ o. Seq (Lines site) (λ b. FramedBy o b.0 b.1))) (but mark.Else) t (λ ts. f ts >>= λ o. inner site o.1 >>= λ b. framed_by inner o.0 b.0.0 b.0.1 b.1)
     from_opening site t R f (inl x) = inl (opened >>> λ o. lines_piece site >>> λ b. framed_by_piece o b.0 b.1).exact
@@ -108,7 +108,7 @@ module _ (text : List ℕ) where
       never = λ ts b rest d. x.never ts d.0 d.1 d.2;
     })
 
-    -- a statement without a block behind its first token
+    -- a statement without a block, after its first token
     from_simple : (t : Token) (R : List Token → Stmt × ℕ → List Token → Type 0) (f : Reader (Stmt × ℕ)) → Branch U n R any t f → Branch U n R (but mark.Else) t (λ ts. f ts >>= λ x. unanswered x.0 x.1)
     from_simple t R f (inl x) = inl (guard_exact (is_mark mark.Else) (but mark.Else) no_else U n R f x)
     from_simple t R f (inr x) = inr (record { stops = λ ts. ap (λ r. r >>= λ x. unanswered x.0 x.1) (x.stops ts); never = x.never })
@@ -233,7 +233,7 @@ module _ (text : List ℕ) where
     stmt_out {site} {t = t} (grammar.print i r i' i'') = simple_out text t (grammar.print i r i' i'') tt
     stmt_out {site} {t = t} (grammar.give r) = simple_out text t (grammar.give r) tt
 
-    -- ---- a statement beside its line, and where it may begin
+    -- ---- a statement with its line, and the tokens that it may begin with
 
     lined_into : (site : ℕ) (t : Token) (us : List Token) (x : Line × ℕ) (rest : List Token) → Seq (By site t t.kind) (λ y. Done (with_line t y)) us x rest → Lined site (t ∷ us) x rest
     lined_into site t us x rest (y, vs, d, done) = lined (grammar.begins refl (stmt_into site t t.kind us y rest d))
@@ -269,7 +269,7 @@ module _ (text : List ℕ) where
     line_up_halts site [] x rest few e = absurd cc
     line_up_halts site (t ∷ ts) x rest few e = map_halts n (but mark.Else) (stmt text n inner site t t.kind) (with_line t) (stmt_halts U n inner blocks site t t.kind) ts x rest (omega arith) e
 
-  -- a kind that a statement begins with
+  -- the kinds that a statement begins with
   abbrev starts : Kind → Bool
   starts kind.Int = true
   starts kind.Name = true
@@ -336,7 +336,7 @@ module _ (text : List ℕ) where
   some_lined : (site : ℕ) → SomeText (Lined site)
   some_lined site = record { text = token_of kind.Sync ∷ token_of kind.Semicolon ∷ []; value = ((0, tree.Sync), site); reads = λ after. lined (grammar.begins refl (grammar.sync refl)) }
 
-  -- a reader of statements that is exact, and where it halts
+  -- a reader of statements is exact, and it halts
   abbrev Level : ℕ → (ℕ → Reader (Line × ℕ)) → Type 0
   Level n f = (site : ℕ) → Exact OneWay n (Lined site) (but mark.Else) (f site) × Halts n (but mark.Else) (f site)
 

@@ -1,4 +1,4 @@
--- A call, or what is none: a call begins with a name and an opening parenthesis.
+-- Calls and other parts: a call begins with a name and an opening parenthesis.
 use Rattle.std.proofs.Common.{◌≡◌, ℕ, ◌≤◌, Bool, true, false, cond, List, [], ◌∷◌, ◌++◌, length as len, Ok, Err, refl, sym, ap, ◌∙◌, ◌⊎◌, inl, inr}
 use Rattle.cw_model.specs.declared.token.Token.{Token}
 use Rattle.cw_model.specs.declared.token.Kind.TheVariants as kind
@@ -11,7 +11,7 @@ use Rattle.cw_parse.proofs.Exact.{Exact, any, any_stops, mark as token_of, diffe
 use Rattle.cw_parse.proofs.MarkKinds.{passes}
 use Rattle.cw_parse.proofs.Pieces.{Marked}
 
--- a name and an opening parenthesis stand in front
+-- the tokens begin with a name and an opening parenthesis
 pub data Opens : List Token → Type 0 where
   opens : {t u : Token} {ts : List Token} → t.kind ≡ kind.Name → u.kind ≡ kind.LeftParen → Opens (t ∷ u ∷ ts)
 
@@ -30,7 +30,7 @@ is_opens (t ∷ u ∷ ts) e = go (is_mark mark.Name t.kind) refl e
 module _ (U : Type 0) {A : Type 0} (n : ℕ) (G : Token → List Token → A → List Token → Type 0) (Q : List Token → A → List Token → Type 0) (f g : Reader A)
     (some_call : (t : Token) → SomeText (G t)) (some_other : (t : Token) → t.kind ≡ kind.Name → SomeText (λ ts. Q (t ∷ ts)))
     (apart : (ts : List Token) (b : A) (rest : List Token) → Opens ts → Q ts b rest → ⊥) where
-  -- a call
+  -- the relation of a call
   abbrev pub P : List Token → A → List Token → Type 0
   P = Seq (Marked mark.Name) (λ f. Seq (Marked mark.LeftParen) (λ (_ : Token). G f))
 
@@ -43,7 +43,7 @@ module _ (U : Type 0) {A : Type 0} (n : ℕ) (G : Token → List Token → A →
   abbrev either : Reader A
   either ts = cond (is_call ts) (f ts) (g ts)
 
-  -- a call goes on behind its name
+  -- a name can be continued to a call
   call_alive : (t : Token) → t.kind ≡ kind.Name → (vs : List Token) × (b : A) × P (t ∷ vs) b []
   call_alive t is = let x = some_call t in (
     token_of kind.LeftParen ∷ (x.text ++ []),
@@ -51,7 +51,7 @@ module _ (U : Type 0) {A : Type 0} (n : ℕ) (G : Token → List Token → A →
     (t, token_of kind.LeftParen ∷ (x.text ++ []), tok is, (token_of kind.LeftParen, x.text ++ [], tok refl, x.reads [])),
   )
 
-  -- the rest of tokens that open a call begins behind the name
+  -- if a call is stuck at the token `w`, tokens that open a call still open one with any tokens after `w`
   no_call_dead : (ts front rest : List Token) → ts ≡ front ++ rest → Opens ts → (w : Token) (us : List Token) → rest ≡ w ∷ us
       → ((vs : List Token) (b : A) (after : List Token) → P (front ++ w ∷ vs) b after → ⊥) → (vs : List Token) → Opens (front ++ w ∷ vs)
   no_call_dead ts [] rest e o w us is dead vs = absurd (alive (e ∙ is) o)
@@ -67,7 +67,8 @@ module _ (U : Type 0) {A : Type 0} (n : ℕ) (G : Token → List Token → A →
       two : {zs : List Token} → zs ≡ x ∷ z ∷ (front ++ rest) → Opens zs → Opens (x ∷ z ∷ (front ++ w ∷ vs))
       two h (opens {t = t} {u = u} i i') = let a : t ≡ x = cc in let b : u ≡ z = cc in opens (ap (λ (y : Token). y.kind) (sym a) ∙ i) (ap (λ (y : Token). y.kind) (sym b) ∙ i')
 
-  -- tokens that open a call where another part is stuck opened it before
+  -- if another part is stuck at the token `w`, tokens that open a call with other tokens after `w` also open one with
+  -- their own
   no_other_dead : (ts front rest : List Token) → ts ≡ front ++ rest → (w : Token) (us : List Token) → rest ≡ w ∷ us
       → ((vs : List Token) (b : A) (after : List Token) → Q (front ++ w ∷ vs) b after → ⊥) → (vs : List Token) → Opens (front ++ w ∷ vs) → Opens ts
   no_other_dead ts [] rest e w us is dead vs (opens i i') = absurd (let x = some_other w i in dead (x.text ++ []) x.value [] (x.reads []))

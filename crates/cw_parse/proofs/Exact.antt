@@ -1,4 +1,4 @@
--- Readers that read exactly what a relation reads, put together from smaller ones.
+-- Readers that are exact for a relation, composed from smaller ones.
 use Rattle.std.proofs.Common.{◌≡◌, ℕ, suc, ◌<◌, ◌≤◌, Bool, true, false, cond, List, [], ◌∷◌, ◌++◌, length as len, Ok, Err, refl, sym, ap, subst, ◌∙◌, append_assoc, arith, ◌⊎◌, inl, inr}
 use Rattle.cw_model.specs.declared.token.Token.{Token}
 use Rattle.cw_model.specs.declared.token.Kind.{Kind}
@@ -6,11 +6,11 @@ use Rattle.cw_parse.specs.Reading.{Read, Reader, ◌>>=◌, token, by_first, if_
 use Rattle.cw_parse.proofs.Reader.{Stops, Front, IsUnique, SomeText, Seq, Tok, tok, Done, done, Stuck, Follows, shorter, stuck_left}
 use Rattle.cw_parse.proofs.Reader.{stuck_right, stuck_behind, stuck_here, bind_ok, bind_err, ok_is, seq_text}
 
--- a token of a kind
+-- a token of this kind
 abbrev pub mark : Kind → Token
 mark k = record { kind = k; start = 0; end = 0; line = 0 }
 
--- any token, and the end, stops a part that ends by itself
+-- every kind of token; a part that ends by itself may be followed by any token
 abbrev pub any : Kind → Bool
 any k = true
 
@@ -18,8 +18,8 @@ pub any_stops : (ts : List Token) → Stops any ts
 any_stops [] = tt
 any_stops (t ∷ ts) = refl
 
--- On at most n tokens the reader f reads what R reads where s stops it, and where f stops, R is stuck. Two of the facts
--- rest on U, which says that the relations of a recursion have one way to read.
+-- On at most `n` tokens, the reader `f` reads what `R` reads up to a token that `s` accepts, and if `f` stops, `R` is
+-- stuck. Two of the facts depend on `U`, which says that the relations of a recursion are deterministic.
 pub record Exact (U : Type 0) {A : Type 0} (n : ℕ) (R : List Token → A → List Token → Type 0) (s : Kind → Bool) (f : Reader A) : Type 0 where
   pub some : SomeText R
   pub stable : (ts : List Token) (a : A) (rest : List Token) → len ts ≤ n → R ts a rest → Front R ts a rest
@@ -28,14 +28,14 @@ pub record Exact (U : Type 0) {A : Type 0} (n : ℕ) (R : List Token → A → L
   pub unique : U → IsUnique R s
   pub stuck : U → (ts : List Token) (m : ℕ) → len ts ≤ n → f ts ≡ Err m → Stuck R s ts m
 
--- what the reader f leaves of at most n tokens stops the part that it read
+-- the tokens that `f` leaves, of at most `n` tokens, begin with a token that `s` accepts
 abbrev pub Halts : {A : Type 0} → ℕ → (Kind → Bool) → Reader A → Type 0
 Halts {A} n s f = (ts : List Token) (a : A) (rest : List Token) → len ts ≤ n → f ts ≡ Ok (a, rest) → Stops s rest
 
 pub any_halts : {A : Type 0} (n : ℕ) (f : Reader A) → Halts n any f
 any_halts n f ts a rest le e = any_stops rest
 
--- a test of kinds, and what it tests
+-- the test `p` decides `K`
 pub record Passes (p : Kind → Bool) (K : Kind → Type 0) : Type 0 where
   pub only : (k : Kind) → p k ≡ true → K k
   pub is : (k : Kind) → K k → p k ≡ true
@@ -131,7 +131,7 @@ done_exact U n {A} a = record {
 pub done_rest : {A : Type 0} {a : A} (s : Kind → Bool) (us : List Token) (b : A) (rest : List Token) → Done a us b rest → Stops s rest → Stops s us
 done_rest s us b rest done h = h
 
--- ---- one part after another
+-- ---- sequences of two parts
 
 module _ (U : Type 0) {A B : Type 0} (m n : ℕ) (R : List Token → A → List Token → Type 0) (G : A → List Token → B → List Token → Type 0) (s s' : Kind → Bool) (f : Reader A) (g : A → Reader B)
     (first : Exact U m R s f) (halts : Halts m s f) (second : (a : A) → Exact U n (G a) s' (g a))
@@ -173,13 +173,13 @@ module _ (U : Type 0) {A B : Type 0} (m n : ℕ) (R : List Token → A → List 
     stuck = seq_stuck;
   }
 
--- a part that ends by itself, and another after it
+-- a part that ends by itself, followed by another
 pub after_part : (U : Type 0) (n : ℕ) {A B : Type 0} (R : List Token → A → List Token → Type 0) (f : Reader A) (G : A → List Token → B → List Token → Type 0) (s : Kind → Bool) (g : A → Reader B)
     → Exact U n R any f → ((a : A) → Exact U n (G a) s (g a)) → Exact U n (Seq R G) s (λ ts. f ts >>= λ x. g x.0 x.1)
 after_part U n R f G s g first second =
     seq_exact U n n R G any s f g first (any_halts n f) second (λ ts a rest le d. let x = shorter ts a rest (first.stable ts a rest le d) in omega arith) (λ a us b rest r h. any_stops us)
 
--- a part that ends by itself, where less than any token is to stop it
+-- a part that ends by itself is also exact for a smaller set of following tokens
 pub narrow_exact : (U : Type 0) (n : ℕ) {A : Type 0} (R : List Token → A → List Token → Type 0) (s : Kind → Bool) (f : Reader A) → Exact U n R any f → Exact U n R s f
 narrow_exact U n R s f x = record {
   some = x.some;
@@ -202,7 +202,7 @@ narrow_exact U n R s f x = record {
       dead = λ t us is vs b after r stop. y.dead t us is vs b after r (any_stops after);
     }
 
--- the same readers read what another relation reads
+-- an exact reader of a relation is exact for an equivalent relation
 pub same_exact : (U : Type 0) (n : ℕ) {A : Type 0} (R Q : List Token → A → List Token → Type 0) (s : Kind → Bool) (f : Reader A)
     → ((ts : List Token) (a : A) (rest : List Token) → R ts a rest → Q ts a rest) → ((ts : List Token) (a : A) (rest : List Token) → Q ts a rest → R ts a rest)
     → Exact U n R s f → Exact U n Q s f
@@ -224,7 +224,7 @@ same_exact U n R Q s f into out x = record {
   };
 }
 
--- what a recursion needs is known
+-- an exact reader remains exact under a stronger assumption `V`
 pub given : (U V : Type 0) (n : ℕ) {A : Type 0} (R : List Token → A → List Token → Type 0) (s : Kind → Bool) (f : Reader A) → (V → U) → Exact U n R s f → Exact V n R s f
 given U V n R s f u x = record {
   some = x.some;
@@ -235,7 +235,7 @@ given U V n R s f u x = record {
   stuck = λ v. x.stuck (u v);
 }
 
--- fewer tokens
+-- an exact reader is exact on fewer tokens
 pub fewer_exact : (U : Type 0) (m n : ℕ) {A : Type 0} (R : List Token → A → List Token → Type 0) (s : Kind → Bool) (f : Reader A) → m ≤ n → Exact U n R s f → Exact U m R s f
 fewer_exact U m n R s f small x = record {
   some = x.some;
@@ -246,7 +246,7 @@ fewer_exact U m n R s f small x = record {
   stuck = λ u ts m' le e. x.stuck u ts m' (omega arith) e;
 }
 
--- a reader that stops on no tokens
+-- on 0 tokens, a reader that stops is exact for a relation that needs a token
 pub zero_exact : (U : Type 0) {A : Type 0} (R : List Token → A → List Token → Type 0) (s : Kind → Bool)
     → SomeText R → ((ts : List Token) (a : A) (rest : List Token) → R ts a rest → 0 < len ts) → (U → IsUnique R s) → Exact U 0 R s (λ ts. Err (len ts))
 zero_exact U {A} R s some long unique = record {
@@ -265,7 +265,7 @@ zero_exact U {A} R s some long unique = record {
     none_left [] m le e = subst (λ v. Stuck R s [] v) (err_is 0 m e) (stuck_here R s [] some (λ t us vs b after h r stop. absurd cc))
     none_left (t ∷ ts) m le e = absurd (omega arith)
 
--- two ways to read are one where all lengths have an exact reader
+-- a relation is deterministic if there is an exact reader for each length
 pub one_way : {A : Type 0} (V : ℕ → Type 0) (R : List Token → A → List Token → Type 0) (s : Kind → Bool) (f : ℕ → Reader A) → ((n : ℕ) → Exact (V n) n R s (f n)) → IsUnique R s
 one_way {A} V R s f x ts b c us vs r su q sv =
     let e = (x (len ts)).complete ts b us (omega arith) r su in
@@ -273,9 +273,9 @@ one_way {A} V R s f x ts b c us vs r su q sv =
     let same = ok_is (b, us) (c, vs) (sym e ∙ d) in
     (ap (λ (z : A × List Token). z.0) same, ap (λ (z : A × List Token). z.1) same)
 
--- ---- a value behind which a kind of token cannot stand
+-- ---- a value that a certain kind of token must not follow
 
--- no kind that passes the test stops, and any other does
+-- `s` rejects exactly the kinds that pass `p`
 pub record Against (p s : Kind → Bool) : Type 0 where
   pub on : (k : Kind) → p k ≡ true → s k ≡ false
   pub off : (k : Kind) → p k ≡ false → s k ≡ true
@@ -313,7 +313,7 @@ module _ {A : Type 0} (p s : Kind → Bool) (against : Against p s) where
       let y = bind_ok (f ts) (λ y. unless_next p y.0 y.1) (a, rest) e in
       (unless_ok y.0.0 y.0.1 a rest y.2).1
 
-  -- what goes on behind a token, or is nothing
+  -- an optional part halts where its reader halts
   pub perhaps_halts : (n : ℕ) (f : Token → Reader A) (a : A) → ((t : Token) → Halts n s (f t)) → Halts n s (if_next p f (λ us. Ok (a, us)))
   perhaps_halts n f a x [] b rest le e = let q = ok_is (a, []) (b, rest) e in subst (λ (z : A × List Token). Stops s z.1) q tt
   perhaps_halts n f a x (t ∷ ts) b rest le e = go (p t.kind) refl e
@@ -355,13 +355,13 @@ module _ {A : Type 0} (p s : Kind → Bool) (against : Against p s) where
       ];
     }
 
--- what is read stops where its last part does
+-- mapping the value does not change where a reader halts
 pub map_halts : {A B : Type 0} (n : ℕ) (s : Kind → Bool) (f : Reader A) (h : A → B) → Halts n s f → Halts n s (λ ts. f ts >>= λ x. Ok (h x.0, x.1))
 map_halts {A} {B} n s f h x ts b rest le e =
     let y = bind_ok (f ts) (λ x. Ok (h x.0, x.1)) (b, rest) e in
     subst (λ (z : B × List Token). Stops s z.1) (ok_is (h y.0.0, y.0.1) (b, rest) y.2) (x ts y.0.0 y.0.1 le y.1)
 
--- readers that give the same read the same
+-- a reader that is equal to an exact one at each input is exact
 pub same_reader : (U : Type 0) (n : ℕ) {A : Type 0} (R : List Token → A → List Token → Type 0) (s : Kind → Bool) (f g : Reader A)
     → ((ts : List Token) → g ts ≡ f ts) → Exact U n R s f → Exact U n R s g
 same_reader U n R s f g e x = record {
@@ -378,7 +378,7 @@ same_reader U n R s f g e x = record {
 abbrev pub First : {A : Type 0} → (Token → Kind → List Token → A → List Token → Type 0) → List Token → A → List Token → Type 0
 First {A} B ts a rest = (t : Token) × (us : List Token) × (ts ≡ t ∷ us) × B t t.kind us a rest
 
--- nothing is read behind this token
+-- no text is read after this token
 pub record Refuses {A : Type 0} (R : List Token → A → List Token → Type 0) (t : Token) (f : Reader A) : Type 0 where
   pub stops : (ts : List Token) → f ts ≡ Err (len (t ∷ ts))
   pub never : (ts : List Token) (a : A) (rest : List Token) → R ts a rest → ⊥
@@ -453,12 +453,12 @@ module _ (U : Type 0) {A : Type 0} (n : ℕ) (B : Token → Kind → List Token 
     stuck = stuck_first;
   }
 
--- at a first token of a known kind
+-- a part at a first token whose kind is known
 pub at_first : {A : Type 0} (B : Token → Kind → List Token → A → List Token → Type 0) (t : Token) (k : Kind) → t.kind ≡ k
     → (us : List Token) (a : A) (rest : List Token) → B t k us a rest → First B (t ∷ us) a rest
 at_first B t k is us a rest r = (t, us, refl, subst (λ k. B t k us a rest) (sym is) r)
 
--- ---- one part behind a token, and else another
+-- ---- a choice by the next token
 
 begins_same : (t : Token) (ts front rest : List Token) (u : Token) (us vs : List Token) (w : Token) (ws : List Token) → t ∷ ts ≡ front ++ rest → rest ≡ u ∷ us → front ++ u ∷ vs ≡ w ∷ ws → t ≡ w
 begins_same t ts [] rest u us vs w ws e f g = let h : t ∷ ts ≡ u ∷ us = e ∙ f in let one : t ≡ u = cc in let two : u ≡ w = cc in one ∙ two

@@ -24,7 +24,7 @@ use Rattle.cw_parse.proofs.MarkKinds.{kind_of, passes}
 use Rattle.cw_parse.proofs.Pieces.{Marked, Piece, ◌>>>◌, expect, give, before, perhaps, guard}
 use Rattle.cw_parse.proofs.Operators.{stops, stops_below, operator_stops, operator_on, stops_above, level_of, is_level, operator_ok, Operated, operated}
 
--- an index goes on behind a name
+-- an opening bracket continues a name
 no_index : Against (is_mark mark.LeftBracket) (stops 0)
 no_index = record { on = λ k e. ap (stops 0) ((passes mark.LeftBracket).only k e); off = off }
   where
@@ -34,7 +34,7 @@ no_index = record { on = λ k e. ap (stops 0) ((passes mark.LeftBracket).only k 
     off kind.Plus e = refl
     off _ e = refl
 
--- an operator of a level
+-- an operator of this level
 abbrev Goes : ℕ → Kind → Type 0
 Goes k x = (o : Operator) × (infix_of x ≡ Some (k, o))
 
@@ -67,7 +67,7 @@ module _ (text : List ℕ) where
 
   module _ (U : Type 0) (n k : ℕ) (small : k < 4) (one : U → (d : Expr) → IsUnique (Behind (suc k) d) (stops (suc k))) (next : Reader Expr)
       (lower : Exact U n (At k) (stops k) next) (halts : Halts n (stops k) next) where
-    -- what follows an operator
+    -- the right operand of an operator, and the rest of the chain
     abbrev After : Expr → Token → List Token → Expr → List Token → Type 0
     After d t = Seq (At k) (λ e. Behind (suc k) (tree.Binary (or_plus (at_level (suc k) (infix_of t.kind))) d e))
 
@@ -185,7 +185,7 @@ module _ (text : List ℕ) where
   abbrev OneWay : Type 0
   OneWay = IsUnique (At 0) (stops 0) × ((k : ℕ) → k < 4 → (d : Expr) → IsUnique (Behind (suc k) d) (stops (suc k)))
 
-  -- a reader of a level that is exact, and where it halts
+  -- a reader of a level is exact, and it halts
   abbrev Level : Type 0 → ℕ → ℕ → Reader Expr → Type 0
   Level U n k f = Exact U n (At k) (stops k) f × Halts n (stops k) f
 
@@ -237,7 +237,7 @@ module _ (text : List ℕ) where
     abbrev w : Piece U n (stops 4) Expr
     w = record { rel = At 4; read = whole; exact = x.0 }
 
-    -- an operand behind a sign
+    -- an operand after a sign
     signed : (h : Expr → Expr) → Exact U n (Seq (At 0) (λ e. Done (h e))) (stops 0) (λ ts. inner ts >>= λ x. Ok (h x.0, x.1))
     signed h =
         seq_exact U n n (At 0) (λ e. Done (h e)) (stops 0) (stops 0) inner (λ e ts. Ok (h e, ts)) y.0 y.1 (λ e. narrow_exact U n (Done (h e)) (stops 0) (λ ts. Ok (h e, ts)) (done_exact U n (h e)))
@@ -334,13 +334,13 @@ module _ (text : List ℕ) where
   abbrev pub expr_piece : {U : Type 0} {n : ℕ} → Piece U n (stops 4) Expr
   expr_piece {U} {n} = record { rel = ReadsWhole text; read = expr text n; exact = expr_exact U n }
 
-  -- an expression and a token behind it
+  -- an expression followed by a token
   abbrev pub expr_before : {U : Type 0} {n : ℕ} {s : Kind → Bool} {B : Type 0} (m : Mark) → stops 4 (kind_of m) ≡ true → (Expr → Piece U n s B) → Piece U n s B
   expr_before {U} {n} m stop g = before expr_piece (expr_halts n) m stop g
 
-  -- ---- what an expression begins with
+  -- ---- the tokens that an expression begins with
 
-  -- a kind of token that an expression begins with
+  -- the kinds that an expression begins with
   abbrev pub begins : Kind → Bool
   begins kind.Minus = true
   begins kind.Not = true
@@ -363,6 +363,6 @@ module _ (text : List ℕ) where
   expr_begins (grammar.operand is r) = ap begins is ∙ operand_begins r
   expr_begins (grammar.operators r q) = expr_begins r
 
-  -- no expression begins with such a token
+  -- an expression does not begin with this mark
   pub begins_not : (m : Mark) → begins (kind_of m) ≡ false → {t : Token} {ts rest : List Token} {e : Expr} → t.kind ≡ kind_of m → ReadsWhole text (t ∷ ts) e rest → ⊥
   begins_not m off is r = differ (expr_begins r) (ap begins is ∙ off)

@@ -1,4 +1,4 @@
--- Tokens with a fault have no tree, and the fault is in one line.
+-- Tokens with a fault have no tree, and the fault has one line.
 use Rattle.std.proofs.Common.{◌≡◌, ℕ, List, [], ◌∷◌, ◌++◌, refl, sym, subst, ◌∙◌, append_assoc}
 use Rattle.cw_model.specs.declared.token.Token.{Token}
 use Rattle.cw_model.specs.Syntax.{Program}
@@ -6,7 +6,7 @@ use Rattle.cw_model.specs.Grammar.{Derives, CanBegin, first_line}
 use Rattle.cw_parse.specs.Parsed.{FaultsAreOne}
 
 module _ (text : List ℕ) where
-  -- what can be completed can be so from each of its beginnings
+  -- if tokens can be completed to a source, so can each of their prefixes
   shorter_begins : (front : List Token) (t : Token) (more : List Token) → CanBegin text (front ++ t ∷ more) → CanBegin text (front ++ t ∷ [])
   shorter_begins front t more g =
       (more ++ g.0, g.1, subst (λ w. Derives text w g.1) (append_assoc front (t ∷ more) g.0 ∙ sym (append_assoc front (t ∷ []) (more ++ g.0))) g.2)
@@ -16,7 +16,7 @@ module _ (text : List ℕ) where
   no_tree ts p front [] parts further end d = end refl d
   no_tree ts p front (t ∷ us) parts further end d = further t us refl (us, p, subst (λ w. Derives text w p) (parts ∙ sym (append_assoc front (t ∷ []) us)) d)
 
-  -- of two beginnings of the same tokens one begins with the other
+  -- two prefixes of the same tokens: one is a prefix of the other
   pub data Compared : List Token → List Token → List Token → List Token → Type 0 where
     same : {front rest : List Token} → Compared front rest front rest
     less : {front rest : List Token} (t : Token) (more : List Token) → Compared front (t ∷ (more ++ rest)) (front ++ t ∷ more) rest

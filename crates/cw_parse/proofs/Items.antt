@@ -92,7 +92,7 @@ module _ (text : List ℕ) where
   item_branch U n site t kind.Void = inl (code_piece {U = U} {n = n} false site).exact
   item_branch U n site t _ = inr (record { stops = λ ts. refl; never = λ ts a rest d. d })
 
-  -- one item
+  -- one item, as a relation
   pub data One (site : ℕ) : List Token → Item × ℕ → List Token → Type 0 where
     total : {t u s v : Token} {how : Reduction} {ts : List Token} → t.kind ≡ kind.Reducer → reduction_of u.kind ≡ Some how → s.kind ≡ kind.Name → v.kind ≡ kind.Semicolon →
         One site (t ∷ u ∷ s ∷ v ∷ ts) (Total (summed t s how), site) ts
@@ -182,7 +182,7 @@ module _ (text : List ℕ) where
           more [] e d = absurd (none_of_none d refl)
           more (t ∷ front) e d = let l = ap len e ∙ length-append (t ∷ front) us in omega arith
 
-  -- ---- what reading gives is derived, and what is derived is read
+  -- ---- the reader is sound and complete for items
 
   module _ (m : ℕ) where
     abbrev next : ℕ → Reader (Item × ℕ)
@@ -215,7 +215,7 @@ module _ (text : List ℕ) where
         let fewer = one_eats site (t ∷ ts) y us r in
         rw ((one_exact (Unit {0}) m site).complete (t ∷ ts) y us few r (any_stops us), items_complete n y.1 us zs (omega arith) (omega arith) (split q)) refl
 
-    -- ---- where reading stops
+    -- ---- the token where reading stops
 
     pub record StuckItems (site : ℕ) (ts : List Token) (e : ℕ) : Type 0 where
       pub front : List Token
@@ -327,12 +327,12 @@ module _ (text : List ℕ) where
       let n : len ts - e ≡ len front = omega arith in
       rw n (ap (take (len front)) parts ∙ take_front front rest)
 
-  -- what reading a whole source answers
+  -- the consequence of the result of reading a whole source
   abbrev pub Answer : List Token → Read Items → Type 0
   Answer ts (Ok x) = Derives text ts (program x.0)
   Answer ts (Err e) = IsRefusedAt text ts (len ts - e)
 
-  -- where tokens are refused, a fault is in that line
+  -- if tokens are rejected at a place, their fault is in the line of that place
   pub fault_there : (ts : List Token) (place : ℕ) → IsRefusedAt text ts place → HasSyntaxFault text ts (first_line text (drop place ts))
   fault_there ts place r = record {
     before = take place ts;

@@ -1,4 +1,4 @@
--- Lists in commas.
+-- Lists with commas.
 use Rattle.std.proofs.Common.{◌≡◌, ℕ, ◌<◌, ◌≤◌, Bool, true, List, [], ◌∷◌, length as len, Ok, refl, sym, ◌∙◌, arith, ◌⊎◌, inl, inr}
 use Rattle.cw_model.specs.declared.token.Token.{Token}
 use Rattle.cw_model.specs.declared.token.Kind.{Kind}
@@ -20,15 +20,15 @@ use Rattle.cw_parse.proofs.Expressions.{expr_exact, expr_halts, begins_not}
 abbrev pub alone : {A : Type 0} → A → A × Unit {0}
 alone a = (a, tt)
 
--- a comma and a part
+-- a comma and a part, as a relation
 abbrev pub Further : {A : Type 0} → (List Token → A → List Token → Type 0) → Unit {0} → List Token → A × Unit {0} → List Token → Type 0
 Further R s = Seq (Marked mark.Comma) (λ (_ : Token). Seq R (λ a. Done (alone a)))
 
--- the closing parenthesis, or a comma, a part and the rest of the list
+-- the closing parenthesis; or a comma, a part and the rest of the list
 abbrev pub Listed : {A : Type 0} → (List Token → A → List Token → Type 0) → (List Token → List A → List Token → Type 0) → List Token → List A → List Token → Type 0
 Listed R Q ts xs rest = Seq (Marked mark.RightParen) (λ (_ : Token). Done []) ts xs rest ⊎ Seq (Further R tt) (λ x. Seq Q (λ bs. Done (add_front x.0 bs))) ts xs rest
 
--- Lists of parts that R reads. Q reads the parts after the first one.
+-- Lists of parts that `R` reads; `Q` reads the parts after the first one.
 module _ {A : Type 0} (R : List Token → A → List Token → Type 0) (r : Kind → Bool) (part : ℕ → Reader A) (comma : r kind.Comma ≡ true) (close : r kind.RightParen ≡ true)
     (parts : (U : Type 0) (n : ℕ) → Exact U n R r (part n)) (halts : (n : ℕ) → Halts n r (part n))
     (Q : List Token → List A → List Token → Type 0)
@@ -71,7 +71,7 @@ module _ {A : Type 0} (R : List Token → A → List Token → Type 0) (r : Kind
   pub others_exact : (U : Type 0) (n : ℕ) → Exact U n Q any (others (part n) n)
   others_exact U n = given (IsUnique Q any) U n Q any (others (part n) n) (λ _. one_way (λ _. IsUnique Q any) Q any (λ n. others (part n) n) others_by) (others_by n)
 
-  -- one part or more
+  -- one or more parts, as a relation
   abbrev pub SomeOf : List Token → List A → List Token → Type 0
   SomeOf = Seq R (λ a. Seq Q (λ xs. Done (add_front a xs)))
 

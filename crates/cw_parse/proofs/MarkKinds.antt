@@ -1,4 +1,4 @@
--- The kinds that marks stand for.
+-- The kinds that match each mark.
 use Rattle.std.proofs.Common.{◌≡◌, true, refl, ap, ◌∙◌}
 use Rattle.cw_model.specs.declared.token.Kind.{Kind}
 use Rattle.cw_model.specs.declared.token.Kind.TheVariants as kind
@@ -7,7 +7,7 @@ use Rattle.cw_parse.specs.declared.marks.Mark.TheVariants as mark
 use Rattle.cw_parse.specs.Marks.{is_mark}
 use Rattle.cw_parse.proofs.Exact.{Passes}
 
--- the kind that a mark stands for
+-- the kind that matches a mark
 abbrev pub kind_of : Mark → Kind
 kind_of mark.Name = kind.Name
 kind_of mark.Int = kind.Int
@@ -30,7 +30,7 @@ kind_of mark.Assign = kind.Assign
 kind_of mark.Increment = kind.Increment
 kind_of mark.Less = kind.Less
 
--- a kind is the one that a mark stands for
+-- a kind matches a mark
 abbrev pub Is : Mark → Kind → Type 0
 Is m k = k ≡ kind_of m
 

@@ -1,1 +1,1 @@
--- The least line, token by token.
+-- The computation of the least line, token by token.

@@ -1,4 +1,4 @@
--- What stands in front of a block, and the block's brace.
+-- The openings of blocks, with the opening brace.
 use Rattle.std.proofs.Common.{◌≡◌, ℕ, suc, List, [], ◌∷◌, Ok, refl, sym, ap, subst, ◌∙◌, arith, inl, inr}
 use Rattle.cw_model.specs.declared.token.Token.{Token}
 use Rattle.cw_model.specs.declared.token.Kind.{Kind}
@@ -104,7 +104,7 @@ module _ (text : List ℕ) where
   abbrev head_piece : {U : Type 0} {n : ℕ} → Piece U n any Head
   head_piece = from_piece >>> λ f. to_piece >>> λ t. step_piece >>> λ z. grain_piece f t z
 
-  -- ---- all that stands in front of a block
+  -- ---- complete openings
 
   abbrev cut_piece : {U : Type 0} {n : ℕ} → Piece U n any Opening
   cut_piece =
@@ -156,16 +156,16 @@ module _ (text : List ℕ) where
   turns_into t (kind.Number v) is us w rest done = (is, refl)
   turns_into t _ is us v rest d = absurd d
 
-  -- the head of a loop and a brace behind it
+  -- the head of a loop followed by a brace
   pub data Headed : List Token → Head → List Token → Type 0 where
     headed : {b : Token} {ts rest : List Token} {h : Head} → ReadsHead text ts h (b ∷ rest) → b.kind ≡ kind.LeftBrace → Headed ts h rest
 
   module _ (from to : Name × Expr) (step : Name) where
-    -- the arrays of a loop and a brace behind them
+    -- the arrays of a loop followed by a brace
     data Overed (g : ℕ) : List Token → Head → List Token → Type 0 where
       overed : {b : Token} {ts rest : List Token} {xs : List Name} → ReadsOver text ts xs (b ∷ rest) → b.kind ≡ kind.LeftBrace → Overed g ts (made from to step g xs) rest
 
-    -- the turns in a leaf, the arrays of a loop, and a brace behind them
+    -- the grain, the arrays of a loop, and a brace
     data Grained : List Token → Head → List Token → Type 0 where
       grained : {b : Token} {ts us rest : List Token} {n : ℕ} {xs : List Name} → ReadsGrain ts n us → ReadsOver text us xs (b ∷ rest)
           → b.kind ≡ kind.LeftBrace → Grained ts (made from to step n xs) rest
@@ -195,7 +195,7 @@ module _ (text : List ℕ) where
     grain_out grammar.usual r is = inr (over_out r refl is)
     grain_out (grammar.grain {t = t} {u = u} {ts = ts} {n = n} it iu) r is = inl (t, u ∷ ts, tok it, (n, ts, at_first TurnsBy u (kind.Number n) iu ts n ts done, over_out r refl is))
 
-  -- all of a head that was read
+  -- a complete head is derived from its parts
   whole_head : {left int x equals semicolon y less semicolon' z increment right : Token} {ts us vs rest : List Token} {from to : Expr} {h : Head} →
       left.kind ≡ kind.LeftParen → int.kind ≡ kind.Int → x.kind ≡ kind.Name → equals.kind ≡ kind.Assign →
       ReadsWhole text ts from (semicolon ∷ y ∷ less ∷ us) → semicolon.kind ≡ kind.Semicolon → y.kind ≡ kind.Name → less.kind ≡ kind.Less →

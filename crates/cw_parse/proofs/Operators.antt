@@ -1,4 +1,4 @@
--- Which tokens end an expression of a level.
+-- The tokens that end an expression of a level.
 use Rattle.std.proofs.Common.{◌≡◌, ℕ, suc, ◌<◌, Bool, true, false, cond, eqb, ltb, List, [], ◌∷◌, Option, Some, None, refl, sym, ap, ◌∙◌, arith}
 use Rattle.std.proofs.lemmas.Bool.{ltb-true, ltb-false, lt-ltb, eqb-true, eq-eqb}
 use Rattle.cw_model.specs.declared.token.Token.{Token}
@@ -10,7 +10,7 @@ use Rattle.cw_model.specs.Grammar.{infix_of}
 use Rattle.cw_parse.specs.Parts.{at_level, operator_at}
 use Rattle.cw_parse.proofs.Reader.{Stops}
 
--- the level of an operator, 0 for a bracket that goes on after a name, and 5 for any other token
+-- the level of an operator; 0 for a bracket, which continues a name; 5 for any other token
 abbrev pub rank : Kind → ℕ
 rank kind.LeftBracket = 0
 rank kind.Star = 1
@@ -26,7 +26,7 @@ rank kind.Equal = 4
 rank kind.NotEqual = 4
 rank _ = 5
 
--- a token that ends an expression of this level
+-- a token of this kind ends an expression of level `k`
 abbrev pub stops : ℕ → Kind → Bool
 stops k x = ltb k (rank x)
 
@@ -63,7 +63,7 @@ has_level kind.Equal a b = (operator.Equal, refl)
 has_level kind.NotEqual a b = (operator.Unequal, refl)
 has_level _ a b = absurd (omega arith)
 
--- what ends a level ends the levels below
+-- a token that ends a level ends the levels below
 pub stops_below : (k : ℕ) (ts : List Token) → Stops (stops (suc k)) ts → Stops (stops k) ts
 stops_below k [] h = tt
 stops_below k (t ∷ ts) h = lt-ltb k (rank t.kind) (let b = ltb-true (suc k) (rank t.kind) h in omega arith)
@@ -71,7 +71,7 @@ stops_below k (t ∷ ts) h = lt-ltb k (rank t.kind) (let b = ltb-true (suc k) (r
 pub operator_stops : (k : ℕ) (t : Token) (o : Operator) → infix_of t.kind ≡ Some (suc k, o) → stops k t.kind ≡ true
 operator_stops k t o e = lt-ltb k (rank t.kind) (let r = rank_of t.kind (suc k) o e in omega arith)
 
--- an operator of a level goes on at the level
+-- an operator of a level does not end the level
 pub operator_on : (k : ℕ) (t : Token) (o : Operator) → infix_of t.kind ≡ Some (k, o) → stops k t.kind ≡ true → ⊥
 operator_on k t o e h = let r = rank_of t.kind k o e in let l = ltb-true k (rank t.kind) h in omega arith
 
@@ -92,7 +92,7 @@ is_level k v o e = rw e (ap (λ b. cond {A = Option Operator} b (Some o) None) (
 pub at_operator : (k : ℕ) (t : Token) (ts : List Token) (o : Operator) → infix_of t.kind ≡ Some (k, o) → operator_at k (t ∷ ts) ≡ Some (o, ts)
 at_operator k t ts o e = rw (is_level k (infix_of t.kind) o e) refl
 
--- an operator of the level stands there
+-- the tokens begin with an operator of level `k`
 pub data Operated (k : ℕ) : List Token → Operator → List Token → Type 0 where
   operated : {t : Token} {ts : List Token} {o : Operator} → infix_of t.kind ≡ Some (k, o) → Operated k (t ∷ ts) o ts
 
@@ -112,7 +112,7 @@ operator_ok k (t ∷ ts) o us e = go (at_level k (infix_of t.kind)) refl
         let tail : ts ≡ us = ap (λ (z : Operator × List Token). z.1) same in
         rw (sym tail) (operated (level_of k (infix_of t.kind) o (h ∙ ap (λ v. Some v) op)))
 
--- where the level below ends and no operator of the level stands, the level ends
+-- if the level below ends and no operator of the level follows, the level ends
 pub stops_above : (k : ℕ) (ts : List Token) → k < 4 → Stops (stops k) ts → operator_at (suc k) ts ≡ None → Stops (stops (suc k)) ts
 stops_above k [] small h e = tt
 stops_above k (t ∷ ts) small h e = go (stops (suc k) t.kind) refl

@@ -1,4 +1,4 @@
--- Readers beside the relations that they read exactly, put together as the grammar is.
+-- Readers paired with the relations that they read exactly; pieces are composed as the grammar is.
 use Rattle.std.proofs.Common.{◌≡◌, ℕ, zero, suc, ◌<◌, ◌≤◌, Bool, true, false, cond, not, List, [], ◌∷◌, ◌++◌, length as len, Ok, refl, ap, ◌∙◌, arith, ◌⊎◌, inl, inr}
 use Rattle.std.proofs.lemmas.List.{length-append}
 use Rattle.cw_model.specs.declared.token.Token.{Token}
@@ -11,18 +11,18 @@ use Rattle.cw_parse.proofs.Exact.{Exact, Halts, Against, Branch, any, token_exac
 use Rattle.cw_parse.proofs.Exact.{narrow_exact, same_exact, fewer_exact, zero_exact, guard_exact, differ, if_next_exact}
 use Rattle.cw_parse.proofs.MarkKinds.{kind_of, Is, passes}
 
--- a token that a mark stands for
+-- a token that matches the mark, as a relation
 abbrev pub Marked : Mark → List Token → Token → List Token → Type 0
 Marked m = Tok (Is m)
 
--- a reader, and the relation that it reads exactly on at most n tokens
+-- a reader with the relation that it reads exactly on at most `n` tokens
 pub record Piece (U : Type 0) (n : ℕ) (s : Kind → Bool) (A : Type 0) : Type 1 where
   pub rel : List Token → A → List Token → Type 0
   pub read : Reader A
   pub exact : Exact U n rel s read
 
 infixr 5 ◌>>>◌
--- one piece after another that ends by itself
+-- a piece that ends by itself, followed by another
 abbrev pub ◌>>>◌ : {U : Type 0} {n : ℕ} {s : Kind → Bool} {A B : Type 0} → Piece U n any A → (A → Piece U n s B) → Piece U n s B
 ◌>>>◌ {U} {n} {s} x g = record {
   rel = Seq x.rel (λ a. (g a).rel);
@@ -30,18 +30,18 @@ abbrev pub ◌>>>◌ : {U : Type 0} {n : ℕ} {s : Kind → Bool} {A B : Type 0}
   exact = after_part U n x.rel x.read (λ a. (g a).rel) s (λ a. (g a).read) x.exact (λ a. (g a).exact);
 }
 
--- a token that a mark stands for
+-- the piece of a token that matches the mark
 abbrev pub expect : {U : Type 0} {n : ℕ} → Mark → Piece U n any Token
 expect {U} {n} m = record { rel = Marked m; read = token (is_mark m); exact = token_exact U n (is_mark m) (Is m) (passes m) (kind_of m) refl }
 
--- nothing more
+-- the piece that reads no token and returns a value
 abbrev pub give : {U : Type 0} {n : ℕ} {A : Type 0} → A → Piece U n any A
 give {U} {n} a = record { rel = Done a; read = λ ts. Ok (a, ts); exact = done_exact U n a }
 
 pub marked_stops : (m : Mark) (s : Kind → Bool) → s (kind_of m) ≡ true → {us : List Token} {t : Token} {vs : List Token} → Marked m us t vs → Stops s us
 marked_stops m s e (tok {t = t} is) = ap s is ∙ e
 
--- a piece that a token ends, and what follows the token
+-- a piece that ends at the token `m`, followed by a piece
 abbrev pub before : {U : Type 0} {n : ℕ} {s r : Kind → Bool} {A B : Type 0} → (x : Piece U n r A) → Halts n r x.read → (m : Mark) → r (kind_of m) ≡ true → (A → Piece U n s B) → Piece U n s B
 before {U} {n} {s} {r} x halts m stops g = record {
   rel = Seq x.rel (λ a. Seq (Marked m) (λ (_ : Token). (g a).rel));
@@ -54,11 +54,11 @@ before {U} {n} {s} {r} x halts m stops g = record {
       (λ a us b rest d h. marked_stops m r stops d.2);
 }
 
--- a piece that stops where less than any token does
+-- a piece that ends by itself, with a smaller set of following tokens
 abbrev pub narrow : {U : Type 0} {n : ℕ} {A : Type 0} (s : Kind → Bool) → Piece U n any A → Piece U n s A
 narrow {U} {n} s x = record { rel = x.rel; read = x.read; exact = narrow_exact U n x.rel s x.read x.exact }
 
--- a branch whose value is changed
+-- a branch with a function applied to its value
 pub branch_map : {U : Type 0} {n : ℕ} {A B : Type 0} (R : List Token → A → List Token → Type 0) (s : Kind → Bool) (t : Token) (f : Reader A) (h : A → B)
     → Branch U n R s t f → Halts n s f → Branch U n (Seq R (λ a. Done (h a))) s t (λ ts. f ts >>= λ x. Ok (h x.0, x.1))
 branch_map {U} {n} R s t f h (inl x) halts =
@@ -66,7 +66,7 @@ branch_map {U} {n} R s t f h (inl x) halts =
     (λ ts a rest few d. let y = shorter ts a rest (x.stable ts a rest few d) in omega arith) (λ a us b rest d stop. done_rest s us b rest d stop))
 branch_map R s t f h (inr x) halts = inr (record { stops = λ ts. ap (λ r. r >>= λ x. Ok (h x.0, x.1)) (x.stops ts); never = λ ts b rest d. x.never ts d.0 d.1 d.2 })
 
--- what follows a part halts where the part after it does
+-- a sequence halts where its second part halts
 pub then_halts : {A B : Type 0} (U : Type 0) (n : ℕ) (s : Kind → Bool) (x : Piece U n any A) (g : A → Reader B) → ((a : A) → Halts n s (g a)) → Halts n s (λ ts. x.read ts >>= λ y. g y.0 y.1)
 then_halts U n s x g h ts b rest few e =
     let z = bind_ok (x.read ts) (λ y. g y.0 y.1) (b, rest) e in
@@ -75,7 +75,7 @@ then_halts U n s x g h ts b rest few e =
 
 -- ---- a choice by the next token
 
--- one piece behind a token that a mark stands for, and else another
+-- `x` after a token that matches the mark, otherwise `y`
 abbrev pub choose : {U : Type 0} {n : ℕ} {s : Kind → Bool} {A : Type 0} (m : Mark) (x : Token → Piece U n s A) (y : Piece U n s A)
     → ((t : Token) (us : List Token) (b : A) (rest : List Token) → t.kind ≡ kind_of m → y.rel (t ∷ us) b rest → Stops s rest → ⊥) → Piece U n s A
 choose {U} {n} {s} m x y apart = record {
@@ -84,7 +84,7 @@ choose {U} {n} {s} m x y apart = record {
   exact = if_next_exact U n n (omega arith) (is_mark m) (Is m) (passes m) (λ t. (x t).rel) y.rel s (λ t. (x t).read) y.read (λ t. (x t).exact) y.exact apart;
 }
 
--- a choice halts where each way does
+-- a choice halts where both branches halt
 pub choose_halts : {A : Type 0} (m : Mark) (s : Kind → Bool) (n : ℕ) (f : Token → Reader A) (g : Reader A) → ((t : Token) → Halts n s (f t)) → Halts n s g → Halts n s (if_next (is_mark m) f g)
 choose_halts m s n f g x y [] b rest le e = y [] b rest le e
 choose_halts {A} m s n f g x y (t ∷ ts) b rest le e = go (is_mark m t.kind) e
@@ -93,31 +93,31 @@ choose_halts {A} m s n f g x y (t ∷ ts) b rest le e = go (is_mark m t.kind) e
     go true e = x t ts b rest (omega arith) e
     go false e = y (t ∷ ts) b rest le e
 
--- any kind but one that a mark stands for
+-- every kind that does not match the mark
 abbrev pub but : Mark → Kind → Bool
 but m k = not (is_mark m k)
 
 pub against : (m : Mark) → Against (is_mark m) (but m)
 against m = record { on = λ k e. ap not e; off = λ k e. ap not e }
 
--- a value alone does not begin with a token that goes on
+-- a part without tokens is not followed by a token that matches the mark
 pub done_apart : {A : Type 0} {s : Kind → Bool} (m : Mark) → Against (is_mark m) s
     → (a : A) (t : Token) (us : List Token) (b : A) (rest : List Token) → t.kind ≡ kind_of m → Done a (t ∷ us) b rest → Stops s rest → ⊥
 done_apart {s = s} m off a t us b rest is d stop = differ (done_rest s (t ∷ us) b rest d stop) (off.on t.kind ((passes m).is t.kind is))
 
--- a piece behind a token that a mark stands for, or nothing
+-- an optional piece: `x` after a token that matches the mark, otherwise the value `a`
 abbrev pub perhaps : {U : Type 0} {n : ℕ} {A : Type 0} {s : Kind → Bool} (m : Mark) → Against (is_mark m) s → (x : Token → Piece U n s A) → A → Piece U n s A
 perhaps {U} {n} {s = s} m off x a = choose m x (narrow s (give a)) (done_apart {s = s} m off a)
 
--- a piece, behind which a token that the mark stands for cannot stand
+-- a piece that no token that matches the mark may follow
 abbrev pub guard : {U : Type 0} {n : ℕ} {A : Type 0} {s : Kind → Bool} (m : Mark) → Against (is_mark m) s → Piece U n any A → Piece U n s A
 guard {U} {n} {s = s} m off x = record { rel = x.rel; read = λ ts. x.read ts >>= λ y. unless_next (is_mark m) y.0 y.1; exact = guard_exact (is_mark m) s off U n x.rel x.read x.exact }
 
--- ---- rows
+-- ---- sequences of parts up to a closing token
 
 module _ {A S B : Type 0} (U : Type 0) (m : Mark) (end : S → B) (join : A → B → B) (part : S → Reader (A × S)) (R : S → List Token → A × S → List Token → Type 0) (r : Kind → Bool)
     (Q : S → List Token → B → List Token → Type 0) where
-  -- the end of a row, or a part and the rest of the row
+  -- the end of a sequence, or a part and the rest of the sequence
   abbrev pub Row : S → List Token → B → List Token → Type 0
   Row s ts b rest = Seq (Marked m) (λ (_ : Token). Done (end s)) ts b rest ⊎ Seq (R s) (λ x. Seq (Q x.1) (λ b. Done (join x.0 b))) ts b rest
 

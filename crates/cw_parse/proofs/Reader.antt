@@ -1,36 +1,36 @@
--- Relations that read a part of a list from its front, and where reading stops.
+-- Relations that read a part from the front of a list, and the place where reading stops.
 use Rattle.std.proofs.Common.{◌≡◌, ℕ, ◌≤◌, Bool, true, List, [], ◌∷◌, ◌++◌, length, Ok, Err, refl, sym, ap, subst, ◌∙◌, append_assoc, arith, ◌⊎◌, inl, inr}
 use Rattle.std.proofs.lemmas.List.{length-append}
 use Rattle.cw_model.specs.declared.token.Token.{Token}
 use Rattle.cw_model.specs.declared.token.Kind.{Kind}
 use Rattle.cw_parse.specs.Reading.{Read, ◌>>=◌}
 
--- the tokens begin with none that goes on
+-- the tokens are empty or begin with a kind that `s` accepts
 abbrev pub Stops : (Kind → Bool) → List Token → Type 0
 Stops s [] = Unit {0}
 Stops s (t ∷ ts) = s t.kind ≡ true
 
--- the front of the tokens that was read, which is read with any other rest too
+-- the tokens that were read are a prefix, and they are read in the same way before any other tokens
 pub record Front {A : Type 0} (R : List Token → A → List Token → Type 0) (ts : List Token) (a : A) (rest : List Token) : Type 0 where
   pub front : List Token
   pub parts : ts ≡ front ++ rest
   pub again : (ws : List Token) → R (front ++ ws) a ws
 
--- where it stops, there is one way to read
+-- `R` is deterministic where it ends before a token that `s` accepts
 abbrev pub IsUnique : {A : Type 0} → (List Token → A → List Token → Type 0) → (Kind → Bool) → Type 0
 IsUnique {A} R s = (ts : List Token) (a b : A) (us vs : List Token) → R ts a us → Stops s us → R ts b vs → Stops s vs → (a ≡ b) × (us ≡ vs)
 
--- something can be read
+-- some text can be read
 pub record SomeText {A : Type 0} (R : List Token → A → List Token → Type 0) : Type 0 where
   pub text : List Token
   pub value : A
   pub reads : (after : List Token) → R (text ++ after) value after
 
--- one part, and after it another that knows what the first gave
+-- one part followed by another that depends on the value of the first
 abbrev pub Seq : {A B : Type 0} → (List Token → A → List Token → Type 0) → (A → List Token → B → List Token → Type 0) → List Token → B → List Token → Type 0
 Seq {A} R G ts b rest = (a : A) × (us : List Token) × R ts a us × G a us b rest
 
--- one token of a kind that passes
+-- one token whose kind satisfies `K`
 pub data Tok (K : Kind → Type 0) : List Token → Token → List Token → Type 0 where
   tok : {t : Token} {ts : List Token} → K t.kind → Tok K (t ∷ ts) t ts
 
@@ -38,7 +38,7 @@ pub data Tok (K : Kind → Type 0) : List Token → Token → List Token → Typ
 pub data Done {A : Type 0} (a : A) : List Token → A → List Token → Type 0 where
   done : {ts : List Token} → Done a ts a ts
 
--- Reading stops where m tokens are left: what stands before can be completed, and no token more can follow.
+-- reading stops where `m` tokens are left: the tokens before can be completed, but not if the next token is included
 pub record Stuck {A : Type 0} (R : List Token → A → List Token → Type 0) (s : Kind → Bool) (ts : List Token) (m : ℕ) : Type 0 where
   pub front : List Token
   pub rest : List Token
@@ -49,14 +49,14 @@ pub record Stuck {A : Type 0} (R : List Token → A → List Token → Type 0) (
   pub completes : (after : List Token) → R (front ++ (more ++ after)) value after
   pub dead : (t : Token) (us : List Token) → rest ≡ t ∷ us → (vs : List Token) (b : A) (after : List Token) → R (front ++ t ∷ vs) b after → Stops s after → ⊥
 
--- what G reads, or what follows it, stops R
+-- the tokens that `G` reads, with the tokens after them, are empty or begin with a kind that `s` accepts
 abbrev pub Follows : {A B : Type 0} → (A → List Token → B → List Token → Type 0) → (Kind → Bool) → (Kind → Bool) → Type 0
 Follows {A} {B} G s s' = (a : A) (us : List Token) (b : B) (rest : List Token) → G a us b rest → Stops s' rest → Stops s us
 
 pub shorter : {A : Type 0} {R : List Token → A → List Token → Type 0} (ts : List Token) (a : A) (rest : List Token) → Front R ts a rest → length rest ≤ length ts
 shorter ts a rest f = omega (arith, ap length f.parts, length-append f.front rest)
 
--- the first part is stuck
+-- a sequence is stuck if its first part is stuck
 pub stuck_left : {A B : Type 0} (R : List Token → A → List Token → Type 0) (G : A → List Token → B → List Token → Type 0) (s s' : Kind → Bool) (ts : List Token) (m : ℕ)
     → Follows G s s' → ((a : A) → SomeText (G a)) → Stuck R s ts m → Stuck (Seq R G) s' ts m
 stuck_left R G s s' ts m follows some d =
@@ -72,12 +72,12 @@ stuck_left R G s s' ts m follows some d =
       dead = λ t us is vs b after r stop. d.dead t us is vs r.0 r.1 r.2 (follows r.0 r.1 b after r.3 stop);
     }
 
--- a test of the first token alone
+-- `Stops` depends only on the first token
 same_first : (s : Kind → Bool) (front : List Token) (t : Token) (us vs : List Token) → Stops s (front ++ t ∷ us) → Stops s (front ++ t ∷ vs)
 same_first s [] t us vs h = h
 same_first s (u ∷ front) t us vs h = h
 
--- the first part is read, and the second is stuck
+-- a sequence is stuck if its first part is read and its second part is stuck
 pub stuck_right : {A B : Type 0} (R : List Token → A → List Token → Type 0) (G : A → List Token → B → List Token → Type 0) (s s' : Kind → Bool) (ts : List Token) (m : ℕ) (a : A) (us : List Token)
     → Follows G s s' → IsUnique R s → Front R ts a us → Stops s us → Stuck (G a) s' us m → Stuck (Seq R G) s' ts m
 stuck_right {A} {B} R G s s' ts m a us follows unique x stop d =
@@ -100,7 +100,7 @@ stuck_right {A} {B} R G s s' ts m a us follows unique x stop d =
         let second : G a (d.front ++ t ∷ vs) b after = subst (λ w. G a w b after) one.1 (subst (λ y. G y r.1 b after) one.0 r.3) in
         d.dead t ws is vs b after second end
 
--- ---- outcomes of steps
+-- ---- results of composed readers
 
 pub bind_ok : {A B : Type 0} (r : Read A) (f : A × List Token → Read B) (y : B × List Token) → (r >>= f) ≡ Ok y → (x : A × List Token) × (r ≡ Ok x) × (f x ≡ Ok y)
 bind_ok (Ok x) f y e = (x, refl, e)
@@ -121,7 +121,7 @@ seq_text R G r g =
     let e = g r.value in
     record { text = r.text ++ e.text; value = e.value; reads = λ after. (r.value, e.text ++ after, rw (append_assoc r.text e.text after) (r.reads (e.text ++ after)), e.reads after) }
 
--- ---- a part behind tokens that are known
+-- ---- a part after known tokens
 
 pub stuck_behind : {A B : Type 0} (Q : List Token → A → List Token → Type 0) (R : List Token → B → List Token → Type 0) (s : Kind → Bool) (before : List Token) (h : A → B)
     → ((ts : List Token) (a : A) (rest : List Token) → Q ts a rest → R (before ++ ts) (h a) rest)
@@ -140,7 +140,7 @@ stuck_behind Q R s before h into out ts m d = record {
       d.dead t us is vs q.0 after q.1 stop;
 }
 
--- no text begins with the first token
+-- reading is stuck at the first token if no text begins with it
 pub stuck_here : {A : Type 0} (R : List Token → A → List Token → Type 0) (s : Kind → Bool) (ts : List Token) → SomeText R
     → ((t : Token) (us vs : List Token) (b : A) (after : List Token) → ts ≡ t ∷ us → R (t ∷ vs) b after → Stops s after → ⊥) → Stuck R s ts (length ts)
 stuck_here R s ts some never = record {

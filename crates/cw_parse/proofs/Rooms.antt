@@ -1,4 +1,4 @@
--- What was read leaves room for the numbers of the call statements that follow.
+-- The tokens that are left bound the numbers of the call statements that follow.
 use Rattle.std.proofs.Common.{◌≡◌, ℕ, suc, ◌+◌, ◌<◌, ◌≤◌, List, length as len, Option, Ok, sym, ◌∙◌, arith, inl, inr}
 use Rattle.cw_model.specs.declared.token.Token.{Token}
 use Rattle.cw_model.specs.declared.token.Kind.{Kind}
@@ -22,7 +22,7 @@ use Rattle.cw_parse.proofs.Blocks.{Lined, lined, lines_exact, line_exact}
 marked_less : (m : Mark) {ts : List Token} {t : Token} {us : List Token} → Marked m ts t us → len us < len ts
 marked_less m (tok is) = omega arith
 
--- a token that was read
+-- reading a token leaves fewer tokens
 pub token_less : (m : Mark) (ts : List Token) (t : Token) (us : List Token) → token (is_mark m) ts ≡ Ok (t, us) → len us < len ts
 token_less m ts t us e = marked_less m ((expect {U = Unit {0}} {n = 0} m).exact.sound ts t us e)
 
@@ -98,21 +98,21 @@ module _ (text : List ℕ) where
   lined_room : {n : ℕ} {ts : List Token} {x : Line × ℕ} {rest : List Token} → Lined text n ts x rest → x.1 + len rest ≤ n + len ts
   lined_room (lined (grammar.begins i r)) = stmt_room r
 
-  -- a statement that was read
+  -- a statement leaves room for the numbers of the calls that follow
   pub line_room : (n site : ℕ) (ts : List Token) (l : Line) (next : ℕ) (us : List Token) → line text n site ts ≡ Ok ((l, next), us) → next + len us ≤ site + len ts
   line_room n site ts l next us e = lined_room ((line_exact text (Unit {0}) n site).sound ts (l, next) us e)
 
-  -- a block that was read
+  -- a block leaves room for the numbers of the calls that follow
   pub lines_room : (n site : ℕ) (ts : List Token) (b : Block) (next : ℕ) (us : List Token) → lines text n site ts ≡ Ok ((b, next), us) → next + len us ≤ site + len ts
   lines_room n site ts b next us e = stmts_room ((lines_exact text (Unit {0}) n site).sound ts (b, next) us e)
 
-  -- parameters that were read
+  -- parameters leave no more tokens than there were
   pub params_less : (n : ℕ) (ts : List Token) (ps : List Param) (us : List Token) → list (param text) n ts ≡ Ok (ps, us) → len us ≤ len ts
   params_less n ts ps us e =
       let r = (params_exact text (Unit {0}) n).sound ts ps us e in
       shorter ts ps us ((params_exact text (Unit {0}) (len ts)).stable ts ps us (omega arith) r)
 
-  -- what stands in front of a block, which was read
+  -- the opening of a block leaves no more tokens than there were
   pub opening_less : (n : ℕ) (t : Token) (k : Kind) (ts : List Token) (o : Opening) (us : List Token) → opening text n t k ts ≡ Ok (o, us) → len us ≤ len ts
   opening_less n t k ts o us e = go (opening_branch text (Unit {0}) n t k) (opening_branch text (Unit {0}) (len ts) t k)
     where
@@ -128,6 +128,6 @@ module _ (text : List ℕ) where
   one_room (total i1 i2 i3 i4) = omega arith
   one_room (code (grammar.function g i i' r q)) = let l = parameters_less r in let h = block_room q in omega arith
 
-  -- an item that was read
+  -- an item leaves room for the numbers of the calls that follow
   pub item_room : (n site : ℕ) (ts : List Token) (x : Item) (next : ℕ) (us : List Token) → by_first (item text n site) ts ≡ Ok ((x, next), us) → next + len us ≤ site + len ts
   item_room n site ts x next us e = one_room ((one_exact text (Unit {0}) n site).sound ts (x, next) us e)

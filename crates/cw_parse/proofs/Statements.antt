@@ -1,4 +1,4 @@
--- Statements without a block, and what stands in front of a block.
+-- Statements without a block, and the openings of blocks.
 use Rattle.std.proofs.Common.{◌≡◌, ℕ, suc, ◌+◌, Bool, true, false, cond, List, [], ◌∷◌, ◌++◌, Option, Some, None, refl, sym, ap, ◌∙◌, arith, add-one, ◌⊎◌, inl, inr}
 use Rattle.cw_model.specs.declared.token.Token.{Token}
 use Rattle.cw_model.specs.declared.token.Kind.{Kind}
@@ -22,11 +22,11 @@ use Rattle.cw_parse.proofs.Expressions.{expr_exact, expr_before, begins_not}
 use Rattle.cw_parse.proofs.Lists.{arguments_exact}
 use Rattle.cw_parse.proofs.Calls.{Opens, opens, call_or_exact}
 
--- the number after that of a call
+-- the number after the number of a call
 pub done_next : {s : Stmt} {n : ℕ} {ts : List Token} → Done {A = Stmt × ℕ} (s, n + 1) ts (s, suc n) ts
 done_next = rw add-one done
 
--- reading goes on behind either part of a choice
+-- sequencing distributes over a choice by the next token
 pub spread : {A B : Type 0} (p : Kind → Bool) (f : Token → Reader A) (g : Reader A) (k : A × List Token → Read B) (ts : List Token)
     → (if_next p f g ts >>= k) ≡ if_next p (λ t us. f t us >>= k) (λ us. g us >>= k) ts
 spread p f g k [] = refl
@@ -125,7 +125,7 @@ module _ (text : List ℕ) where
   named_branch U n site t u kind.LeftParen = inl (called_exact U n Plain site None t)
   named_branch U n site t u _ = inr (record { stops = λ ts. refl; never = λ ts a rest d. d })
 
-  -- some text of an expression and a semicolon behind a first token
+  -- some text is an expression with a semicolon
   some_ended : (site : ℕ) (make : Expr → Stmt) → SomeText (ended_piece {U = Unit {0}} {n = 0} site make).rel
   some_ended site make = (ended_piece {U = Unit {0}} {n = 0} site make).exact.some
 
@@ -257,7 +257,7 @@ module _ (text : List ℕ) where
   simple_into site t kind.Return ts y rest (inr (e, us, r, (u, vs, tok is, done))) = grammar.give (grammar.ReadsReturned.value r is)
   simple_into site t _ ts y rest d = absurd d
 
-  -- a kind that a statement without a block begins with
+  -- the kinds that a statement without a block begins with
   abbrev pub IsSimple : Kind → Type 0
   IsSimple kind.Int = Unit {0}
   IsSimple kind.Name = Unit {0}

@@ -1,4 +1,4 @@
--- One step of reading where the bound is above 0, and the turns of the loops over operators.
+-- One step of the readers with a positive bound, and the iterations of the loops over operators.
 use Rattle.std.proofs.Common.{◌≡◌, ℕ, zero, suc, ◌+◌, ◌-◌, ◌<◌, ◌≤◌, List, length, Some, None, Ok, Err, refl, sym, ap, ◌∙◌, arith, sub-one, add-one}
 use Rattle.cw_model.specs.declared.token.Token.{Token}
 use Rattle.cw_model.specs.declared.syntax.Operator.{Operator}
@@ -30,7 +30,7 @@ unfolding line
 line_step text zero site ts h = absurd (h refl)
 line_step text (suc n) site ts h = rw sub-one refl
 
--- an element of an array, before an index behind it is tested for
+-- an array element, before the test for an index after it
 pub named_element : (text : List ℕ) (whole : Reader Expr) (t : Token) (ts : List Token) (x : List ℕ) (u : Token) (us : List Token) (e : Expr) (rest : List Token)
     → x ≡ name_of text t → past mark.LeftBracket ts ≡ Some (u, us) → closed mark.RightBracket (λ i. Element x i) whole us ≡ Ok (e, rest) → named text whole t ts ≡ unindexed e rest
 unfolding named
@@ -44,7 +44,7 @@ pub level_start : (text : List ℕ) (n : ℕ) (ts : List Token) (r : Read Expr) 
 unfolding level_over
 level_start text n ts r e = e
 
--- where a level stops, those above it stop
+-- if a level stops, the levels above it stop
 pub level_fails : (base : Reader Expr) (n j k : ℕ) (ts : List Token) (m : ℕ) → level_over base n j ts ≡ Err m → j ≤ k → level_over base n k ts ≡ Err m
 unfolding level_over
 level_fails base n j k ts m e le = go (k - j) k (omega arith)
@@ -54,7 +54,7 @@ level_fails base n j k ts m e le = go (k - j) k (omega arith)
     go (suc d) zero h = absurd (omega arith)
     go (suc d) (suc k) h = ap (λ r. r >>= λ x. chain (level_over base n k) (suc k) n x.0 x.1) (go d k (omega arith))
 
--- where an operand stops, every level stops
+-- if an operand stops, every level stops
 pub level_stops : (text : List ℕ) (n k : ℕ) (ts : List Token) (s : Stop) → Fails s (operand text n ts) → Fails s (level text n k ts)
 level_stops text n k ts stop.Memory f = tt
 level_stops text n k ts (stop.At m) f = level_fails (operand text n) n 0 k ts m (level_start text n ts (Err m) f) (omega arith)
@@ -72,7 +72,7 @@ pub level_turn_fails : (text : List ℕ) (n k highest : ℕ) (ts : List Token) (
 level_turn_fails text n k highest ts d us stop.Memory e f lt = tt
 level_turn_fails text n k highest ts d us (stop.At m) e f lt = level_fails (operand text n) n (k + 1) highest ts m (one_up text n k ts d us e ∙ f) (omega arith)
 
--- ---- the turns of the loop over operators
+-- ---- the iterations of the loop over operators
 
 chain_step : (next : Reader Expr) (k n i : ℕ) (d : Expr) (ts : List Token) → i < n → chain next k (n - i) d ts ≡ chain_on next (chain next k (n - (i + 1))) d ts (operator_at k ts)
 unfolding chain

@@ -1,4 +1,4 @@
--- What the walk over the tokens keeps is the least line of one that passes a limit, with a limit that is passed there.
+-- The traversal of the tokens records the least line of a token that exceeds a limit, with a limit that it exceeds.
 use Rattle.std.proofs.Common.{◌≡◌, ℕ, nat_le, Bool, true, false, if◌then◌else◌, List, [], ◌∷◌, ◌++◌, Option, Some, None, option_map, IfSome, MatchOption, Contains, arith, refl, sym, ap, ◌∙◌, subst}
 use Rattle.std.proofs.lemmas.List.Elements.{Contains-append_left, Contains-append_right}
 use Rattle.std.proofs.lemmas.Bool.{leb-false}
@@ -51,7 +51,7 @@ lines_passed first brackets row (t ∷ ts) =
     rest = token_faults opened next ts
 
 module _ (tokens : List Token) where
-  -- what is told of a line holds there
+  -- the recorded limit is exceeded in the recorded line
   abbrev Holds : At TooNested → Type 0
   Holds at = IsPassedByTokens tokens at.line at.reason
 
@@ -98,7 +98,7 @@ module _ (tokens : List Token) where
         passed = passed;
       }
 
-  -- the first line, where one is kept, and no line else
+  -- the recorded line is the least one; without a recorded line no token exceeds a limit
   pub is_first : (found : Option (At TooNested)) → found ≡ first_passed None 0 0 tokens → MatchOption found (IsShort tokens) (IsFirstPassed tokens)
   is_first None e = no_lines (token_faults 0 0 tokens) (sym (lines_passed None 0 0 tokens) ∙ ap line_of (sym e))
   is_first (Some at) e = record {

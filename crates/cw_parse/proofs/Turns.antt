@@ -1,4 +1,4 @@
--- The turns of a loop that reads a row of parts.
+-- The iterations of a loop that reads consecutive parts.
 use Rattle.std.proofs.Common.{◌≡◌, ℕ, suc, ◌+◌, ◌-◌, ◌<◌, ◌≤◌, Bool, true, false, cond, List, [], ◌∷◌, ◌++◌, length, Option, Some, None, Ok, Err, refl, sym, ap, ◌∙◌, arith}
 use Rattle.cw_model.specs.declared.token.Token.{Token}
 use Rattle.cw_parse.specs.declared.stop.Stop.{Stop}
@@ -33,7 +33,7 @@ if_not_past {A} m f g (v ∷ vs) e = go (is_mark m v.kind) e
     go true e = absurd cc
     go false e = refl
 
--- ---- rows
+-- ---- sequences of parts
 
 pile_push : {A B : Type 0} (join : A → B → B) (front : List A) (a : A) (b : B) → pile join (front ++ a ∷ []) b ≡ pile join front (join a b)
 pile_push join [] a b = refl
@@ -72,23 +72,23 @@ module _ {A S B : Type 0} (m : Mark) (end : S → B) (join : A → B → B) (par
   fails stop.Memory lt e f = tt
   fails (stop.At k) lt e f = sym (then_on lt e) ∙ ap (λ r. with_front join front (r >>= λ x. row (is_mark m) end join part (n - (i + 1)) x.0.1 x.1 >>= λ y. Ok (join x.0.0 y.0, y.1))) f
 
--- parts in front of none are those parts
+-- joining parts to the empty list returns the parts
 pub pile_all : {A : Type 0} (front : List A) → pile add_front front [] ≡ front
 pile_all [] = refl
 pile_all (a ∷ front) = ap (add_front a) (pile_all front)
 
--- lines in front of the end of a block are a block
+-- joining lines to the end of a block returns the block of these lines
 pub block_all : (front : List Line) (n : ℕ) → pile put_before front (End, n) ≡ (block_from front, n)
 block_all [] n = refl
 block_all (x ∷ front) n = ap (put_before x) (block_all front n)
 
--- an array parameter, before a bracket behind it is tested for
+-- an array parameter, before the test for a second bracket
 pub param_array : (x : Name) (ts : List Token) (u : Token) (us : List Token) (p : Param) (rest : List Token)
     → past mark.LeftBracket ts ≡ Some (u, us) → array x us ≡ Ok (p, rest) → behind_name x ts ≡ single p rest
 param_array x ts u us p rest on read =
     if_past mark.LeftBracket (λ _ us. array x us >>= λ y. single y.0 y.1) (λ us. Ok (record { name = x; kind = name_kind.Integer }, us)) ts u us on ∙ ap (λ r. r >>= λ y. single y.0 y.1) read
 
--- an array that is only read, before a bracket behind it is tested for
+-- a read-only array parameter, before the test for a second bracket
 pub param_const : (text : List ℕ) (ts : List Token) (u : Token) (us : List Token) (p : Param) (rest : List Token) → past mark.Const ts ≡ Some (u, us)
     → const_array text us ≡ Ok (p, rest) → param text ts ≡ single p rest
 unfolding param

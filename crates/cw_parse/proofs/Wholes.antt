@@ -1,4 +1,4 @@
--- The turns of the loop over the items of a source.
+-- The iterations of the loop over the items of a source.
 use Rattle.std.proofs.Common.{◌≡◌, ℕ, zero, suc, ◌+◌, ◌-◌, ◌<◌, ◌≤◌, true, false, List, [], ◌∷◌, ◌++◌, length, Ok, Err, refl, sym, ap, ◌∙◌, append_assoc, arith}
 use Rattle.std.proofs.lemmas.List.{append-nil}
 use Rattle.std.proofs.lemmas.Bool.{eqb-true, eq-eqb}
@@ -10,11 +10,11 @@ use Rattle.cw_parse.specs.declared.stop.Stop.TheVariants as stop
 use Rattle.cw_parse.specs.Reading.{Read, Reader, ◌>>=◌, Fails, by_first}
 use Rattle.cw_parse.specs.Parts.{Item, Total, Code, Items, put_item, push_item, item, items, whole}
 
--- items in front of others
+-- the concatenation of items
 abbrev pub together : Items → Items → Items
 together xs ys = (xs.0 ++ ys.0, xs.1 ++ ys.1)
 
--- reading items of which these were read before
+-- adds items that were read before to the result of reading the others
 abbrev pub with_items : Items → Read Items → Read Items
 with_items xs read = read >>= λ y. Ok (together xs y.0, y.1)
 
@@ -26,7 +26,7 @@ regroup : (xs : Items) (x : Item) (read : Read Items) → with_items xs (read >>
 regroup xs x (Ok y) = ap (λ (b : Items). Ok (b, y.1)) (sym (item_push xs x y.0))
 regroup xs x (Err m) = refl
 
--- nothing was read before
+-- no items were read before
 with_none : (read : Read Items) → with_items ([], []) read ≡ read
 with_none (Ok y) = refl
 with_none (Err m) = refl
@@ -36,7 +36,7 @@ unfolding whole
 whole_some text n [] h = absurd (h refl)
 whole_some text n (t ∷ ts) h = refl
 
--- before the first turn
+-- the state before the first iteration
 pub first_turn : (text : List ℕ) (n : ℕ) (ts : List Token) → (ts ≡ [] → ⊥) → with_items ([], []) (items (λ s. by_first (item text n s)) (n - 0) 1 ts) ≡ whole text n ts
 first_turn text n ts h = let e : n - 0 ≡ n = omega arith in rw e (with_none (items (λ s. by_first (item text n s)) n 1 ts) ∙ sym (whole_some text n ts h))
 
@@ -88,7 +88,7 @@ module _ (next : ℕ → Reader (Item × ℕ)) (n i : ℕ) (xs : Items) (s : ℕ
   item_fails stop.Memory lt some f = tt
   item_fails (stop.At m) lt some f = sym (then_on lt some) ∙ ap (λ r. with_items xs (r >>= λ x. items next (n - (i + 1)) x.0.1 x.1 >>= λ y. Ok (put_item x.0.0 y.0, y.1))) f
 
--- a test of emptiness
+-- the length test decides emptiness
 pub empty_is : (ts : List Token) → true ≡ (length ts == 0) → ts ≡ []
 empty_is [] e = refl
 empty_is (t ∷ ts) e = absurd (let l = eqb-true (length (t ∷ ts)) 0 (sym e) in omega arith)

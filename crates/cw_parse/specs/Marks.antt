@@ -1,4 +1,4 @@
--- Kinds of tokens that the grammar names.
+-- The kinds of tokens that the grammar names.
 use Rattle.std.specs.Prelude.{Bool, true, false, if◌then◌else◌, List, [], ◌∷◌, Option, Some, None}
 use Rattle.cw_model.specs.declared.token.Token.{Token}
 use Rattle.cw_model.specs.declared.token.Kind.{Kind}
@@ -6,7 +6,7 @@ use Rattle.cw_model.specs.declared.token.Kind.TheVariants as kind
 use Rattle.cw_parse.specs.declared.marks.Mark.{Mark}
 use Rattle.cw_parse.specs.declared.marks.Mark.TheVariants as mark
 
--- a token of this kind is one that the mark stands for
+-- a token of this kind matches the mark
 abbrev pub is_mark : Mark → Kind → Bool
 is_mark mark.Name kind.Name = true
 is_mark mark.Int kind.Int = true
@@ -30,7 +30,7 @@ is_mark mark.Increment kind.Increment = true
 is_mark mark.Less kind.Less = true
 is_mark _ _ = false
 
--- the first token, if it is one that the mark stands for, and those after it
+-- the first token and the tokens after it, if the first token matches the mark
 abbrev pub past : Mark → List Token → Option (Token × List Token)
 past m [] = None
 past m (t ∷ ts) = if is_mark m t.kind then Some (t, ts) else None

@@ -1,4 +1,4 @@
--- Which limit tokens pass, and in which line.
+-- The limit that tokens exceed, and the line.
 use Rattle.std.specs.Prelude.{◌≡◌, ◌<◌, ℕ, nat_le, Bool, true, false, if◌then◌else◌, List, [], ◌∷◌, Option, Some, None}
 use Rattle.std.specs.Prelude.{Contains}
 use Rattle.cw_model.specs.declared.limits.TheConstants.{MOST_OPEN_BRACKETS, MOST_TOKENS_IN_A_ROW}
@@ -11,48 +11,48 @@ use Rattle.cw_text.specs.declared.fault.Fault.TheVariants as fault
 use Rattle.cw_parse.specs.declared.nesting.TooNested.{TooNested}
 use Rattle.cw_parse.specs.declared.nesting.TooNested.TheVariants as reason
 
--- after a token of a line so many brackets are open, and so many tokens stand in a row
+-- the number of open brackets and of tokens in a row after a token, with the line of the token
 pub record Nesting : Type 0 where
   pub line : ℕ
   pub brackets : ℕ
   pub row : ℕ
 
--- after each of these tokens
+-- the nesting after each token
 abbrev pub nestings : (brackets row : ℕ) → List Token → List Nesting
 nestings brackets row [] = []
 nestings brackets row (t ∷ ts) =
     record { line = t.line; brackets = open_after brackets t.kind; row = row_after row t.kind }
     ∷ nestings (open_after brackets t.kind) (row_after row t.kind) ts
 
--- too many brackets are open, or too many tokens stand in a row
+-- too many brackets are open, or too many tokens are in a row
 abbrev pub IsTooNested : (brackets row : ℕ) → TooNested → Type 0
 IsTooNested brackets row reason.Brackets = MOST_OPEN_BRACKETS < brackets
 IsTooNested brackets row reason.Row = MOST_TOKENS_IN_A_ROW < row
 
--- they do so after a token of the line
+-- a token in this line exceeds the limit
 pub record IsPassedByTokens (tokens : List Token) (line : ℕ) (r : TooNested) : Type 0 where
   pub nesting : Nesting
   pub there : Contains (nestings 0 0 tokens) nesting
   pub at_line : nesting.line ≡ line
   pub passed : IsTooNested nesting.brackets nesting.row r
 
--- the least line of a token that passes a limit, and a limit that is passed there
+-- the least line of a token that exceeds a limit, and a limit that it exceeds
 pub record IsFirstPassed (tokens : List Token) (at : At TooNested) : Type 0 where
   pub least : IsLeastLine (token_faults 0 0 tokens) at.line
   pub holds : IsPassedByTokens tokens at.line at.reason
 
--- what must hold of tokens where this fault is answered for them
+-- the condition that tokens satisfy if the check of limits returns this fault
 abbrev pub IsRefused : List Token → Fault → Type 0
 IsRefused tokens (fault.Size p) = IsLeastLine (token_faults 0 0 tokens) p.line
 IsRefused tokens _ = ⊥
 
--- the least line with the limit that was noted for it first, where one more is noted, unless the limit is kept
+-- records a line, unless the limit is kept: the least line remains, with the first limit recorded for it
 abbrev pub noted : Bool → TooNested → (line : ℕ) → Option (At TooNested) → Option (At TooNested)
 noted true r line first = first
 noted false r line None = Some (record { line = line; reason = r })
 noted false r line (Some at) = if nat_le at.line line then Some at else Some (record { line = line; reason = r })
 
--- the same where both limits are tested of each of these tokens
+-- tests both limits at each token and records the lines that exceed one
 abbrev pub first_passed : Option (At TooNested) → (brackets row : ℕ) → List Token → Option (At TooNested)
 first_passed first brackets row [] = first
 first_passed first brackets row (t ∷ ts) =

@@ -1,4 +1,4 @@
--- What the steps of the code stand for.
+-- The abstraction functions: what the values of the code represent.
 use Rattle.std.specs.Prelude.{◌≡◌, map}
 use Rattle.cw_model.specs.Grammar.{Head}
 use Rattle.cw_model.specs.Syntax as model
@@ -13,7 +13,7 @@ use Rattle.cw_parse.specs.declared.item.Item.TheVariants as item
 use Rattle.cw_tree.specs.SyntaxView.{expr_of, function_of, reducer_of}
 use Rattle.cw_parse.specs.Parts as part
 
--- the head of a loop
+-- the abstraction of the head of a loop
 abbrev pub head_of : code.Head → Head
 head_of h =
     record {
@@ -26,7 +26,7 @@ head_of h =
       over = h.over.items;
     }
 
--- what stands in front of a block
+-- the abstraction of the opening of a block
 abbrev pub opening_of : Opening → part.Opening
 opening_of (opening.If e) = part.If (expr_of e)
 opening_of (opening.While e) = part.While (expr_of e)
@@ -35,19 +35,19 @@ opening_of opening.Scope = part.Scope
 opening_of (opening.Cut c) = part.Cut c.value.array (expr_of c.value.at) c.value.left c.value.right
 opening_of (opening.Region tag) = part.Region tag
 
--- a reducer or a function
+-- the abstraction of a reducer or a function
 abbrev pub item_of : Item → part.Item
 item_of (item.Total r) = part.Total (reducer_of r)
 item_of (item.Code f) = part.Code (function_of f)
 
--- a name beside what an expression stands for
+-- the abstraction of a name and an expression
 abbrev pub named_expr_of : Name × Expr → Name × model.Expr
 named_expr_of x = (x.0, expr_of x.1)
 
--- the items of a source
+-- the abstraction of the items of a source
 abbrev pub items_of : Ast → part.Items
 items_of ast = (map reducer_of ast.reducers.items, map function_of ast.functions.items)
 
--- the items are those before, and one more behind them
+-- the items are the items before with this one appended
 abbrev pub IsPushed : Ast → Item → Ast → Type 0
 IsPushed before found after = items_of after ≡ part.push_item (items_of before) (item_of found)

@@ -1,4 +1,4 @@
-//! Expressions.
+//! Parses expressions.
 
 ghost use Rattle.std.specs.Prelude.{◌≡◌, ◌-◌, ◌<◌, option_map, IfOk};
 ghost use Rattle.cw_model.specs.Grammar.{name_of, infix_of};
@@ -15,10 +15,14 @@ use cw_model::token::{Kind, Token};
 use cw_tree::syntax::{Expr, Name};
 use std::alloc::AllocError;
 
-/// The level of the operators that bind least.
+/// The level of the operators that bind loosest.
 const HIGHEST: usize = 4;
 
-/// The name that a token spells.
+/// Returns the name that a token spells.
+///
+/// # Errors
+///
+/// Returns an error if memory runs out.
 pub(crate) fn name_of(reading: Reading<'_>, token: Token) -> Result<Name, AllocError>
     ensures { IfOk result (λ name. name ≡ name_of reading.entry.text.now token) }
 {
@@ -26,7 +30,7 @@ pub(crate) fn name_of(reading: Reading<'_>, token: Token) -> Result<Name, AllocE
     reading.names.name(reading.alloc, bytes)
 }
 
-// The operator of a kind of token, and its level: 1 binds most tightly.
+// Returns the operator of a kind of token with its level, from 1 for the operators that bind tightest.
 fn infix_of(kind: Kind) -> Option<(usize, Operator)>
     ensures { result ≡ infix_of kind }
 {
@@ -46,7 +50,7 @@ fn infix_of(kind: Kind) -> Option<(usize, Operator)>
     }
 }
 
-// The operator of this level that the tokens begin with, and the tokens after it.
+// Returns the operator of this level at the front of the tokens, with the tokens after it.
 fn operator_at(level: usize, tokens: &[Token]) -> Option<(Operator, &[Token])>
     ensures { option_map (λ x. (x.0, x.1.now)) result ≡ operator_at level tokens.now }
 {
@@ -59,7 +63,7 @@ fn operator_at(level: usize, tokens: &[Token]) -> Option<(Operator, &[Token])>
     }
 }
 
-// An operand that was read: an index stands behind a name alone.
+// Returns an operand that was parsed, unless an index follows it: an index may follow only a name.
 fn unindexed<'a>(value: Expr, tokens: &'a [Token]) -> Read<'a, Expr>
     ensures { Parses expr_of result (unindexed (expr_of value) tokens.now) }
 {
@@ -69,7 +73,7 @@ fn unindexed<'a>(value: Expr, tokens: &'a [Token]) -> Read<'a, Expr>
     }
 }
 
-// An element of an array behind the opening bracket of its index.
+// Parses the index of an array element after its opening bracket.
 #[cycle(expr)]
 fn indexed<'a>(
     reading: Reading<'_>,
@@ -86,7 +90,7 @@ fn indexed<'a>(
     Ok((Expr::Element(array, index), rest))
 }
 
-// An operand that begins with a name.
+// Parses an operand that begins with a name.
 #[cycle(expr)]
 #[tactic(auto, unfolding(crate::specs::Parts::named))]
 fn named<'a>(
@@ -108,7 +112,7 @@ fn named<'a>(
     }
 }
 
-// A length after its word.
+// Parses the length of an array after its keyword.
 #[tactic(auto, unfolding(crate::specs::Parts::measured))]
 fn measured<'a>(reading: Reading<'_>, tokens: &'a [Token]) -> Read<'a, Expr>
     ensures { Parses expr_of result (measured reading.entry.text.now tokens.now) }
@@ -119,7 +123,7 @@ fn measured<'a>(reading: Reading<'_>, tokens: &'a [Token]) -> Read<'a, Expr>
     Ok((Expr::Length(name_of(reading, array)?), rest))
 }
 
-// An operand without a sign and without a name in front, after its first token.
+// Parses an operand that begins with neither a sign nor a name, after its first token.
 #[cycle(expr)]
 #[tactic(auto, unfolding(crate::specs::Parts::atom))]
 fn atom<'a>(reading: Reading<'_>, depth: usize, first: Token, tokens: &'a [Token]) -> Read<'a, Expr>
@@ -141,7 +145,7 @@ fn atom<'a>(reading: Reading<'_>, depth: usize, first: Token, tokens: &'a [Token
     }
 }
 
-// An operand after its first token.
+// Parses an operand after its first token.
 #[cycle(expr)]
 #[tactic(auto, unfolding(crate::specs::Parts::operand_after))]
 fn operand_after<'a>(
@@ -170,7 +174,7 @@ fn operand_after<'a>(
     }
 }
 
-// An operand.
+// Parses an operand whose inner operands nest at most `depth` deep.
 #[cycle(expr)]
 fn operand_by<'a>(reading: Reading<'_>, depth: usize, tokens: &'a [Token]) -> Read<'a, Expr>
     ensures { Parses expr_of result
@@ -182,7 +186,7 @@ fn operand_by<'a>(reading: Reading<'_>, depth: usize, tokens: &'a [Token]) -> Re
     }
 }
 
-// An operand, in which operands lie in one another at most so deep.
+// Parses an operand; operands nest at most `depth` deep.
 #[cycle(expr)]
 fn operand<'a>(reading: Reading<'_>, depth: usize, tokens: &'a [Token]) -> Read<'a, Expr>
     ensures { Parses expr_of result (operand reading.entry.text.now depth tokens.now) }
@@ -193,7 +197,7 @@ fn operand<'a>(reading: Reading<'_>, depth: usize, tokens: &'a [Token]) -> Read<
     operand_by(reading, depth - 1, tokens)
 }
 
-// The operators of the level above `below`, behind a left operand.
+// Parses the operators of the level above `below` that follow a left operand.
 #[cycle(expr)]
 fn chain<'a>(
     reading: Reading<'_>,
@@ -223,7 +227,7 @@ fn chain<'a>(
     Ok((left, rest))
 }
 
-// An expression with operators of levels up to this one.
+// Parses an expression with operators of levels up to `highest`.
 #[cycle(expr)]
 fn level<'a>(
     reading: Reading<'_>,
@@ -242,7 +246,11 @@ fn level<'a>(
     Ok((value, rest))
 }
 
-/// An expression, in which operands lie in one another at most `depth` deep.
+/// Parses an expression; operands nest at most `depth` deep.
+///
+/// # Errors
+///
+/// Stops at the first token that does not fit, or if memory runs out.
 pub(crate) fn expr<'a>(reading: Reading<'_>, depth: usize, tokens: &'a [Token]) -> Read<'a, Expr>
     ensures { Parses expr_of result (expr reading.entry.text.now depth tokens.now) }
 {

@@ -1,21 +1,22 @@
-//! What the parts of a source are read from, and what reading them gives.
+//! The input of the parser, and the result of parsing a part of a source.
 
 use crate::names::Names;
 use crate::stop::Stop;
 use cw_model::token::Token;
 use std::alloc::Global;
 
-/// What each part of a source is read with.
+/// Holds the input that is common to all parts of a source.
 #[derive(Clone, Copy)]
 pub(crate) struct Reading<'t> {
     pub(crate) alloc: Global,
-    /// The text of the source, which names are taken from.
+    /// The text of the source, with the bytes of the names.
     pub(crate) text: &'t [u8],
-    /// The names of the source, each once.
+    /// The distinct names of the source.
     pub(crate) names: &'t Names,
-    /// The number of tokens: a bound on parts in a row, and on operands in one another.
+    /// The number of tokens: a bound on the number of consecutive parts and on the nesting of operands.
     pub(crate) limit: usize,
 }
 
-/// What was read and the tokens after it, or why reading stopped.
+/// Holds a parsed part with the tokens after it, or the reason why parsing stopped: the first token that does not
+/// fit, or out of memory.
 pub(crate) type Read<'a, T> = Result<(T, &'a [Token]), Stop>;

@@ -1,4 +1,4 @@
-//! Reducers, functions and whole sources.
+//! Parses reducers, functions and whole sources.
 
 ghost use Rattle.std.specs.Prelude.{◌≡◌, ◌+◌, ◌<◌, ◌^◌, [], length, MatchResult};
 ghost use Rattle.cw_parse.specs.declared.stop.Stop.TheVariants.{Memory};
@@ -19,7 +19,7 @@ use cw_model::syntax::{NameKind, Reduction};
 use cw_model::token::{Kind, Token};
 use cw_tree::syntax::{Ast, Function, Name, Param, Reducer};
 
-// An array parameter behind its opening bracket.
+// Parses an array parameter after its opening bracket.
 fn array<'a>(name: Name, tokens: &'a [Token]) -> Read<'a, Param>
     ensures { Parses param_of result (array name tokens.now) }
 {
@@ -31,7 +31,7 @@ fn array<'a>(name: Name, tokens: &'a [Token]) -> Read<'a, Param>
     Ok((array, rest))
 }
 
-// An array parameter that was read: one pair of brackets makes an array.
+// Returns an array parameter that was parsed, unless a second pair of brackets follows it.
 fn single<'a>(param: Param, tokens: &'a [Token]) -> Read<'a, Param>
     ensures { Parses param_of result (single (param_of param) tokens.now) }
 {
@@ -41,7 +41,7 @@ fn single<'a>(param: Param, tokens: &'a [Token]) -> Read<'a, Param>
     }
 }
 
-// A parameter behind its name.
+// Parses a parameter after its name.
 fn kind_of_param<'a>(name: Name, tokens: &'a [Token]) -> Read<'a, Param>
     ensures { Parses param_of result (behind_name name tokens.now) }
 {
@@ -60,7 +60,7 @@ fn kind_of_param<'a>(name: Name, tokens: &'a [Token]) -> Read<'a, Param>
     }
 }
 
-// A parameter that is an integer, or an array that may be written.
+// Parses a parameter that is an integer or a writable array.
 fn written<'a>(reading: Reading<'_>, tokens: &'a [Token]) -> Read<'a, Param>
     ensures { Parses param_of result (written reading.entry.text.now tokens.now) }
 {
@@ -71,7 +71,7 @@ fn written<'a>(reading: Reading<'_>, tokens: &'a [Token]) -> Read<'a, Param>
     Ok((param, rest))
 }
 
-// An array that is only read, behind its word.
+// Parses a read-only array parameter after its keyword.
 fn const_array<'a>(reading: Reading<'_>, tokens: &'a [Token]) -> Read<'a, Param>
     ensures { Parses param_of result (const_array reading.entry.text.now tokens.now) }
 {
@@ -105,7 +105,7 @@ impl Part for Param {
     }
 }
 
-// How a reducer reduces, by its word.
+// Parses the keyword of a reduction.
 fn reduction(tokens: &[Token]) -> Read<'_, Reduction>
     ensures { Parses (λ x. x) result (by_first reduction tokens.now) }
 {
@@ -119,7 +119,7 @@ fn reduction(tokens: &[Token]) -> Read<'_, Reduction>
     }
 }
 
-// A reducer after its first token.
+// Parses a reducer after its first token.
 #[tactic(auto, unfolding(crate::specs::Parts::reducer))]
 fn reducer<'a>(reading: Reading<'_>, first: Token, tokens: &'a [Token]) -> Read<'a, Reducer>
     ensures { Parses reducer_of result (reducer reading.entry.text.now first tokens.now) }
@@ -135,7 +135,7 @@ fn reducer<'a>(reading: Reading<'_>, first: Token, tokens: &'a [Token]) -> Read<
     Ok((reducer, rest))
 }
 
-// A function after its first token, and the number of the next call statement.
+// Parses a function after its first token; also returns the number of the next call statement.
 #[tactic(auto, unfolding(crate::specs::Parts::function))]
 fn function<'a>(
     reading: Reading<'_>,
@@ -162,14 +162,14 @@ fn function<'a>(
     Ok(((function, site), rest))
 }
 
-// A reducer or a function.
+// Represents an item of a source: a reducer or a function.
 #[derive(Drop)]
 enum Item {
     Total(Reducer),
     Code(Function),
 }
 
-// An item after its first token, and the number of the next call statement.
+// Parses an item after its first token; also returns the number of the next call statement.
 #[tactic(auto, unfolding(crate::specs::Parts::item))]
 fn next_item<'a>(
     reading: Reading<'_>,
@@ -198,7 +198,7 @@ fn next_item<'a>(
     }
 }
 
-// An item, and the number of the next call statement.
+// Parses an item; also returns the number of the next call statement.
 fn item_by<'a>(reading: Reading<'_>, site: u32, tokens: &'a [Token]) -> Read<'a, (Item, u32)>
     requires { site + length tokens.now < 2 ^ 32 }
     ensures { Parses (numbered item_of) result
@@ -210,7 +210,7 @@ fn item_by<'a>(reading: Reading<'_>, site: u32, tokens: &'a [Token]) -> Read<'a,
     }
 }
 
-// The items before, and one more behind them.
+// Appends an item.
 fn push(mut ast: Ast, found: Item) -> Result<Ast, Stop>
     ensures { MatchResult result (IsPushed ast found)
         (λ e. e ≡ Memory) }
@@ -222,7 +222,11 @@ fn push(mut ast: Ast, found: Item) -> Result<Ast, Stop>
     Ok(ast)
 }
 
-/// The items of a whole source.
+/// Parses all items of a source.
+///
+/// # Errors
+///
+/// Stops at the first token that does not fit, or if memory runs out.
 pub(crate) fn whole(reading: Reading<'_>, tokens: &[Token]) -> Result<Ast, Stop>
     requires { 1 + length tokens.now < 2 ^ 32 }
     ensures { Gives (λ x. (items_of x, [])) result

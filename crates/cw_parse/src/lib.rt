@@ -1,4 +1,4 @@
-//! Reads the tree of a source from its tokens.
+//! The parser: builds the tree of a source from its tokens.
 #![tactic(auto)]
 
 mod expr;

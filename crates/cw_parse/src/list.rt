@@ -1,4 +1,4 @@
-//! Lists in commas, up to the parenthesis that closes them.
+//! Parses lists with commas, up to the closing parenthesis.
 
 ghost use Rattle.std.specs.Prelude.{ℕ, List, map};
 ghost use Rattle.cw_parse.specs.Reading.{Gives, Parses, Reader};
@@ -13,17 +13,17 @@ use crate::stop::Stop;
 use cw_model::token::Token;
 use cw_tree::syntax::{Expr, Name};
 
-/// What stands between commas.
+/// Represents a part of a list.
 pub(crate) trait Part: Drop + Sized {
     ghost Seen: { Type 0 };
 
-    // What it stands for.
+    // the value that a part represents
     ghost seen: { Self → Seen };
 
-    // Reading it from a text, where operands lie in one another at most so deep.
+    // the reader of a part from a text; operands nest at most this deep
     ghost part: { List ℕ → ℕ → Reader Seen };
 
-    /// One part.
+    /// Parses one part.
     fn read<'a>(reading: Reading<'_>, depth: usize, tokens: &'a [Token]) -> Read<'a, Self>
         ensures { Parses seen result (part reading.entry.text.now depth tokens.now) };
 }
@@ -53,7 +53,7 @@ impl Part for Name {
     }
 }
 
-// A comma and a further part.
+// Parses a comma and another part.
 fn further<'a, T: Part>(reading: Reading<'_>, depth: usize, tokens: &'a [Token]) -> Read<'a, T>
     ensures { Parses (λ part. (T.seen part, tt)) result
         (further (T.part reading.entry.text.now depth) tt tokens.now) }
@@ -63,7 +63,7 @@ fn further<'a, T: Part>(reading: Reading<'_>, depth: usize, tokens: &'a [Token])
     Ok((part, rest))
 }
 
-// The parts behind those that were read, and the closing parenthesis.
+// Parses the parts after `done`, and the closing parenthesis.
 fn others<'a, T: Part>(
     reading: Reading<'_>,
     depth: usize,
@@ -86,7 +86,11 @@ fn others<'a, T: Part>(
     Err(Stop::At(rest.len()))
 }
 
-/// One part or more, and the closing parenthesis.
+/// Parses one or more parts, and the closing parenthesis.
+///
+/// # Errors
+///
+/// Stops at the first token that does not fit, or if memory runs out.
 pub(crate) fn some_of<'a, T: Part>(
     reading: Reading<'_>,
     depth: usize,
@@ -101,7 +105,11 @@ pub(crate) fn some_of<'a, T: Part>(
     others(reading, depth, done, rest)
 }
 
-/// Any number of parts, and the closing parenthesis.
+/// Parses any number of parts, and the closing parenthesis.
+///
+/// # Errors
+///
+/// Stops at the first token that does not fit, or if memory runs out.
 #[tactic(auto, unfolding(crate::specs::Parts::list))]
 pub(crate) fn list<'a, T: Part>(
     reading: Reading<'_>,

@@ -8,7 +8,7 @@ use crate::input::Read;
 use crate::stop::Stop;
 use cw_model::token::{Kind, Token};
 
-/// A kind of token that the grammar names.
+/// Represents a kind of token that the grammar names.
 #[derive(Clone, Copy)]
 pub enum Mark {
     Name,
@@ -34,7 +34,7 @@ pub enum Mark {
 }
 
 impl Mark {
-    /// Whether a token of this kind is one that the mark stands for.
+    /// Reports whether a token of this kind matches the mark.
     pub(crate) fn is(self, kind: Kind) -> bool
         ensures { result ≡ is_mark self kind }
     {
@@ -63,7 +63,7 @@ impl Mark {
     }
 }
 
-/// The first token and those after it, if it is one that the mark stands for.
+/// Returns the first token and the tokens after it if the first token matches the mark.
 pub(crate) fn past(mark: Mark, tokens: &[Token]) -> Option<(Token, &[Token])>
     ensures { option_map (λ x. (x.0, x.1.now)) result ≡ past mark tokens.now }
 {
@@ -73,8 +73,11 @@ pub(crate) fn past(mark: Mark, tokens: &[Token]) -> Option<(Token, &[Token])>
     }
 }
 
-/// The first token, which is one that the mark stands for, and those after it; it stops there if
-/// it is not.
+/// Parses one token that matches the mark.
+///
+/// # Errors
+///
+/// Stops at the first token if it does not match the mark.
 pub(crate) fn expect(mark: Mark, tokens: &[Token]) -> Read<'_, Token>
     ensures { Parses (λ x. x) result (token (is_mark mark) tokens.now) }
 {

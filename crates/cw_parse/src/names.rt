@@ -1,4 +1,4 @@
-//! The different names of a source, each once in memory.
+//! The distinct names of a source, each once in memory.
 
 ghost use Rattle.std.specs.Prelude.{◌≡◌, ◌<◌, length, IfOk, IfSome};
 ghost use Rattle.cw_model.specs.Grammar.{name_of};
@@ -7,20 +7,20 @@ use cw_model::token::{Kind, Token};
 use cw_tree::syntax::Name;
 use std::alloc::{AllocError, Global};
 
-// The most places that a table has.
+// The maximum number of places in a table.
 const MOST_PLACES: usize = 1 << 14;
 
-// How many places are looked at for a name.
+// The number of places that are searched for a name.
 const LOOKED_AT: usize = 4;
 
-/// Different names, each in a place near the one that its bytes say. A name that finds no place there is not kept, so
-/// that looking one up takes the same few steps whatever the names are.
+/// Holds the distinct names of a source in a hash table: each name is near the place that its hash selects. A name
+/// that finds no place there is not stored, so a lookup takes the same small number of steps for all names.
 #[derive(Drop)]
 pub(crate) struct Names {
     places: Vec<Option<Name>>,
 }
 
-/// The bytes of a text that a token spells.
+/// Returns the bytes of the text that a token spells.
 pub(crate) fn bytes_of(text: &[u8], token: Token) -> &[u8]
     ensures { result.now ≡ name_of text.now token }
 {
@@ -29,7 +29,7 @@ pub(crate) fn bytes_of(text: &[u8], token: Token) -> &[u8]
     &text[start..end]
 }
 
-// The place that bytes say.
+// Returns the hash of the bytes, which selects a place.
 fn place_of(bytes: &[u8]) -> usize {
     let mut hash: u64 = 0xcbf2_9ce4_8422_2325;
     for byte in bytes {
@@ -39,7 +39,11 @@ fn place_of(bytes: &[u8]) -> usize {
 }
 
 impl Names {
-    /// The names among the tokens of a text. An error where memory runs out.
+    /// Returns a table of the names among the tokens of a text.
+    ///
+    /// # Errors
+    ///
+    /// Returns an error if memory runs out.
     pub(crate) fn of(alloc: Global, text: &[u8], tokens: &[Token]) -> Result<Names, AllocError> {
         let mut names = Names::none(alloc, tokens.len().min(MOST_PLACES))?;
         for token in tokens {
@@ -50,7 +54,7 @@ impl Names {
         Ok(names)
     }
 
-    // No names, in so many places.
+    // Returns a table with `count` empty places.
     fn none(alloc: Global, count: usize) -> Result<Names, AllocError> {
         let mut places = Vec::with_capacity(alloc, count)?;
         for _ in 0..count {
@@ -59,7 +63,7 @@ impl Names {
         Ok(Names { places })
     }
 
-    // The first place for these bytes that has them or is empty.
+    // Returns the first place, among the places searched for these bytes, that holds them or is empty.
     fn seek(&self, bytes: &[u8]) -> Option<usize>
         ensures { IfSome result (λ place. place < length self.now.places.items) }
     {
@@ -79,7 +83,7 @@ impl Names {
         None
     }
 
-    // The name with these bytes too, where there is a place for it.
+    // Adds the name with these bytes if there is a place for it.
     fn keep(&mut self, alloc: Global, bytes: &[u8]) -> Result<(), AllocError> {
         if let Some(place) = self.seek(bytes) {
             if self.places[place].is_none() {
@@ -89,7 +93,11 @@ impl Names {
         Ok(())
     }
 
-    /// The name with these bytes: one that is kept, or a copy. An error where memory runs out.
+    /// Returns the name with these bytes: the stored one or a copy.
+    ///
+    /// # Errors
+    ///
+    /// Returns an error if memory runs out.
     pub(crate) fn name(&self, alloc: Global, bytes: &[u8]) -> Result<Name, AllocError>
         ensures { IfOk result (λ name. name ≡ bytes.now) }
     {

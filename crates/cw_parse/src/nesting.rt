@@ -1,4 +1,4 @@
-//! The limits on brackets that are open at once and on tokens in a row.
+//! The limits on open brackets and on tokens in a row.
 
 ghost use Rattle.std.specs.Prelude.{◌≡◌, ◌+◌, ◌<◌, ◌≤◌, ◌^◌, None, MatchOption, MatchResult};
 ghost use Rattle.cw_model.specs.Sizes as spec;
@@ -10,17 +10,20 @@ use cw_model::token::{Kind, Token};
 use cw_reasons::At;
 use cw_text::{Fault, Place};
 
-/// A limit of tokens.
+/// Represents a limit on tokens.
 #[derive(Clone, Copy)]
 pub enum TooNested {
     /// Too many brackets are open at once.
     Brackets,
-    /// Too many tokens stand in a row.
+    /// Too many tokens are in a row, without a semicolon or a brace.
     Row,
 }
 
-/// Answers `Size` at the least line of a token at which too many brackets are open or which
-/// stands too far in a row, if there is one.
+/// Checks the limits on open brackets and on tokens in a row.
+///
+/// # Errors
+///
+/// Returns `Size` at the least line of a token that exceeds one of these limits.
 pub fn test_nesting(tokens: &[Token]) -> Result<(), Fault>
     ensures { MatchResult result (λ _. IsShort tokens.now) (IsRefused tokens.now) }
 {
@@ -30,21 +33,22 @@ pub fn test_nesting(tokens: &[Token]) -> Result<(), Fault>
     }
 }
 
-/// The least line of a token that passes a limit, with a limit that is passed there, if there is such a line.
+/// Returns the least line of a token that exceeds a limit, with a limit that it exceeds; `None` if no token exceeds a
+/// limit.
 pub fn passed_by_tokens(tokens: &[Token]) -> Option<At<TooNested>>
     ensures { MatchOption result (IsShort tokens.now) (IsFirstPassed tokens.now) }
 {
     first_passed(tokens).first
 }
 
-// The least line so far of a token that passes a limit, with the limit that was noted for it first.
+// Holds the least line so far of a token that exceeds a limit, with the first limit recorded for this line.
 #[derive(Clone, Copy)]
 struct Passed {
     first: Option<At<TooNested>>,
 }
 
 impl Passed {
-    // One line more, unless the limit is kept.
+    // Records a line, unless the token keeps the limit.
     #[inline(always)]
     fn note(&mut self, kept: bool, reason: TooNested, line: u32)
         ensures { self.new.first ≡ noted kept reason line self.old.first }
@@ -63,7 +67,7 @@ impl Passed {
     }
 }
 
-// The least line of a token that passes a limit, with the limit that was noted for it first.
+// Returns the least line of a token that exceeds a limit, with the first limit recorded for it.
 fn first_passed(tokens: &[Token]) -> Passed
     ensures { result.first ≡ first_passed None 0 0 tokens.now }
 {
@@ -83,7 +87,7 @@ fn first_passed(tokens: &[Token]) -> Passed
     passed
 }
 
-// Brackets that are open after a token.
+// Returns the number of open brackets after a token.
 fn open_after(brackets: usize, kind: Kind) -> usize
     requires { brackets + 1 < 2 ^ 64 }
     ensures is { result ≡ spec.open_after brackets kind }
@@ -96,7 +100,7 @@ fn open_after(brackets: usize, kind: Kind) -> usize
     }
 }
 
-// Tokens in a row after a token.
+// Returns the number of tokens in a row after a token.
 fn row_after(row: usize, kind: Kind) -> usize
     requires { row + 1 < 2 ^ 64 }
     ensures is { result ≡ spec.row_after row kind }

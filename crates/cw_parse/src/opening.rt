@@ -1,4 +1,4 @@
-//! What stands in front of a block.
+//! Parses the openings of blocks.
 
 ghost use Rattle.std.specs.Prelude.{map};
 ghost use Rattle.cw_tree.specs.SyntaxView.{expr_of};
@@ -14,7 +14,7 @@ use crate::stop::Stop;
 use cw_model::token::{Kind, Token};
 use cw_tree::syntax::{Cut, Expr, Head, Name};
 
-/// What stands in front of a block.
+/// Represents the part of a statement before its block.
 #[derive(Drop)]
 pub(crate) enum Opening {
     If(Expr),
@@ -25,7 +25,7 @@ pub(crate) enum Opening {
     Region(Name),
 }
 
-// A condition in parentheses, and an opening brace.
+// Parses a condition in parentheses, and an opening brace.
 #[tactic(auto, unfolding(crate::specs::Parts::condition))]
 fn condition<'a>(reading: Reading<'_>, depth: usize, tokens: &'a [Token]) -> Read<'a, Expr>
     ensures { Parses expr_of result (condition reading.entry.text.now depth tokens.now) }
@@ -37,7 +37,7 @@ fn condition<'a>(reading: Reading<'_>, depth: usize, tokens: &'a [Token]) -> Rea
     Ok((value, rest))
 }
 
-// The most turns in a leaf of a loop: 64 where no number stands.
+// Parses the maximum number of iterations in a leaf of a loop; 64 is the default.
 #[tactic(auto, unfolding(crate::specs::Parts::grain))]
 fn grain(tokens: &[Token]) -> Read<'_, u64>
     ensures { Parses (λ x. x) result (grain tokens.now) }
@@ -54,7 +54,7 @@ fn grain(tokens: &[Token]) -> Read<'_, u64>
     }
 }
 
-// The arrays of a loop.
+// Parses the arrays of a loop.
 #[tactic(auto, unfolding(crate::specs::Parts::over))]
 fn over<'a>(reading: Reading<'_>, depth: usize, tokens: &'a [Token]) -> Read<'a, Vec<Name>>
     ensures { Gives (λ x. (x.0.items, x.1.now)) result
@@ -67,7 +67,7 @@ fn over<'a>(reading: Reading<'_>, depth: usize, tokens: &'a [Token]) -> Read<'a,
     some_of(reading, depth, rest)
 }
 
-// The variable of a loop, and its first value.
+// Parses the variable of a loop and its first value.
 #[tactic(auto, unfolding(crate::specs::Parts::range_from))]
 fn range_from<'a>(reading: Reading<'_>, depth: usize, tokens: &'a [Token]) -> Read<'a, (Name, Expr)>
     ensures { Parses named_expr_of result (range_from reading.entry.text.now depth tokens.now) }
@@ -81,7 +81,7 @@ fn range_from<'a>(reading: Reading<'_>, depth: usize, tokens: &'a [Token]) -> Re
     Ok(((name_of(reading, variable)?, from), rest))
 }
 
-// The name that a loop compares, and the upper bound.
+// Parses the name that a loop compares and the upper bound.
 #[tactic(auto, unfolding(crate::specs::Parts::range_to))]
 fn range_to<'a>(reading: Reading<'_>, depth: usize, tokens: &'a [Token]) -> Read<'a, (Name, Expr)>
     ensures { Parses named_expr_of result (range_to reading.entry.text.now depth tokens.now) }
@@ -93,7 +93,7 @@ fn range_to<'a>(reading: Reading<'_>, depth: usize, tokens: &'a [Token]) -> Read
     Ok(((name_of(reading, tested)?, to), rest))
 }
 
-// The name that a loop raises.
+// Parses the name that a loop increments.
 #[tactic(auto, unfolding(crate::specs::Parts::range_step))]
 fn range_step<'a>(reading: Reading<'_>, tokens: &'a [Token]) -> Read<'a, Name>
     ensures { Parses (λ x. x) result (range_step reading.entry.text.now tokens.now) }
@@ -104,7 +104,7 @@ fn range_step<'a>(reading: Reading<'_>, tokens: &'a [Token]) -> Read<'a, Name>
     Ok((name_of(reading, stepped)?, rest))
 }
 
-// The head of a loop, and an opening brace.
+// Parses the head of a loop, and an opening brace.
 #[tactic(auto, unfolding(crate::specs::Parts::head))]
 fn head<'a>(reading: Reading<'_>, depth: usize, tokens: &'a [Token]) -> Read<'a, Head>
     ensures { Parses head_of result (head reading.entry.text.now depth tokens.now) }
@@ -127,7 +127,7 @@ fn head<'a>(reading: Reading<'_>, depth: usize, tokens: &'a [Token]) -> Read<'a,
     Ok((head, rest))
 }
 
-// What follows "cut", and an opening brace.
+// Parses the part after `cut`, and an opening brace.
 #[tactic(auto, unfolding(crate::specs::Parts::cut))]
 fn cut<'a>(reading: Reading<'_>, depth: usize, tokens: &'a [Token]) -> Read<'a, Opening>
     ensures { Parses opening_of result (cut reading.entry.text.now depth tokens.now) }
@@ -149,7 +149,7 @@ fn cut<'a>(reading: Reading<'_>, depth: usize, tokens: &'a [Token]) -> Read<'a, 
     Ok((Opening::Cut(Box::new(reading.alloc, cut)?), rest))
 }
 
-// What follows "region", and an opening brace.
+// Parses the part after `region`, and an opening brace.
 #[tactic(auto, unfolding(crate::specs::Parts::region))]
 fn region<'a>(reading: Reading<'_>, tokens: &'a [Token]) -> Read<'a, Opening>
     ensures { Parses opening_of result (region reading.entry.text.now tokens.now) }
@@ -159,7 +159,11 @@ fn region<'a>(reading: Reading<'_>, tokens: &'a [Token]) -> Read<'a, Opening>
     Ok((Opening::Region(name_of(reading, tag)?), rest))
 }
 
-/// What stands in front of a block after its first token, and the block's brace.
+/// Parses the opening of a block after its first token, and the opening brace.
+///
+/// # Errors
+///
+/// Stops at the first token that does not fit, or if memory runs out.
 #[tactic(auto, unfolding(crate::specs::Parts::opening))]
 pub(crate) fn opened<'a>(
     reading: Reading<'_>,

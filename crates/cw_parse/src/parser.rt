@@ -1,4 +1,4 @@
-//! The tree of a whole source.
+//! Parses whole sources.
 
 ghost use Rattle.std.specs.Prelude.{◌≡◌, ◌-◌, length, drop, IfOk, MatchResult};
 ghost use Rattle.cw_model.specs.Tokens.{IsTokenCut};
@@ -16,7 +16,7 @@ use cw_text::{Fault, Place, Source};
 use cw_tree::syntax::Ast;
 use std::alloc::{AllocError, Global};
 
-// The line of the first one of the last tokens, or of the text's end where none is left.
+// Returns the line of the token at which `left` tokens remain, or the line of the text's end if no token remains.
 fn line_of(source: &Source, tokens: &[Token], left: usize) -> u32
     ensures { result ≡ first_line source.now (drop (length tokens.now - left) tokens.now) }
 {
@@ -26,13 +26,15 @@ fn line_of(source: &Source, tokens: &[Token], left: usize) -> u32
     }
 }
 
-/// The tree of a source, from its tokens. Call statements are numbered from 1 in the order of the
-/// source; each statement has the line of its first token, and each function that of its name.
+/// Parses a source from its tokens. Call statements are numbered from 1 in the order of the source; each statement
+/// has the line of its first token, and each function has the line of its name.
 ///
-/// The errors, in this order: `Size` at the least line of a token at which more than 64 brackets of
-/// any kind are open, or which is the 257th or a later one in a row without a semicolon or a brace;
-/// `Syntax` at the line of the first token that can continue no source, or at the line of the
-/// text's end where the source ends too early. `Memory` where there is none for the tree.
+/// # Errors
+///
+/// In this order: `Size` at the least line of a token at which more than 64 brackets of any kind are open, or which
+/// is the 257th or a later token in a row without a semicolon or a brace; `Syntax` at the line of the first token
+/// that continues no source, or at the line of the text's end if the source ends too early. `Memory` if there is no
+/// memory for the tree.
 pub fn parse(alloc: Global, source: &Source, tokens: &[Token]) -> Result<Ast, Fault>
     requires { IsTokenCut source.now tokens.now }
     ensures { MatchResult result (λ ast. IsParsed source.now tokens.now (program_of ast))
@@ -42,7 +44,7 @@ pub fn parse(alloc: Global, source: &Source, tokens: &[Token]) -> Result<Ast, Fa
     tree_of(alloc, source, tokens)
 }
 
-// The tree of a source, from its tokens alone.
+// Parses a source from its tokens, without a check of the limits on tokens.
 fn tree_of(alloc: Global, source: &Source, tokens: &[Token]) -> Result<Ast, Fault>
     requires { IsTokenCut source.now tokens.now }
     ensures { MatchResult result (λ ast. Derives source.now tokens.now (program_of ast))
@@ -53,7 +55,7 @@ fn tree_of(alloc: Global, source: &Source, tokens: &[Token]) -> Result<Ast, Faul
     Ok(ast)
 }
 
-// The same, with names that were kept.
+// Parses a source from its tokens with a table of its names, without a check of the limits on tokens.
 fn tree_with(alloc: Global, source: &Source, names: &Names, tokens: &[Token]) -> Result<Ast, Fault>
     requires { IsTokenCut source.now tokens.now }
     ensures { MatchResult result (λ ast. Derives source.now tokens.now (program_of ast))
@@ -76,8 +78,12 @@ fn tree_with(alloc: Global, source: &Source, names: &Names, tokens: &[Token]) ->
     }
 }
 
-/// The place of the first of these tokens that can continue no source, or their count where the source ends too early;
-/// none where they are a source, apart from limits. An error where memory is refused for the tree.
+/// Returns the index of the first of these tokens that continues no source, or the number of tokens if the source
+/// ends too early; `None` if they are a source, apart from limits.
+///
+/// # Errors
+///
+/// Returns an error if there is no memory for the tree.
 pub fn first_refused(
     alloc: Global,
     source: &Source,

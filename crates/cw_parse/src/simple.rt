@@ -1,4 +1,4 @@
-//! Statements without a block.
+//! Parses statements without a block.
 
 ghost use Rattle.std.specs.Prelude.{◌≡◌, ◌+◌, ◌<◌, ◌^◌};
 ghost use Rattle.cw_tree.specs.SyntaxView.{numbered, stmt_of};
@@ -14,7 +14,7 @@ use cw_model::syntax::{CallKind, Reduction};
 use cw_model::token::{Kind, Token};
 use cw_tree::syntax::{Call, Name, Stmt};
 
-// A call after its opening parenthesis, and the number after its own.
+// Parses a call after its opening parenthesis; also returns the number of the next call.
 #[tactic(auto, unfolding(crate::specs::Parts::called))]
 fn called<'a>(
     reading: Reading<'_>,
@@ -41,7 +41,7 @@ fn called<'a>(
     Ok(((Stmt::Call(Box::new(reading.alloc, call)?), site + 1), rest))
 }
 
-// A call after what stands in front of the name of its callee, and the number after its own.
+// Parses a call from the name of its callee on; also returns the number of the next call.
 #[tactic(auto, unfolding(crate::specs::Parts::call))]
 fn call<'a>(
     reading: Reading<'_>,
@@ -60,7 +60,7 @@ fn call<'a>(
     called(reading, depth, kind, site, target, callee, rest)
 }
 
-// Whether the tokens begin with a name and an opening parenthesis.
+// Reports whether the tokens begin with a name and an opening parenthesis.
 fn is_call(tokens: &[Token]) -> bool
     ensures { result ≡ is_call tokens.now }
 {
@@ -70,7 +70,7 @@ fn is_call(tokens: &[Token]) -> bool
     }
 }
 
-// What follows a name and "=".
+// Parses a statement after a name and `=`.
 #[tactic(auto, unfolding(crate::specs::Parts::assigned))]
 fn assigned<'a>(
     reading: Reading<'_>,
@@ -94,7 +94,7 @@ fn assigned<'a>(
     Ok(((Stmt::Assign(target, value), site), rest))
 }
 
-// What follows a name and "[" in a statement.
+// Parses a statement after a name and `[`.
 #[tactic(auto, unfolding(crate::specs::Parts::element_assigned))]
 fn element_assigned<'a>(
     reading: Reading<'_>,
@@ -114,7 +114,7 @@ fn element_assigned<'a>(
     Ok(((Stmt::AssignElement(array, index, value), site), rest))
 }
 
-// What a reducer is told, up to the semicolon.
+// Parses the value that updates a reducer, up to the semicolon.
 fn told<'a>(
     reading: Reading<'_>,
     depth: usize,
@@ -131,7 +131,7 @@ fn told<'a>(
     Ok(((Stmt::Reduce(how, reducer, value), site), rest))
 }
 
-// What follows the name at the front of a statement, after the token behind the name.
+// Parses a statement that begins with a name, after its second token `next`.
 #[tactic(auto, unfolding(crate::specs::Parts::named_stmt))]
 fn named_after<'a>(
     reading: Reading<'_>,
@@ -176,7 +176,7 @@ fn named_after<'a>(
     }
 }
 
-// What follows the name at the front of a statement.
+// Parses a statement that begins with a name, after the name.
 fn named<'a>(
     reading: Reading<'_>,
     depth: usize,
@@ -194,7 +194,7 @@ fn named<'a>(
     }
 }
 
-// What follows "int" and a name in a statement, after the token behind the name.
+// Parses a statement that begins with `int` and a name, after the token `next` that follows the name.
 #[tactic(auto, unfolding(crate::specs::Parts::declared_as))]
 fn declared_after<'a>(
     reading: Reading<'_>,
@@ -223,7 +223,7 @@ fn declared_after<'a>(
     }
 }
 
-// What follows "int" in a statement.
+// Parses a statement after `int`.
 #[tactic(auto, unfolding(crate::specs::Parts::declared))]
 fn declared<'a>(
     reading: Reading<'_>,
@@ -242,7 +242,7 @@ fn declared<'a>(
     }
 }
 
-// What follows "return".
+// Parses a statement after `return`.
 #[tactic(auto, unfolding(crate::specs::Parts::returned))]
 fn returned<'a>(
     reading: Reading<'_>,
@@ -261,7 +261,7 @@ fn returned<'a>(
     Ok(((Stmt::Return(Some(value)), site), rest))
 }
 
-// What follows "print".
+// Parses a statement after `print`.
 #[tactic(auto, unfolding(crate::specs::Parts::printed))]
 fn printed<'a>(
     reading: Reading<'_>,
@@ -279,7 +279,11 @@ fn printed<'a>(
     Ok(((Stmt::Print(value), site), rest))
 }
 
-/// A statement without a block, after its first token, and the number of the next call statement.
+/// Parses a statement without a block, after its first token; also returns the number of the next call statement.
+///
+/// # Errors
+///
+/// Stops at the first token that does not fit, or if memory runs out.
 #[tactic(auto, unfolding(crate::specs::Parts::simple))]
 pub(crate) fn simple<'a>(
     reading: Reading<'_>,

@@ -1,4 +1,4 @@
-//! Statements and blocks.
+//! Parses statements and blocks.
 
 ghost use Rattle.std.specs.Prelude.{◌+◌, ◌<◌, ◌^◌, length};
 ghost use Rattle.cw_tree.specs.SyntaxView.{stmt_of, line_of, block_of, numbered};
@@ -14,7 +14,7 @@ use crate::stop::Stop;
 use cw_model::token::{Kind, Token};
 use cw_tree::syntax::{Line, Stmt};
 
-// A statement that was read whole: an "else" stands behind the block of an "if" alone.
+// Returns a statement that was parsed, unless an `else` follows it: an `else` may follow only the block of an `if`.
 fn unanswered<'a>(stmt: Stmt, site: u32, tokens: &'a [Token]) -> Read<'a, (Stmt, u32)>
     ensures { Parses (numbered stmt_of) result (unanswered (stmt_of stmt, site) tokens.now) }
 {
@@ -24,7 +24,7 @@ fn unanswered<'a>(stmt: Stmt, site: u32, tokens: &'a [Token]) -> Read<'a, (Stmt,
     }
 }
 
-// A statement with a block, after that block.
+// Parses the rest of a statement with a block, after that block.
 #[cycle(stmt)]
 #[tactic(auto, unfolding(crate::specs::Parts::framed_by))]
 fn framed_by<'a>(
@@ -58,7 +58,7 @@ fn framed_by<'a>(
     unanswered(stmt, site, tokens)
 }
 
-// A statement with a block, after its first token.
+// Parses a statement with a block, after its first token.
 #[cycle(stmt)]
 #[tactic(auto, unfolding(crate::specs::Parts::framed))]
 fn framed<'a>(
@@ -77,7 +77,7 @@ fn framed<'a>(
     framed_by(reading, depth, opening, block, site, rest)
 }
 
-// A statement after its first token, and the number of the next call statement.
+// Parses a statement after its first token; also returns the number of the next call statement.
 #[cycle(stmt)]
 #[tactic(auto, unfolding(crate::specs::Parts::stmt))]
 fn stmt<'a>(
@@ -102,7 +102,7 @@ fn stmt<'a>(
     }
 }
 
-// A statement with its line.
+// Parses a statement with its line; inner statements nest at most `depth` deep.
 #[cycle(stmt)]
 fn line_by<'a>(
     reading: Reading<'_>,
@@ -124,7 +124,7 @@ fn line_by<'a>(
     }
 }
 
-// A statement with its line, where statements lie in one another at most so deep.
+// Parses a statement with its line; statements nest at most `depth` deep.
 #[cycle(stmt)]
 fn line<'a>(
     reading: Reading<'_>,
@@ -142,7 +142,11 @@ fn line<'a>(
     line_by(reading, depth - 1, site, tokens)
 }
 
-/// The statements of a block, in which others lie at most `depth` deep, and its closing brace.
+/// Parses the statements of a block, whose statements nest at most `depth` deep, and its closing brace.
+///
+/// # Errors
+///
+/// Stops at the first token that does not fit, or if memory runs out.
 #[cycle(stmt)]
 pub(crate) fn lines<'a>(
     reading: Reading<'_>,

@@ -1,16 +1,16 @@
-//! Why reading stopped.
+//! The reasons why parsing stops.
 
 ghost use Rattle.std.specs.Prelude.{◌≡◌};
 ghost use Rattle.cw_parse.specs.declared.stop.Stop.TheVariants.{Memory};
 
 use std::alloc::{AllocError, AllocFailed};
 
-/// Why reading stopped.
+/// Represents the reason why parsing stopped.
 #[derive(Clone, Copy)]
 pub enum Stop {
-    /// No memory was left.
+    /// Out of memory.
     Memory,
-    /// At a token, by the number of tokens from it on: 0 at the end.
+    /// A token that does not fit, given by the number of tokens from it on: 0 at the end.
     At(usize),
 }
 

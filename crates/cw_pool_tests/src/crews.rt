@@ -1,4 +1,4 @@
-//! Runs by crews, beside those of one worker.
+//! Runs by crews, compared with runs by one worker.
 
 use crate::gates::{Hand, Holder, Stumbling, idle, serving};
 use crate::programs::{FIB, HALVES, READ, STEPS, TRAPS, code_of};
@@ -22,14 +22,14 @@ const BURDEN: Burden = Burden {
     edges: Edges::Both,
 };
 
-// A program on its argument, within so many instructions.
+// A program on its argument, within `n` instructions.
 pub struct Run<'a> {
     pub source: &'a [u8],
     pub arg: i64,
     pub n: u64,
 }
 
-// Runs that end, that trap and that pass their limit.
+// Runs that end, that trap and that exceed their limit.
 const RUNS: &[Run] = &[
     Run {
         source: STEPS,
@@ -63,7 +63,7 @@ const RUNS: &[Run] = &[
     },
 ];
 
-// Whether two runs ended alike, with the same counts everywhere, or failed alike.
+// Returns whether two runs ended alike, with the same counts everywhere, or failed alike.
 pub fn is_same(one: &Result<Ended, Fault>, other: &Result<Ended, Fault>) -> bool {
     match (one, other) {
         (Ok(a), Ok(b)) => {
@@ -79,7 +79,7 @@ pub fn is_same(one: &Result<Ended, Fault>, other: &Result<Ended, Fault>) -> bool
     }
 }
 
-// The value of a run that ended.
+// Returns the value of a run that ended.
 fn value_of(run: &Result<Ended, Fault>) -> Option<i64> {
     match run {
         Ok(ended) => Some(ended.value),
@@ -87,7 +87,7 @@ fn value_of(run: &Result<Ended, Fault>) -> Option<i64> {
     }
 }
 
-// The number of the fault of one that failed: 7 is its limit, 8 a trap.
+// Returns the number of the fault of a run that failed: 7 over the limit, 8 a trap.
 pub fn fault_of(run: &Result<Ended, Fault>) -> Option<u8> {
     match run {
         Ok(_) => None,
@@ -95,13 +95,13 @@ pub fn fault_of(run: &Result<Ended, Fault>) -> Option<u8> {
     }
 }
 
-// What one worker answers.
+// Returns the outcome of a run by one worker.
 pub fn alone(alloc: Global, run: &Run) -> Result<Result<Ended, Fault>, Fault> {
     let code = code_of(alloc, run.source)?;
     Ok(run_alone(alloc, code, &[run.arg], run.n, BURDEN))
 }
 
-// What a crew answers.
+// Returns the outcome of a run by a crew.
 pub fn together<
     G: Gate + Drop + Send + Sync + 'static,
     R: Threads + Wait + Copy + Send + Drop + 'static,
@@ -117,7 +117,7 @@ pub fn together<
     Ok(run(&rt, alloc, code, &args, asked.n, BURDEN, crew, gate))
 }
 
-// Whether a crew of so many bodies that serve answers this.
+// Returns whether a crew of `bodies` bodies that serve has this outcome.
 pub fn answers<R: Threads + Wait + Copy + Send + Drop + 'static>(
     rt: R,
     alloc: Global,
@@ -131,7 +131,7 @@ pub fn answers<R: Threads + Wait + Copy + Send + Drop + 'static>(
     Ok(is_same(&got, wanted))
 }
 
-// Whether 1, 2, 4 and 64 workers answer this.
+// Returns whether 1, 2, 4 and 64 workers have this outcome.
 fn all_answer<R: Threads + Wait + Copy + Send + Drop + 'static>(
     rt: R,
     alloc: Global,
@@ -146,7 +146,7 @@ fn all_answer<R: Threads + Wait + Copy + Send + Drop + 'static>(
     Ok(true)
 }
 
-// Whether one worker comes to this value, and all crews answer what it does.
+// Returns whether one worker returns this value, and all crews have the same outcome.
 fn gives<R: Threads + Wait + Copy + Send + Drop + 'static>(
     rt: R,
     alloc: Global,
@@ -158,7 +158,7 @@ fn gives<R: Threads + Wait + Copy + Send + Drop + 'static>(
     Ok(all_answer && value_of(&wanted) == Some(value))
 }
 
-// Whether one worker fails with the fault of this number, and all crews do.
+// Returns whether one worker fails with the fault of this number, and all crews have the same outcome.
 fn fails<R: Threads + Wait + Copy + Send + Drop + 'static>(
     rt: R,
     alloc: Global,
@@ -170,7 +170,7 @@ fn fails<R: Threads + Wait + Copy + Send + Drop + 'static>(
     Ok(all_answer && fault_of(&wanted) == Some(number))
 }
 
-// The tenth of the Fibonacci numbers.
+// The tenth Fibonacci number.
 const TENTH: Run = Run {
     source: FIB,
     arg: 10,
@@ -184,7 +184,7 @@ fn spawns_and_regions(rt: HostRuntime) -> Result<(), Fail> {
     Ok(())
 }
 
-// Of 89 leaves each gives 0 or 1, and of the others the root gives most.
+// There are 89 leaves, each of which returns 0 or 1; the maximum of the others is the root's value.
 #[test]
 fn reducers(rt: HostRuntime) -> Result<(), Fail> {
     let totals = [Total::Sum(89), Total::Max(Some(55))];
@@ -212,7 +212,7 @@ const READ_TOGETHER: Run = Run {
     n: MOST,
 };
 
-// Twice the sum of 0 to 39, and the last one.
+// Twice the sum of 0 to 39, plus the last one.
 #[test]
 fn arrays_are_read_together(rt: HostRuntime) -> Result<(), Fail> {
     let gives = gives(rt, rt.alloc(), &READ_TOGETHER, 1599)?;
@@ -246,7 +246,7 @@ fn limits(rt: HostRuntime) -> Result<(), Fail> {
     Ok(())
 }
 
-// What a crew of so many bodies that return at once answers.
+// Returns the outcome of a crew of `bodies` bodies that return at once.
 fn idly<R: Threads + Wait + Copy + Send + Drop + 'static>(
     rt: R,
     alloc: Global,
@@ -258,7 +258,7 @@ fn idly<R: Threads + Wait + Copy + Send + Drop + 'static>(
     together(rt, alloc, run, crew, gate)
 }
 
-// The others do the work of bodies that return at once.
+// The other workers do the work of bodies that return at once.
 #[test]
 fn crews_that_do_nothing(rt: HostRuntime) -> Result<(), Fail> {
     let wanted = alone(rt.alloc(), &TENTH)?;
@@ -267,7 +267,7 @@ fn crews_that_do_nothing(rt: HostRuntime) -> Result<(), Fail> {
     Ok(())
 }
 
-// A crew of more than 63 bodies is refused.
+// A crew of more than 63 bodies is rejected.
 #[test]
 fn crews_of_too_many(rt: HostRuntime) -> Result<(), Fail> {
     let got = idly(rt, rt.alloc(), &TENTH, 64)?;
@@ -275,20 +275,20 @@ fn crews_of_too_many(rt: HostRuntime) -> Result<(), Fail> {
     Ok(())
 }
 
-// What came of a run by two workers, of which worker 0 is held.
+// The outcome of a run by two workers, of which worker 0 is held.
 #[derive(Drop)]
 pub struct Held {
-    // Whether it answered what one worker does.
+    // Whether it has the outcome of one worker.
     pub is_same: bool,
     pub value: Option<i64>,
-    // The holds that used up their turns.
+    // The number of holds that reached their maximum length.
     pub used_up: u64,
-    // What worker 1 settled, and what both offered.
+    // The number of jobs that worker 1 settled, and the number that both workers offered.
     pub settled: u64,
     pub offered: u64,
 }
 
-// Worker 0 is held at its first offer, or at each.
+// Returns the outcome of a run in which worker 0 is held at its first offer, or at each offer.
 pub fn run_held<R: Threads + Wait + Copy + Send + Drop + 'static>(
     rt: R,
     alloc: Global,
@@ -329,7 +329,8 @@ const TWELFTH: Run = Run {
     n: MOST,
 };
 
-// Worker 0 is held at each offer until as many jobs were settled by worker 1: all work of its rests is done there.
+// Worker 0 is held at each offer until worker 1 has settled the same number of jobs, so worker 1 does all work of its
+// continuations.
 #[test]
 fn each_rest_is_run_by_the_other(rt: HostRuntime) -> Result<(), Fail> {
     let held = run_held(rt, rt.alloc(), &TWELFTH, false)?;
@@ -344,7 +345,7 @@ const TWELVE_READ: Run = Run {
     n: MOST,
 };
 
-// The same where each rest has a share of what the call beside it reads: 11 spawns in each of two sums, and that of main.
+// Each continuation has a share of what the spawned call reads: 11 spawns in each of two sums, and one spawn in main.
 #[test]
 fn each_rest_that_reads_is_run_by_the_other(rt: HostRuntime) -> Result<(), Fail> {
     let held = run_held(rt, rt.alloc(), &TWELVE_READ, false)?;
@@ -353,7 +354,7 @@ fn each_rest_that_reads_is_run_by_the_other(rt: HostRuntime) -> Result<(), Fail>
     Ok(())
 }
 
-// How often a crew of so many bodies, each held at random, was held, if it answers this.
+// Returns how often a crew of `bodies` bodies, held at random, was held, if it has this outcome.
 pub fn held_of_same<R: Threads + Wait + Copy + Send + Drop + 'static>(
     rt: R,
     alloc: Global,
@@ -372,7 +373,8 @@ pub fn held_of_same<R: Threads + Wait + Copy + Send + Drop + 'static>(
     Ok(None)
 }
 
-// Whether 2, 4 and 8 workers, each held at random, answer what one worker does, and each crew was held at all.
+// Returns whether 2, 4 and 8 workers, held at random, have the outcome of one worker, and each crew was held at least
+// once.
 fn all_answer_held<R: Threads + Wait + Copy + Send + Drop + 'static>(
     rt: R,
     alloc: Global,
@@ -389,7 +391,7 @@ fn all_answer_held<R: Threads + Wait + Copy + Send + Drop + 'static>(
     Ok(true)
 }
 
-// The same of all these runs, by these seeds.
+// Checks `all_answer_held` for all these runs, with these seeds.
 fn all_runs_answer_held<R: Abort + Threads + Wait + Copy + Send + Drop + 'static>(
     rt: R,
     alloc: Global,
@@ -407,7 +409,7 @@ fn all_runs_answer_held<R: Abort + Threads + Wait + Copy + Send + Drop + 'static
 
 pub const SEEDS: [u64; 3] = [1, 36, 2026];
 
-// Whatever workers are held, and wherever, they answer what one worker does.
+// Whichever workers are held, and wherever, the outcome is the one of one worker.
 #[test]
 fn workers_that_are_held_at_random(rt: HostRuntime) -> Result<(), Fail> {
     all_runs_answer_held(rt, rt.alloc(), RUNS, &SEEDS)?;

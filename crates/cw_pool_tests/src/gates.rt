@@ -6,10 +6,11 @@ use std::alloc::{AllocError, Global};
 use std::sync::Wait;
 use std::sync::atomic::{AtomicU64, Ordering};
 
-/// A hold takes at most so many turns.
+/// The maximum number of iterations of a hold.
 const MOST_TURNS: u64 = 100_000_000;
 
-/// Holds worker 0 at each offer, or at its first, until worker 1 has settled as many jobs as worker 0 has offered.
+/// Holds worker 0 at each offer, or at its first offer, until the number of jobs that worker 1 has settled is at
+/// least the number that worker 0 has offered.
 #[derive(Drop)]
 pub struct Holder {
     only_first: bool,
@@ -30,22 +31,22 @@ impl Holder {
         }
     }
 
-    /// What all workers have offered.
+    /// Returns the number of jobs that all workers have offered.
     pub fn all_offered(&self) -> u64 {
         self.all_offered.load(Ordering::SeqCst)
     }
 
-    /// What worker 1 has settled.
+    /// Returns the number of jobs that worker 1 has settled.
     pub fn settled(&self) -> u64 {
         self.settled.load(Ordering::SeqCst)
     }
 
-    /// The holds that used up their turns.
+    /// Returns the number of holds that reached their maximum length.
     pub fn used_up(&self) -> u64 {
         self.used_up.load(Ordering::SeqCst)
     }
 
-    // Waits until so many jobs were settled.
+    // Waits until `wanted` jobs were settled.
     fn hold(&self, wanted: u64) {
         for _turn in 0..MOST_TURNS {
             if self.settled.load(Ordering::SeqCst) >= wanted {
@@ -78,7 +79,7 @@ impl Gate for Holder {
     }
 }
 
-/// Holds worker 0 at its first offer, until another worker has stolen that job.
+/// Holds worker 0 at its first offer until another worker has stolen that job.
 #[derive(Drop)]
 pub struct Robbed {
     offered: AtomicU64,
@@ -93,12 +94,12 @@ impl Robbed {
         }
     }
 
-    /// What the others have stolen.
+    /// Returns the number of jobs that the other workers have stolen.
     pub fn stolen(&self) -> u64 {
         self.stolen.load(Ordering::SeqCst)
     }
 
-    // Waits until something was stolen.
+    // Waits until a job was stolen.
     fn hold(&self) {
         for _turn in 0..MOST_TURNS {
             if self.stolen() > 0 {
@@ -124,13 +125,13 @@ impl Gate for Robbed {
     }
 }
 
-/// A worker stumbles at one of so many moments, and for fewer turns than this.
+/// A worker is held at one of this number of moments, for fewer iterations than `FEW_TURNS`.
 const SELDOM: u64 = 4;
 
 const FEW_TURNS: u64 = 4096;
 
-/// Holds any worker at about every fourth of its moments, for a while: when and how long is told by a small random
-/// generator, whose seed is given.
+/// Holds any worker at about every fourth of its moments, for a while. A small random generator with a given seed
+/// decides when and how long.
 #[derive(Drop)]
 pub struct Stumbling {
     state: AtomicU64,
@@ -145,12 +146,12 @@ impl Stumbling {
         }
     }
 
-    /// How often it has held a worker.
+    /// Returns how often it has held a worker.
     pub fn held(&self) -> u64 {
         self.held.load(Ordering::SeqCst)
     }
 
-    // The next random number: the state goes on by an odd step, and is mixed.
+    // Returns the next random number: the state increases by an odd number, and is mixed.
     fn next(&self) -> u64 {
         let state = self
             .state
@@ -191,7 +192,7 @@ impl<G: Gate + Drop, R: Wait + Drop> Body<G> for Hand<R> {
     }
 }
 
-/// So many bodies that serve.
+/// Returns `bodies` bodies that serve.
 pub fn serving<R: Wait + Copy + Drop>(
     alloc: Global,
     rt: R,
@@ -204,7 +205,7 @@ pub fn serving<R: Wait + Copy + Drop>(
     Ok(crew)
 }
 
-/// So many that return at once.
+/// Returns `bodies` bodies that return at once.
 pub fn idle<R: Drop>(alloc: Global, bodies: usize) -> Result<Vec<Hand<R>>, AllocError> {
     let mut crew = Vec::new(alloc);
     for _k in 0..bodies {

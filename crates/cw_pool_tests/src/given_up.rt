@@ -1,4 +1,4 @@
-//! Runs by crews that are given up: what one worker answers, in the time of one worker.
+//! Runs by crews that are given up: they have the outcome of one worker, in the time of one worker.
 
 use crate::crews::{
     Run, SEEDS, alone, answers, fault_of, held_of_same, is_same, run_held, together,
@@ -16,12 +16,13 @@ use std::sync::{Arc, Wait};
 use std::test::Fail;
 use std::thread::Threads;
 
-// The numbers of the faults: the limit is passed, and a trap.
+// The numbers of the faults: over the limit, and a trap.
 const OVER: u8 = 7;
 
 const TRAP: u8 = 8;
 
-// Limits that no worker reaches within a test, that a loop without events passes, and that a loop of 100,000 turns does.
+// A limit that no worker reaches within a test, one that a loop without events exceeds, and one that a loop of
+// 100,000 iterations exceeds.
 const FAR: u64 = 1_000_000_000_000_000;
 
 const NEAR: u64 = 100_000;
@@ -101,8 +102,8 @@ static ROWS: &[Row] = &[
     },
 ];
 
-// Whether crews of 2, 4, 16 and 64 workers answer what one does, which fails so: serving freely, and held at random, where
-// their run is not over before that.
+// Returns whether crews of 2, 4, 16 and 64 workers fail like one worker, with this fault: serving freely, and held at
+// random unless their run ends before.
 fn fails_with_all<R: Threads + Wait + Copy + Send + Drop + 'static>(
     rt: R,
     alloc: Global,
@@ -123,7 +124,7 @@ fn fails_with_all<R: Threads + Wait + Copy + Send + Drop + 'static>(
     Ok(true)
 }
 
-// The same of all these rows.
+// Checks this for all these cases.
 fn all_fail<R: Abort + Threads + Wait + Copy + Send + Drop + 'static>(
     rt: R,
     alloc: Global,
@@ -146,7 +147,7 @@ fn crews_answer_what_one_worker_does(rt: HostRuntime) -> Result<(), Fail> {
     Ok(())
 }
 
-// Whether two workers answer what one does, where the first job was stolen before worker 0 went on.
+// Returns whether two workers have the outcome of one worker, if the first job is stolen before worker 0 continues.
 fn answers_robbed<R: Threads + Wait + Copy + Send + Drop + 'static>(
     rt: R,
     alloc: Global,
@@ -160,7 +161,8 @@ fn answers_robbed<R: Threads + Wait + Copy + Send + Drop + 'static>(
     Ok(is_same(&got, &wanted) && told.stolen() > 0)
 }
 
-// A rest that was stolen has no end and no spawn, and the call beside it traps: its worker goes on for a quantum at most.
+// A stolen continuation is endless and has no spawn, and the spawned call traps: the continuation's worker continues
+// for a quantum at most.
 const STOLEN_ENDLESS: Run = Run {
     source: TRAP_BESIDE_ENDLESS,
     arg: 0,
@@ -174,8 +176,8 @@ fn a_stolen_rest_without_an_end_is_given_up(rt: HostRuntime) -> Result<(), Fail>
     Ok(())
 }
 
-// The rest traps, or passes the limit, while worker 0 is held at its first offer: the call that it spawned is given up
-// where it begins, with the rest's fault and without one of its own.
+// The continuation traps, or exceeds the limit, while worker 0 is held at its first offer. The call that worker 0
+// spawned is given up where it begins, with the fault of the continuation and without one of its own.
 const TRAP_IN_THE_REST: Run = Run {
     source: LONG_BESIDE_TRAP,
     arg: 0,
@@ -202,8 +204,8 @@ const BURDEN: Burden = Burden {
     edges: Edges::Spawn,
 };
 
-// The number of the fault of a run by two workers of which the values alone are asked, where the first job was stolen
-// before worker 0 went on.
+// Returns the number of the fault of a run for values only by two workers, if the first job is stolen before worker 0
+// continues.
 fn fault_of_values<R: Threads + Wait + Copy + Send + Drop + 'static>(
     rt: R,
     alloc: Global,

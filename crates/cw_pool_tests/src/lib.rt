@@ -1,4 +1,4 @@
-//! Tests of runs with many workers, by public calls alone.
+//! Tests of runs with many workers, by public calls only.
 #![tactic(auto)]
 
 #[cfg(test)]

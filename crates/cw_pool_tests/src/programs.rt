@@ -6,7 +6,7 @@ use cw_text::Fault;
 use std::alloc::Global;
 use std::sync::Arc;
 
-/// Spawns one call within another, n deep, and gives n.
+/// Spawns calls nested n deep, and returns n.
 pub const STEPS: &[u8] = b"
 int f(int n) {
   if (n < 1) { return 0; }
@@ -18,8 +18,8 @@ int f(int n) {
 int main(int n) { int r = 0; r = f(n); return r; }
 ";
 
-/// The n-th Fibonacci number, with one spawn of each call but the smallest; counts the smallest, keeps the greatest
-/// number that another one comes to, and prints each 5.
+/// The n-th Fibonacci number: each call except the smallest ones spawns one call. It counts the smallest calls, keeps
+/// the maximum of the results of the others, and prints each 5.
 pub const FIB: &[u8] = b"
 reducer sum leaves;
 reducer max greatest;
@@ -39,7 +39,7 @@ int fib(int n) {
 int main(int n) { int r = 0; r = fib(n); return r; }
 ";
 
-/// The numbers below n lie in an array, and are summed by halves, each lent to a call of its own.
+/// The numbers below n are in an array, and are summed by halves; each half is lent to its own call.
 pub const HALVES: &[u8] = b"
 int total(int a[]) {
   int n = len(a);
@@ -62,8 +62,8 @@ int main(int n) {
 }
 ";
 
-/// The numbers below n lie in an array, which is summed by halves in a spawned call and once more beside it, and then
-/// written again: all these calls, and the rests beside those that they spawn, read the whole array.
+/// The numbers below n are in an array, which is summed by halves in a spawned call and also in its continuation, and
+/// then written again. All these calls, and the continuations of those that they spawn, read the whole array.
 pub const READ: &[u8] = b"
 int total(const int a[], int from, int to) {
   if (to - from < 2) { return a[from]; }
@@ -90,7 +90,7 @@ int main(int n) {
 }
 ";
 
-/// As the Fibonacci numbers, but that each call prints, and the call of 5 divides by zero.
+/// Like the Fibonacci numbers, but each call prints, and the call of 5 divides by zero.
 pub const TRAPS: &[u8] = b"
 int fib(int n) {
   if (n < 2) { return n; }
@@ -106,7 +106,7 @@ int fib(int n) {
 int main(int n) { int r = 0; r = fib(n); return r; }
 ";
 
-/// As the Fibonacci numbers, but without the base case: calls lie ever deeper in one another.
+/// Like the Fibonacci numbers, but without the base case: calls nest ever deeper.
 pub const NO_BASE: &[u8] = b"
 int fib(int n) {
   int x = 0;
@@ -119,20 +119,20 @@ int fib(int n) {
 int main(int n) { int r = 0; r = fib(n); return r; }
 ";
 
-/// Each call spawns one and makes another.
+/// Each call spawns a call and makes another one.
 pub const FORK: &[u8] = b"
 void f() { cilk_spawn f(); f(); }
 int main(int n) { f(); return n; }
 ";
 
-/// A spawned call traps where n is 0, and the rest behind it, which may run beside it, has no end.
+/// A spawned call traps if n is 0, and its continuation, which may run in parallel, is endless.
 pub const TRAP_BESIDE_ENDLESS: &[u8] = b"
 int inverse(int n) { return 1 / n; }
 void endless() { int k = 0; while (k >= 0) { k = 1 - k; } }
 int main(int n) { int r = 0; r = cilk_spawn inverse(n); endless(); cilk_sync; return r; }
 ";
 
-/// A spawned call fills an array by halves and prints, and the rest behind it traps where n is 0, or else has no end.
+/// A spawned call fills an array by halves and prints; its continuation traps if n is 0, and otherwise is endless.
 pub const LONG_BESIDE_TRAP: &[u8] = b"
 void fill(int a[], int v) {
   int n = len(a);
@@ -157,7 +157,7 @@ int main(int n) {
 }
 ";
 
-/// A loop of 100,000 turns, each of them a call of its own.
+/// A loop of 100,000 iterations, each of which is a call of its own.
 pub const TURNS: &[u8] = b"
 reducer sum s;
 int main(int n) {
@@ -166,8 +166,8 @@ int main(int n) {
 }
 ";
 
-/// Spawns n calls inside one another, each with an array that the rest beside it reads and in a region of its own, and
-/// traps in the last one.
+/// Spawns n nested calls, each with an array that its continuation reads, in its own region, and traps in the last
+/// call.
 pub const DEEP_TRAP: &[u8] = b"
 int f(int n) {
   int a[3];
@@ -185,7 +185,11 @@ int f(int n) {
 int main(int n) { int r = 0; r = f(n); return r; }
 ";
 
-/// The code of a program.
+/// Returns the code of a program.
+///
+/// # Errors
+///
+/// The fault of the program, or `Fault::Memory` if there is not enough memory.
 pub fn code_of(alloc: Global, bytes: &[u8]) -> Result<Arc<Verified>, Fault> {
     let verified = compile(alloc, bytes)?;
     Ok(Arc::new(alloc, verified)?)

@@ -1,4 +1,4 @@
--- Lemmas on what is told, which the proofs of the crates above cite.
+-- Lemmas on recorded reasons; the proofs of the crates above cite them.
 pub mod Kept
 pub mod Order
 pub mod Telling

@@ -1,8 +1,8 @@
-//! What holds of lines in rising order.
+//! The law of sorted lines.
 
 ghost use Rattle.cw_reasons.specs.Laws.{LinesRise};
 
-/// In rising order each line is greater than the one before it, each of the lines is there, and no other.
+/// States that sorted lines increase strictly, and that they are the lines of the list and no others.
 pub fn lines_rise()
     ensures { LinesRise }
 {}

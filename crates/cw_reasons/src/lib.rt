@@ -1,4 +1,4 @@
-//! The least lines that are refused, each with the reason against it.
+//! The least rejected lines, each with its reason.
 #![tactic(auto)]
 
 pub mod laws;

@@ -1,4 +1,4 @@
--- Codes that are the same once merged.
+-- Codes that are equal after merging.
 use Rattle.std.specs.Prelude.{ℕ, zero, suc, ◌+◌, ◌≡◌, true, false, List, [], ◌∷◌, ◌++◌, refl}
 use Rattle.std.proofs.Common.{arith, ap, sym, ◌∙◌}
 use Rattle.std.proofs.lemmas.List.{append_assoc}
@@ -29,7 +29,7 @@ onto-append (Ended ∷ xs) ys later = ap (λ (l : List Code). Ended ∷ l) (onto
 onto-append (Joined ∷ xs) ys later = ap (λ (l : List Code). Joined ∷ l) (onto-append xs ys later)
 onto-append (Called ∷ xs) ys later = ap (λ (l : List Code). Called ∷ l) (onto-append xs ys later)
 
--- instructions twice are their sum
+-- instructions added twice are added once as their sum
 pub instructions_twice : (j k : ℕ) (codes : List Code) → instructions_before j (instructions_before k codes) ≡ instructions_before (j + k) codes
 instructions_twice zero k codes = let e : k ≡ 0 + k = omega arith in ap (λ (n : ℕ). instructions_before n codes) e
 instructions_twice (suc j) zero codes = let e : suc j ≡ suc j + 0 = omega arith in ap (λ (n : ℕ). instructions_before n codes) e
@@ -48,14 +48,14 @@ instructions_twice (suc j) (suc k) (Joined ∷ codes) =
 instructions_twice (suc j) (suc k) (Called ∷ codes) =
     let e : suc (j + suc k) ≡ suc j + suc k = omega arith in ap (λ (m : ℕ). Instructions m ∷ Called ∷ codes) (sym e) ∙ ap (λ (m : ℕ). instructions_before m (Called ∷ codes)) e
 
--- one piece before others that are the same
+-- equal codes stay equal after the same codes
 pub same_after : (a xs ys : List Code) → Same xs ys → Same (a ++ xs) (a ++ ys)
 same_after a xs ys h = λ later. onto-append a xs later ∙ ap (onto a) (h later) ∙ sym (onto-append a ys later)
 
 pub same_before : (xs ys b : List Code) → Same xs ys → Same (xs ++ b) (ys ++ b)
 same_before xs ys b h = λ later. onto-append xs b later ∙ h (onto b later) ∙ sym (onto-append ys b later)
 
--- two pieces that are the same as two others
+-- concatenations of equal codes are equal
 pub same_both : (a b c d : List Code) → Same a b → Same c d → Same (a ++ c) (b ++ d)
 same_both a b c d h k = λ later. onto-append a c later ∙ h (onto c later) ∙ ap (onto b) (k later) ∙ sym (onto-append b d later)
 
@@ -99,6 +99,6 @@ mutual
       (λ later. ap (λ (l : List Code). Ended ∷ l) (of_out es later)) later)
   of_out (Join ∷ es) = λ later. ap (λ (l : List Code). Joined ∷ l) (of_free es later)
 
--- what is noted of a block, and its join where a child is still out, is what its tree comes to
+-- the codes of a block, with its join if a child is not joined, are the codes of its tree
 pub of_tree : (es : List Event) → Same (record_of false es ++ to_join (out_after false es)) (codes_of InSeries (tree_of es))
 of_tree es = of_free es

@@ -1,4 +1,4 @@
--- What each call on a recorder does.
+-- The effect of each method of a recorder.
 use Rattle.std.specs.Prelude.{ℕ, ◌+◌, ◌-◌, ◌≡◌, ◌≤◌, ◌<◌, Bool, true, false, not, Option, Some, None, Ok, Err, List, [], ◌∷◌, ◌++◌, reverse, refl}
 use Rattle.std.proofs.Common.{arith, ap, sym, ◌∙◌, subst}
 use Rattle.std.proofs.lemmas.List.{append_assoc, append-nil}
@@ -29,7 +29,7 @@ use Rattle.cw_recorded.proofs.Normals.{append_apart, ticked_apart, synced_apart,
 use Rattle.cw_recorded.proofs.Recordings.{same_cuts, keeps_as, keeps_later, keeps_cut, keeps_noted, keeps_followed, out_more, out_already, out_still, codes_rested, codes_ticked, spawned_ticked}
 use Rattle.cw_recorded.proofs.Recordings.{spawned_synced, codes_begun, codes_synced, codes_ended, codes_returned}
 
--- what is noted
+-- the instructions up to a count are recorded
 pub noted_now : (old new : Recorder) (count : ℕ) → new.noted ≡ count → new.kept ≡ followed old.kept (Ok (Instructions (count - old.noted) ∷ []))
     → new.out ≡ old.out → new.parts.items ≡ old.parts.items → Notes old new count []
 noted_now old new count n k o p = record {
@@ -67,7 +67,7 @@ noted_cut old mid new count code s k n o p = record {
   parts = p ∙ s.parts;
 }
 
--- instructions and a cut behind them are noted at once
+-- instructions and the cut after them are recorded together
 noted_with_cut : (old new : Recorder) (count : ℕ) (code : Code) → new.noted ≡ count
     → new.kept ≡ followed old.kept (Ok (Instructions (count - old.noted) ∷ code ∷ [])) → new.out ≡ old.out → new.parts.items ≡ old.parts.items → Notes old new count (code ∷ [])
 noted_with_cut old new count code n k o p =
@@ -85,7 +85,7 @@ noted_entry old new count cut.Ended n k o p = noted_with_cut old new count Ended
 noted_entry old new count cut.Joined n k o p = noted_with_cut old new count Joined n k o p
 noted_entry old new count cut.Called n k o p = noted_with_cut old new count Called n k o p
 
--- codes that begin with no instructions
+-- empty instructions may be removed
 nothing_between : (a b : List Code) → Same (a ++ Instructions 0 ∷ b) (a ++ b)
 nothing_between a b = λ l. onto-append a (Instructions 0 ∷ b) l ∙ sym (onto-append a b l)
 
@@ -103,7 +103,7 @@ cut_here old new count code codes s le h =
           (λ l. ap (λ (n : ℕ). onto (codes ++ Instructions n ∷ code ∷ []) l) none ∙ nothing_between codes (code ∷ []) l) all),
     )
 
--- a cut after an instruction more
+-- a cut after one more instruction
 pub cut_next : (old new : Recorder) (count : ℕ) (code : Code) (codes : List Code) → Notes old new (count + 1) (code ∷ []) → old.noted ≤ count
     → Keeps (count - old.noted) codes old.kept → (new.noted ≤ count + 1) × Keeps (count + 1 - new.noted) (codes ++ Instructions 1 ∷ code ∷ []) new.kept
 cut_next old new count code codes s le h =
@@ -116,7 +116,7 @@ cut_next old new count code codes s le h =
           (subst (λ (n : ℕ). Keeps 0 (codes ++ Instructions n ∷ code ∷ []) new.kept) one all),
     )
 
--- an instruction more
+-- one more instruction
 pub one_later : (noted count : ℕ) (codes : List Code) (k : Recorded) → noted ≤ count → Keeps (count - noted) codes k → Keeps (count + 1 - noted) (codes ++ Instructions 1 ∷ []) k
 one_later noted count codes k le h =
     let sum : (count - noted) + 1 ≡ count + 1 - noted = omega (arith, le) in
@@ -154,7 +154,7 @@ main_in Main o [] open_ m = absurd open_
 main_in Main o (p ∷ os) open_ m = m
 main_in (Rest site) o os open_ m = tt
 
--- parts that stand apart
+-- the parts of all open blocks have their codes in normal form
 all_apart : (from : Origin) (os : List Open) (es : List Event) → IsOpen from os → AreApart from os es → AreOpenApart os es
 all_apart Main [] es open_ h = absurd open_
 all_apart Main (o ∷ os) es open_ h = h
@@ -188,14 +188,14 @@ begun_apart from o os es open_ e h =
     at Main h = h
     at (Rest site) h = h
 
--- a part that ended leaves the events round it such, or is the whole run
+-- after the end of a part, the enclosing events have their codes in normal form, or the part is the whole run
 whole_apart : (o : Open) (es : List Event) (after : List Event) → o.outer ≡ [] → o.spawned ≡ false → o.mark ≡ Some (Invocation 0) → StandApart es → AreApart Main [] (closed o es ++ after)
 whole_apart o es after e0 e1 e2 g =
     subst (λ (x : List Event). AreApart Main [] ((x ++ part_of o.spawned (marked o.mark (tree_of es)) ∷ []) ++ after)) (sym e0)
     (subst (λ (b : Bool). AreApart Main [] (part_of b (marked o.mark (tree_of es)) ∷ after)) (sym e1)
     (subst (λ (m : Option Mark). IsChild (marked m (tree_of es))) (sym e2) (marked_child (Invocation 0) (tree_of es) (tree_followed es g))))
 
--- the block round a part is one event longer
+-- the enclosing block has one more event
 round_apart : (o : Open) (os : List Open) (es fs : List Event) → AreOpenApart (o ∷ os) es → (StandApart o.outer → StandApart es → StandApart fs) → AreOpenApart os fs
 round_apart o [] es fs h f = f h.1 h.0
 round_apart o (p ∷ os) es fs h f = (f h.1.0 h.0, h.1.1)
@@ -221,7 +221,7 @@ ticks r count from os es small open_ h = record {
   apart = with_block from os es (ticked es) open_ h.apart (ticked_apart es (block_of_open from os es open_ h.apart));
 }
 
--- a part begins in place that is cut by nothing
+-- the start of a part without cuts
 no_opening : (mark : Option Mark) (out : Bool) → IsQuiet mark → opening false mark out ≡ []
 no_opening None out q = refl
 no_opening (Some (Invocation site)) out q = absurd q
@@ -251,7 +251,7 @@ quiet_begins old new count s from mark os es quiet small open_ h =
       apart = begun_apart from o os es open_ refl h.apart;
     }
 
--- a part begins that is cut
+-- the start of a part with cuts
 cut_begins : (old mid new : Recorder) (count : ℕ) (k : PartKind) (code : Code) (out spawned : Bool) (mark : Option Mark) (from : Origin) (os : List Open)
     (es : List Event) → Notes old mid (count + 1) (code ∷ []) → Stacks mid new k out
     → IsOfKind (record { spawned = spawned; mark = mark; outer = ticked es }) k
@@ -291,7 +291,7 @@ call_begins old mid new count next n s sat from site os es small open_ h =
     cut_begins old mid new count kind.Call Called mid.out false (Some (Invocation site)) from os es
     (subst (λ (x : ℕ). Notes old mid x (Called ∷ [])) (sat small) n) s (refl, (site, refl)) (λ e. refl) (λ e. n.out ∙ e ∙ sym (spawned_ticked from os es)) open_ h
 
--- the block that runs joins
+-- the current block joins
 pub block_joins : (old new : Recorder) (count : ℕ) → Joins old new count → new.out ≡ false → new.parts.items ≡ old.parts.items → Syncs old new count
 block_joins old new count joins out same from os es small open_ h =
     let p = h.parts in
@@ -351,7 +351,7 @@ call_ends old mid new count next joins out same ends sat from o os es small open
       apart = returned_apart from o os es h.from_main h.apart;
     }
 
--- the innermost part is kept no more
+-- the recorder's entry for the innermost part is removed
 record Popped (from : Origin) (o : Open) (os : List Open) (part : Part) (left : List Part) : Type 0 where
   inner : IsOpen from os
   is : IsOfKind o part.kind
@@ -394,7 +394,7 @@ ending_quiet from o os open_ e f = ending_inside from o os open_ ∙ ap (λ (b :
     at (Some (Invocation site)) f = absurd (f site refl)
     at (Some (Execution tag)) f = refl
 
--- a part ends by a cut
+-- the end of a part with a cut
 pub closes_cut : (old mid new : Recorder) (count : ℕ) (part : Part) (code : Code) → old.parts.items ≡ mid.parts.items ++ part ∷ []
     → mid.out ≡ part.out → mid.noted ≡ old.noted → mid.kept ≡ old.kept → Notes mid new count (code ∷ [])
     → ((from : Origin) (o : Open) (os : List Open) → IsOpen from os → IsOfKind o part.kind → ending_in from o os ≡ code ∷ []) → Closes old new count
@@ -420,7 +420,7 @@ pub call_closes : (old mid new : Recorder) (count : ℕ) (part : Part) → part.
 call_closes old mid new count part e pops out noted kept n =
     closes_cut old mid new count part Called pops out noted kept n (λ from o os inner is. let a = subst (IsOfKind o) e is in ending_call from o os a.1.0 inner a.0 a.1.1)
 
--- a part ends that is cut by nothing
+-- the end of a part without cuts
 pub quiet_closes : (old new : Recorder) (count : ℕ) (part : Part) → part.kind ≡ kind.Quiet → old.parts.items ≡ new.parts.items ++ part ∷ []
     → new.out ≡ part.out → new.noted ≡ old.noted → new.kept ≡ old.kept → Closes old new count
 quiet_closes old new count part e pops out noted kept codes from o os es main joined parts le h =
@@ -433,7 +433,7 @@ quiet_closes old new count part e pops out noted kept codes from o os es main jo
       record { out = out ∙ p.out ∙ sym (spawned_closed from o os es); parts = p.parts },
     )
 
--- the run itself ends
+-- the end of the run itself
 pub nothing_closes : (old new : Recorder) (count : ℕ) → old.parts.items ≡ [] → new.parts.items ≡ [] → new.out ≡ old.out → new.noted ≡ old.noted → new.kept ≡ old.kept → Closes old new count
 nothing_closes old new count none none' out noted kept codes Main o [] es main joined parts le h =
     let at_new = subst (λ (x : ℕ). Keeps (count - x) codes new.kept) (sym noted) (subst (λ (k : Recorded). Keeps (count - old.noted) codes k) (sym kept) h) in
@@ -446,11 +446,11 @@ nothing_closes old new count none none' out noted kept codes Main o [] es main j
 nothing_closes old new count none none' out noted kept codes Main o (p ∷ os) es main joined parts le h = absurd (subst (λ (l : List Part). AreParts Main (o ∷ p ∷ os) (reverse l)) none parts)
 nothing_closes old new count none none' out noted kept codes (Rest site) o os es main joined parts le h = absurd (subst (λ (l : List Part). AreParts (Rest site) (o ∷ os) (reverse l)) none parts)
 
--- a rest that was run apart
+-- a continuation that was executed separately
 rest_apart : (from : Origin) (site : ℕ) (os : List Open) (es fs : List Event) → IsOpen from os → AreApart from os es → AreApart (Rest site) [] fs → AreApart from os (es ++ fs)
 rest_apart from site os es fs open_ h g = with_block from os es (es ++ fs) open_ h (append_apart es fs (block_of_open from os es open_ h) g)
 
--- all up to this count is noted
+-- all instructions up to this count are recorded
 settled : (old new : Recorder) (count : ℕ) (codes : List Code) → Notes old new count [] → old.noted ≤ count → Keeps (count - old.noted) codes old.kept → Keeps 0 codes new.kept
 settled old new count codes n le h =
     let none : count - count ≡ 0 = omega arith in
@@ -480,7 +480,7 @@ rest_follows old mid rest ready new count cost n m kept noted out same from site
       apart = rest_apart from site os es fs open_ h.apart g.apart;
     }
 
--- what a whole run comes to
+-- the result for a whole run
 kept_of : (t u : Tree) (k : Recorded) → Same (codes_of AsChild u) (codes_of AsChild t) → Keeps 0 (codes_of AsChild t) k → IsKept u k
 kept_of t u (Err n) same h =
     let a = same_cuts (codes_of AsChild u) (codes_of AsChild t) same in (omega (arith, a, h.0), omega (arith, a, h.1))

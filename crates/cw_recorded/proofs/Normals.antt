@@ -18,7 +18,7 @@ stays : (rest : Bool) → last_stands (stands rest) ≡ stands rest
 stays true = refl
 stays false = refl
 
--- the last part of a series stands where the series stands
+-- the last part of a series has the position of the series
 in_series : (rest : Bool) (t later : Tree) → Same (codes_of (stands rest) (Seq t later)) (codes_of InSeries t ++ codes_of (stands rest) later)
 in_series rest t later = λ l. ap (λ (at : Stands). onto (codes_of InSeries t ++ codes_of at later) l) (stays rest)
 
@@ -63,7 +63,7 @@ enough_before : (rest : Bool) (t later : Tree) → Enough rest later → Enough 
 enough_before true t later m = more_before t later m
 enough_before false t later m = tt
 
--- a part that is no strand
+-- a part that is not a strand
 part_alone : (rest : Bool) (part later : Tree) → codes_of (stands rest) part ≡ codes_of InSeries part
     → Same (codes_of (stands rest) (part_before part later)) (codes_of InSeries part ++ codes_of (stands rest) later)
 part_alone rest part (Leaf zero) e = λ l. ap (λ (c : List Code). onto c l) e ∙ sym (nothing_behind (codes_of InSeries part) l)
@@ -86,7 +86,7 @@ series_holds rest t u later h k =
     let c = codes_of (stands rest) later in
     λ l. h l ∙ same_after a (codes_of (stands rest) (before u later)) (b ++ c) k l ∙ ap (λ (x : List Code). onto x l) (sym (append_assoc a b c))
 
--- forks of the same codes
+-- forks with equal codes
 rest_same : (a b c d : List Code) → Same a b → Same c d → Same (a ++ Ended ∷ c) (b ++ Ended ∷ d)
 rest_same a b c d h k = same_both a b (Ended ∷ c) (Ended ∷ d) h (λ l. ap (λ (x : List Code). Ended ∷ x) (k l))
 
@@ -115,7 +115,7 @@ stands_holds t (Series v ∷ es) h = λ rest later. h rest (before (parts_of (Se
 stands_holds t (e.Fork v ∷ es) h = λ rest later. h rest (before (parts_of (e.Fork v ∷ es)).0 later)
 stands_holds t (Join ∷ es) h = λ rest later. h rest later
 
--- the rest of a block
+-- the continuation of a block
 rest_normal : (es : List Event) → StandApart es → Same (codes_of AsRest (normal (parts_of es).0)) (codes_of AsRest (parts_of es).0)
 rest_normal [] g = λ l. refl
 rest_normal (Work k ∷ es) g = λ l. leaf_holds true k (normal (parts_of es).0) l ∙ ap (instructions_before k) (rest_normal es g l)
@@ -124,7 +124,7 @@ rest_normal (Series t ∷ es) g = λ l. stands_holds t es g.0 true (Leaf 0) l
 rest_normal (e.Fork t ∷ es) g = fork_in_rest (codes_of AsChild (normal t)) (codes_of AsChild t) (codes_of AsRest (normal (parts_of es).0)) (codes_of AsRest (parts_of es).0) g.0 (rest_normal es g.1)
 rest_normal (Join ∷ es) g = λ l. refl
 
--- what runs up to the next join, and what runs after it
+-- the events up to the next join, and the events after it
 first_followed : (es : List Event) → StandApart es → IsFollowed (parts_of es).0
 first_followed [] g = λ rest later m. leaf_holds rest 0 later
 first_followed (Work k ∷ es) g = λ rest later m. let u = (parts_of es).0 in series_holds rest (Leaf k) u later (leaf_holds rest k (before u later)) (first_followed es g rest later m)
@@ -145,7 +145,7 @@ later_followed (Join ∷ es) g = both_followed (parts_of es).0 (parts_of es).1 (
 pub tree_followed : (es : List Event) → StandApart es → IsFollowed (tree_of es)
 tree_followed es g = both_followed (parts_of es).0 (parts_of es).1 (first_followed es g) (later_followed es g)
 
--- a block's codes are those of its normal form
+-- the codes of a block are the codes of its normal form
 pub same_normal : (t : Tree) → IsFollowed t → Same (codes_of InSeries (normal t)) (codes_of InSeries t)
 same_normal t h = λ l. h false (Leaf 0) tt l ∙ nothing_behind (codes_of InSeries t) l
 
@@ -167,7 +167,7 @@ marked_apart mark t h = λ rest later l.
 pub marked_child : (mark : Mark) (t : Tree) → IsFollowed t → IsChild (Marked mark t)
 marked_child mark t h = same_normal t h
 
--- a block that has joined, and then done an instruction
+-- a block that has joined, then executed an instruction
 record IsEnded (t : Tree) : Type 0 where
   apart : IsApart t
   more : (later : Tree) → IsMore (before t later)
@@ -235,7 +235,7 @@ ended_child es g =
     let ended = tree_ended es g in
     λ l. ap (λ (x : List Code). onto x l) (as_child (normal t) (ended.more (Leaf 0))) ∙ same_normal t (λ rest later m. ended.apart rest later) l
 
--- a call ends: it needs nothing after it
+-- the end of a call requires nothing after it
 pub call_apart : (o : Open) (es : List Event) → StandApart o.outer → StandApart es → StandApart (closed o (synced es))
 call_apart o es outer g = append_apart o.outer (part_of o.spawned (marked o.mark (tree_of (synced es))) ∷ []) outer (one o.spawned o.mark)
   where
@@ -248,7 +248,7 @@ call_apart o es outer g = append_apart o.outer (part_of o.spawned (marked o.mark
     one false None = ((tree_ended es g).apart, tt)
     one false (Some m) = (marked_apart m (tree_of (synced es)) followed, tt)
 
--- a block ends, and an instruction follows
+-- the end of a block, followed by an instruction
 pub block_apart : (o : Open) (es : List Event) → o.spawned ≡ false → StandApart o.outer → StandApart es → StandApart (ticked (closed o es))
 block_apart o es quiet outer g = subst (λ (b : Bool). StandApart ((o.outer ++ part_of b (marked o.mark (tree_of es)) ∷ []) ++ Work 1 ∷ [])) (sym quiet)
     (subst StandApart (sym (append_assoc o.outer (Series (marked o.mark (tree_of es)) ∷ []) (Work 1 ∷ [])))

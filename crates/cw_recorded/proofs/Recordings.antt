@@ -1,4 +1,4 @@
--- What is kept of a run's codes, and what each move adds to them.
+-- The recorded codes of a run, and the codes that each step adds.
 use Rattle.std.specs.Prelude.{ℕ, zero, suc, ◌+◌, ◌≡◌, ◌≤◌, ◌<◌, Bool, true, false, Option, Some, None, Ok, Err, List, [], ◌∷◌, ◌++◌, refl}
 use Rattle.std.proofs.Common.{arith, ap, sym, ◌∙◌}
 use Rattle.std.proofs.lemmas.Bool.{true≢false}
@@ -20,7 +20,7 @@ use Rattle.cw_recorded.specs.Merging.{onto, Same, to_join}
 use Rattle.cw_recorded.specs.Recording.{opening, ending, of_whole, begins_out, out_in, codes_in, ending_in, Keeps, IsFromMain, IsOpen}
 use Rattle.cw_recorded.proofs.Merged.{onto-append, instructions_twice, same_before, same_both, same_through, nothing_behind, of_tree}
 
--- merging keeps the cuts
+-- merging does not change the number of cuts
 cuts_before : (n : ℕ) (codes : List Code) → cuts (instructions_before n codes) ≡ cuts codes
 cuts_before zero codes = refl
 cuts_before (suc n) [] = omega arith
@@ -45,12 +45,12 @@ same_cuts xs ys h =
     let c : cuts (onto xs []) ≡ cuts (onto ys []) = ap cuts (h []) in
     omega (arith, a, b, c)
 
--- what is kept stands for any codes that are the same
+-- a record of codes is a record of equal codes
 pub keeps_as : (since : ℕ) (a b : List Code) (k : Recorded) → Same a b → Keeps since a k → Keeps since b k
 keeps_as since a b (Err n) s h = let c = same_cuts a b s in (omega (arith, c, h.0), omega (arith, c, h.1))
 keeps_as since a b (Ok kept) s h = (h.0, same_through (kept ++ Instructions since ∷ []) a b h.1 s)
 
--- instructions more need no code
+-- further instructions need no code
 pub keeps_later : (since more : ℕ) (a : List Code) (k : Recorded) → Keeps since a k → Keeps (since + more) (a ++ Instructions more ∷ []) k
 keeps_later since more a (Err n) h = let c = cuts-append a (Instructions more ∷ []) in (omega (arith, c, h.0), omega (arith, c, h.1))
 keeps_later since more a (Ok kept) h = (
@@ -105,7 +105,7 @@ record_more false (e.Fork t ∷ es) fs =
 record_more true (Join ∷ es) fs = ap (λ (l : List Code). Joined ∷ l) (record_more false es fs)
 record_more false (Join ∷ es) fs = record_more false es fs
 
--- the codes of a block inside of others
+-- the codes of a block inside other blocks
 codes_inside : (from : Origin) (o : Open) (os : List Open) (es : List Event) → IsOpen from os
     → codes_in from (o ∷ os) es ≡ codes_in from os o.outer ++ (opening o.spawned o.mark (out_in from os o.outer) ++ record_of false es)
 codes_inside Main o [] es open_ = absurd open_
@@ -134,7 +134,7 @@ codes_more (Rest site) (o ∷ os) es fs open_ = inside_more (Rest site) o os es 
 pub out_more : (from : Origin) (os : List Open) (es fs : List Event) → out_in from os (es ++ fs) ≡ has_spawned_from (out_in from os es) fs
 out_more from os es fs = spawned_append (begins_out from os) es fs
 
--- an instruction
+-- one more instruction
 whole_ticked : (es : List Event) → of_whole (ticked es) ≡ of_whole es ++ Instructions 1 ∷ []
 whole_ticked [] = refl
 whole_ticked (Series t ∷ es) = ap (λ l. codes_of AsChild t ++ l) (record_more false es (Work 1 ∷ [])) ∙ sym (append_assoc (codes_of AsChild t) (record_of false es) (Instructions 1 ∷ []))
@@ -153,7 +153,7 @@ spawned_ticked from os es = out_more from os es (Work 1 ∷ [])
 pub spawned_synced : (from : Origin) (os : List Open) (es : List Event) → out_in from os (synced es) ≡ false
 spawned_synced from os es = out_more from os es (Join ∷ Work 1 ∷ [])
 
--- a part begins
+-- the start of a part
 pub codes_begun : (spawned : Bool) (mark : Option Mark) (from : Origin) (os : List Open) (es : List Event) → IsOpen from os
     → codes_in from (begun spawned mark es os) [] ≡ codes_in from os es ++ Instructions 1 ∷ opening spawned mark (out_in from os es)
 codes_begun spawned mark from os es open_ =
@@ -166,7 +166,7 @@ codes_begun spawned mark from os es open_ =
     ∙ ap (λ (l : List Code). (a ++ Instructions 1 ∷ []) ++ l) (append-nil b)
     ∙ append_assoc a (Instructions 1 ∷ []) b
 
--- the block that runs joins
+-- a join of the current block
 join_record : (b : Bool) → record_of b (Join ∷ Work 1 ∷ []) ≡ to_join b ++ Instructions 1 ∷ []
 join_record true = refl
 join_record false = refl
@@ -175,7 +175,7 @@ pub codes_synced : (from : Origin) (os : List Open) (es : List Event) → IsOpen
     → codes_in from os (synced es) ≡ codes_in from os es ++ (to_join (out_in from os es) ++ Instructions 1 ∷ [])
 codes_synced from os es open_ = codes_more from os es (Join ∷ Work 1 ∷ []) open_ ∙ ap (λ (l : List Code). codes_in from os es ++ l) (join_record (out_in from os es))
 
--- a part ends
+-- the end of a part
 as_child : (mark : Option Mark) (a b : Tree) → codes_of AsChild (marked mark (Seq a b)) ≡ codes_of InSeries (Seq a b)
 as_child None a b = refl
 as_child (Some m) a b = refl
@@ -227,7 +227,7 @@ codes_closed Main o [] es main = λ l.
 codes_closed Main o (p ∷ os) es main = inside_closed Main o (p ∷ os) es tt
 codes_closed (Rest site) o os es main = inside_closed (Rest site) o os es tt
 
--- a block ends, and an instruction of the block round it follows
+-- the end of a block, followed by an instruction of the enclosing block
 pub codes_ended : (from : Origin) (o : Open) (os : List Open) (es : List Event) → IsFromMain from (o ∷ os)
     → Same (codes_in from (o ∷ os) es ++ (to_join (out_in from (o ∷ os) es) ++ (ending_in from o os ++ Instructions 1 ∷ []))) (codes_in from os (ticked (closed o es)))
 codes_ended from o os es main = λ l.
@@ -243,7 +243,7 @@ open_inside : (from : Origin) (o : Open) (os : List Open) → IsOpen from (o ∷
 open_inside Main o os = tt
 open_inside (Rest site) o os = tt
 
--- a call joins, and ends by an instruction of its own
+-- the join and end of a call, with an instruction of the call
 pub codes_returned : (from : Origin) (o : Open) (os : List Open) (es : List Event) → IsFromMain from (o ∷ os)
     → Same (codes_in from (o ∷ os) es ++ (to_join (out_in from (o ∷ os) es) ++ Instructions 1 ∷ ending_in from o os)) (codes_in from os (closed o (synced es)))
 codes_returned from o os es main = λ l.
@@ -256,7 +256,7 @@ codes_returned from o os es main = λ l.
     ∙ ap (λ (b : Bool). onto (codes_in from (o ∷ os) (synced es) ++ (to_join b ++ d)) l) (sym (spawned_synced from (o ∷ os) es))
     ∙ codes_closed from o os (synced es) main l
 
--- a rest without joins, while a child is out
+-- a continuation without joins leaves the child not joined
 spawned_still : (fs : List Event) → no_joins fs ≡ true → has_spawned_from true fs ≡ true
 spawned_still [] h = refl
 spawned_still (Work k ∷ fs) h = spawned_still fs h
@@ -283,7 +283,7 @@ pub codes_rested : (from : Origin) (os : List Open) (es fs : List Event) → IsO
 codes_rested from os es fs open_ h =
     ap (λ (b : Bool). codes_in from os es ++ record_of b fs) (sym (out_already from os es h)) ∙ sym (codes_more from os es fs open_)
 
--- two pieces, one behind the other
+-- two consecutive pieces
 same_kept : (kept a : List Code) → Same (kept ++ Instructions 0 ∷ []) a → Same kept a
 same_kept kept a h = λ l. sym (nothing_behind kept l) ∙ h l
 

@@ -1,4 +1,4 @@
--- A recorder that has been told of nothing.
+-- A recorder at its start.
 use Rattle.std.specs.Prelude.{ℕ, ◌-◌, ◌≡◌, true, false, Ok, List, [], reverse, refl}
 use Rattle.std.proofs.Common.{arith, sym, subst}
 use Rattle.cw_recorded.specs.Origins.{Main, Rest, main_open}

@@ -1,4 +1,4 @@
--- The record of a run so far: what is noted of it, and what a recorder keeps.
+-- The record of a run so far: its codes, and the state of a recorder.
 use Rattle.std.specs.Prelude.{ℕ, ◌+◌, ◌-◌, ◌≡◌, ◌≤◌, ◌<◌, Bool, true, false, not, List, [], ◌∷◌, ◌++◌, reverse}
 use Rattle.std.specs.Prelude.{Option, Some, None, Ok, Err}
 use Rattle.cw_model.specs.declared.limits.TheConstants.{MOST_LIMIT}
@@ -20,21 +20,21 @@ use Rattle.cw_recorded.specs.declared.recorder.Recorder.{Recorder}
 use Rattle.cw_recorded.specs.Merging.{Same, to_join}
 use Rattle.cw_recorded.specs.Normal.{AreApart}
 
--- the cut with which a part begins in a block of which a child is out, or none is
+-- the cut at the start of a part, in a block with or without a child that is not joined
 abbrev pub opening : (spawned : Bool) → Option Mark → (out : Bool) → List Code
 opening true mark out = Spawned (not out) ∷ []
 opening false (Some (Invocation site)) out = Called ∷ []
 opening false (Some (Execution tag)) out = []
 opening false None out = []
 
--- the cut with which it ends
+-- the cut at the end of a part
 abbrev pub ending : (spawned : Bool) → Option Mark → List Code
 ending true mark = Ended ∷ []
 ending false (Some (Invocation site)) = Called ∷ []
 ending false (Some (Execution tag)) = []
 ending false None = []
 
--- the codes of a whole run, whose one event is its call of main: no code begins or ends it
+-- the codes of a whole run, whose only event is its call of `main`, without codes for its start and end
 abbrev pub of_whole : List Event → List Code
 of_whole [] = []
 of_whole (Series t ∷ es) = codes_of AsChild t ++ record_of false es
@@ -42,18 +42,19 @@ of_whole (Work k ∷ es) = record_of false (Work k ∷ es)
 of_whole (e.Fork t ∷ es) = record_of false (e.Fork t ∷ es)
 of_whole (Join ∷ es) = record_of false es
 
--- whether a child is out as the innermost block begins: one is out of a block whose rest begins
+-- whether the innermost block has a child that is not joined at its start: only for a block whose continuation is
+-- recorded
 abbrev pub begins_out : Origin → List Open → Bool
 begins_out from (o ∷ os) = false
 begins_out Main [] = false
 begins_out (Rest site) [] = true
 
--- whether a child of the innermost block is out
+-- whether the innermost block has a child that is not joined
 abbrev pub out_in : Origin → List Open → List Event → Bool
 out_in from os es = has_spawned_from (begins_out from os) es
 
--- the codes of a run so far: of the blocks round the innermost, each up to the part that is open in it, and of that
--- block; the run itself, which is the outermost part, is cut by nothing, and the outermost block of a rest is the rest
+-- the codes of a run so far: of the enclosing blocks, each up to its open part, then of the innermost block; the run
+-- itself has no cuts, and the outermost block of a continuation is the continuation
 abbrev pub codes_in : Origin → List Open → List Event → List Code
 codes_in Main [] es = of_whole es
 codes_in Main (o ∷ []) es = record_of false es
@@ -65,28 +66,29 @@ codes_in (Rest site) (o ∷ os) es =
     codes_in (Rest site) os o.outer
     ++ (opening o.spawned o.mark (out_in (Rest site) os o.outer) ++ record_of false es)
 
--- the cut with which the innermost part ends, round which these are open
+-- the cut at the end of the innermost part, with these enclosing parts
 abbrev pub ending_in : Origin → Open → List Open → List Code
 ending_in Main o [] = []
 ending_in Main o (p ∷ os) = ending o.spawned o.mark
 ending_in (Rest site) o os = ending o.spawned o.mark
 
--- a part that is open is kept so
+-- the recorder has this kind for an open part
 abbrev pub IsOfKind : Open → PartKind → Type 0
 IsOfKind o kind.Child = o.spawned ≡ true
 IsOfKind o kind.Call = (o.spawned ≡ false) × ((site : ℕ) × (o.mark ≡ Some (Invocation site)))
 IsOfKind o kind.Quiet = (o.spawned ≡ false) × ((site : ℕ) → o.mark ≡ Some (Invocation site) → ⊥)
 
--- whether a child is out once a part has ended
+-- whether the enclosing block has a child that is not joined after the end of a part
 abbrev pub out_behind : (spawned out : Bool) → Bool
 out_behind true out = true
 out_behind false out = out
 
--- what is kept of an open part, inside of these
+-- the recorder's entry for an open part with these enclosing parts
 abbrev pub IsPart : Origin → Open → List Open → Part → Type 0
 IsPart from o os p = IsOfKind o p.kind × (p.out ≡ out_behind o.spawned (out_in from os o.outer))
 
--- what is kept of the parts that are open inside of the run itself, or of a rest, the innermost first
+-- the recorder's entries for the open parts of a run (without the run itself) or of a continuation, the innermost
+-- first
 abbrev pub AreParts : Origin → List Open → List Part → Type 0
 AreParts Main [] [] = Unit {0}
 AreParts Main [] (p ∷ ps) = ⊥
@@ -99,25 +101,26 @@ AreParts (Rest site) [] (p ∷ ps) = ⊥
 AreParts (Rest site) (o ∷ os) [] = ⊥
 AreParts (Rest site) (o ∷ os) (p ∷ ps) = IsPart (Rest site) o os p × AreParts (Rest site) os ps
 
--- these codes are kept, but for so many instructions behind them, or counted, where too many strands begin in them
+-- the codes are recorded, except for `since` instructions after them, or only counted if too many strands begin in
+-- them
 abbrev pub Keeps : (since : ℕ) → List Code → Recorded → Type 0
 Keeps since codes (Err n) = (MOST_STRANDS ≤ cuts codes) × (n ≡ capped (cuts codes))
 Keeps since codes (Ok kept) = (cuts kept < MOST_STRANDS) × Same (kept ++ Instructions since ∷ []) codes
 
--- what is kept of the parts that are open
+-- the recorder's state of the open parts
 pub record KeepsParts (from : Origin) (os : List Open) (es : List Event) (r : Recorder)
     : Type 0 where
   pub out : r.out ≡ out_in from os es
   pub parts : AreParts from os (reverse r.parts.items)
 
--- the outermost part of a whole run is the call of main by the run itself; of a rest nothing is asked
+-- the outermost part of a whole run is the run's own call of `main`; nothing is required for a continuation
 abbrev pub IsFromMain : Origin → List Open → Type 0
 IsFromMain Main [] = Unit {0}
 IsFromMain Main (o ∷ []) = (o.outer ≡ []) × (o.spawned ≡ false) × (o.mark ≡ Some (Invocation 0))
 IsFromMain Main (o ∷ p ∷ os) = IsFromMain Main (p ∷ os)
 IsFromMain (Rest site) os = Unit {0}
 
--- a recorder keeps the strands of a run so far, or of a rest
+-- the recorder represents the strands of a run so far, or of a continuation
 pub record RecordsIn (from : Origin) (count : ℕ) (os : List Open) (es : List Event) (r : Recorder)
     : Type 0 where
   pub goes_on : r.noted ≤ count
@@ -126,54 +129,56 @@ pub record RecordsIn (from : Origin) (count : ℕ) (os : List Open) (es : List E
   pub from_main : IsFromMain from os
   pub apart : AreApart from os es
 
--- a block runs: a rest is of one, and a whole run has one as long as a part is open
+-- there is a current block: always in a continuation, and in a whole run as long as a part is open
 abbrev pub IsOpen : Origin → List Open → Type 0
 IsOpen Main [] = ⊥
 IsOpen Main (o ∷ os) = Unit {0}
 IsOpen (Rest site) os = Unit {0}
 
--- what a recorder keeps goes from one run so far to another
+-- a step of the recorder from one run so far to another, with one more instruction
 abbrev pub Tells : (old new : Recorder) → (count : ℕ) → (from : Origin) → (os os' : List Open)
     → (es es' : List Event) → Type 0
 Tells old new count from os os' es es' =
     count < MOST_LIMIT → IsOpen from os → RecordsIn from count os es old
     → RecordsIn from (count + 1) os' es' new
 
--- no call of a call statement
+-- the part is no call of a call statement
 abbrev pub IsQuiet : Option Mark → Type 0
 IsQuiet None = Unit {0}
 IsQuiet (Some (Execution tag)) = Unit {0}
 IsQuiet (Some (Invocation site)) = ⊥
 
--- a spawned part begins, a call in place, or any other part in place
+-- begins a spawned part
 abbrev pub BeginsChild : (old new : Recorder) → (count : ℕ) → Type 0
 BeginsChild old new count =
     (from : Origin) (mark : Option Mark) (os : List Open) (es : List Event)
     → Tells old new count from os (begun true mark es os) es []
 
+-- begins a plain call
 abbrev pub BeginsCall : (old new : Recorder) → (count : ℕ) → Type 0
 BeginsCall old new count =
     (from : Origin) (site : ℕ) (os : List Open) (es : List Event)
     → Tells old new count from os (begun false (Some (Invocation site)) es os) es []
 
+-- begins any other part
 abbrev pub BeginsQuiet : (old new : Recorder) → (count : ℕ) → Type 0
 BeginsQuiet old new count =
     (from : Origin) (mark : Option Mark) (os : List Open) (es : List Event) → IsQuiet mark
     → Tells old new count from os (begun false mark es os) es []
 
--- a scope, a cut or a region joins and ends, and its end is an instruction of the block round it
+-- joins and ends a scope, a cut or a region; the ending instruction belongs to the enclosing block
 abbrev pub Ends : (old new : Recorder) → (count : ℕ) → Type 0
 Ends old new count =
     (from : Origin) (o : Open) (os : List Open) (es : List Event) → o.spawned ≡ false
     → Tells old new count from (o ∷ os) os es (ticked (closed o es))
 
--- a call joins and ends, by an instruction of its own
+-- joins and ends a call, with an instruction of the call
 abbrev pub Returns : (old new : Recorder) → (count : ℕ) → Type 0
 Returns old new count =
     (from : Origin) (o : Open) (os : List Open) (es : List Event)
     → Tells old new count from (o ∷ os) os es (closed o (synced es))
 
--- the block that runs joins
+-- joins the current block
 abbrev pub Syncs : (old new : Recorder) → (count : ℕ) → Type 0
 Syncs old new count =
     (from : Origin) (os : List Open) (es : List Event) → Tells old new count from os os es (synced es)
@@ -184,8 +189,8 @@ InstructionsNeedNoCall =
     (r : Recorder) (count : ℕ) (from : Origin) (os : List Open) (es : List Event)
     → Tells r r count from os os es (ticked es)
 
--- the rest of the block that runs was run apart, up to its join, by a strand with a recorder of its own, as so many
--- instructions, while a child of the block was out: what is kept goes on by the rest's events and instructions
+-- appends the continuation of the current block up to its join, recorded by another recorder with `cost` instructions
+-- while a child of the block was not joined: the events and instructions of the continuation follow
 abbrev pub Rests : (old rest new : Recorder) → (count cost : ℕ) → Type 0
 Rests old rest new count cost =
     (from : Origin) (site : ℕ) (os : List Open) (es fs : List Event) → count + cost ≤ MOST_LIMIT
@@ -193,7 +198,7 @@ Rests old rest new count cost =
     → RecordsIn from count os es old → RecordsIn (Rest site) cost [] fs rest
     → RecordsIn from (count + cost) os (es ++ fs) new
 
--- all up to this count is noted, and then these codes; nothing else changes
+-- all instructions up to `count` are recorded, then these codes; nothing else changes
 pub record Notes (old new : Recorder) (count : ℕ) (codes : List Code) : Type 0 where
   pub noted : old.noted ≤ count → new.noted ≡ count
   pub keeps : (from : ℕ) (before : List Code) → old.noted ≤ from → from ≤ count
@@ -201,20 +206,20 @@ pub record Notes (old new : Recorder) (count : ℕ) (codes : List Code) : Type 0
   pub out : new.out ≡ old.out
   pub parts : new.parts.items ≡ old.parts.items
 
--- a part of this kind begins, of which a child of the block round it is out once it has ended, or none is
+-- begins a part of this kind; `after` says whether the enclosing block has a child that is not joined after its end
 pub record Stacks (old new : Recorder) (kind : PartKind) (after : Bool) : Type 0 where
   pub pushed : new.parts.items ≡ old.parts.items ++ record { kind = kind; out = after } ∷ []
   pub out : new.out ≡ false
   pub kept : new.kept ≡ old.kept
   pub noted : new.noted ≡ old.noted
 
--- the block that runs joins: no instruction is noted where no child is out
+-- joins the current block; no instruction is recorded if no child is to be joined
 abbrev pub Joins : (old new : Recorder) → (count : ℕ) → Type 0
 Joins old new count =
     (codes : List Code) → old.noted ≤ count → Keeps (count - old.noted) codes old.kept
     → (new.noted ≤ count) × Keeps (count - new.noted) (codes ++ to_join old.out) new.kept
 
--- the innermost part ends, whose block has joined
+-- ends the innermost part, whose block has joined
 abbrev pub Closes : (old new : Recorder) → (count : ℕ) → Type 0
 Closes old new count =
     (codes : List Code) (from : Origin) (o : Open) (os : List Open) (es : List Event)
@@ -223,21 +228,21 @@ Closes old new count =
     → (new.noted ≤ count) × Keeps (count - new.noted) (codes ++ ending_in from o os) new.kept
     × KeepsParts from os (closed o es) new
 
--- the recorder of a run that begins
+-- the recorder of a run at its start
 abbrev pub Starts : Recorder → Type 0
 Starts r = RecordsIn Main 0 main_open [] r
 
--- the recorder of a rest that begins, in an invocation of any site
+-- the recorder of a continuation at its start, in an invocation of any site
 abbrev pub StartsRest : Recorder → Type 0
 StartsRest r = (site : ℕ) → RecordsIn (Rest site) 0 [] [] r
 
--- what is kept of the strands of a run: their record, or how many begin in it, which are all but its first, where they
--- are too many
+-- the result for a run: the record of its strands, or the number of strands that begin in it (all but the first) if
+-- there are too many
 abbrev pub IsKept : Tree → Recorded → Type 0
 IsKept t (Err n) = (MOST_STRANDS < strand_count t) × (capped (1 + n) ≡ capped (strand_count t))
 IsKept t (Ok codes) = (strand_count t ≤ MOST_STRANDS) × IsRecordOf t (Ok codes)
 
--- a recorder, at the end of a run, keeps what its tree comes to
+-- at the end of a run, the recorder returns the result for the run's tree
 abbrev pub Reads : Recorder → (count : ℕ) → Recorded → Type 0
 Reads r count kept =
     (es : List Event) → RecordsIn Main count [] (Series (Marked (Invocation 0) (tree_of es)) ∷ []) r

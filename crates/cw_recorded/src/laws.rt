@@ -1,8 +1,8 @@
-//! The laws of a recorder: each function has one as its contract, and does nothing.
+//! The laws of a recorder. Each function states a law as its contract, and does nothing.
 
 ghost use Rattle.cw_recorded.specs.Recording.{InstructionsNeedNoCall};
 
-/// An instruction that begins, ends and joins nothing needs no call of the recorder.
+/// States that an instruction that begins, ends and joins nothing needs no call of the recorder.
 pub fn instructions_need_no_call()
     ensures { InstructionsNeedNoCall }
 {}

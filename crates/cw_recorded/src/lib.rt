@@ -1,23 +1,25 @@
-//! The strands of a run, kept as it goes.
+//! Records the strands of a run while it executes.
 //!
-//! A [`Recorder`] is told of a run as a meter is: each call stands for one instruction, and is told the count of
-//! instructions before it. At each cut it notes the instructions since the last one and the cut, as one entry.
+//! A [`Recorder`] has the interface of a meter: each call of a method represents one instruction, and its argument is
+//! the number of instructions before it. At each cut it records the cut and the instructions since the last one, as
+//! one entry.
 //!
 //! | instruction | call | code |
 //! |---|---|---|
-//! | a spawned call, or half of a loop that is spawned | `spawn(count)` | `Spawned`, and `Ended` where it ends |
-//! | a call in place | `call(count)` | `Called` there and where it ends |
-//! | a scope, a cut, a region, or a function of a loop in place | `begin(count)` | none |
-//! | a scope, a cut or a region joins and ends | `end(count)` | `Joined`, where a child is out |
-//! | a call, or a function of a loop, joins and ends | `give_back(count)` | `Joined`, where a child is out |
-//! | a join of the block that runs | `sync(count)` | `Joined`, where a child is out |
+//! | a spawned call, or the spawned half of a loop | `spawn(count)` | `Spawned`, and `Ended` at its end |
+//! | a plain call | `call(count)` | `Called`, and `Called` at its end |
+//! | a scope, a cut, a region, or a plain call of a loop's function | `begin(count)` | none |
+//! | the join and end of a scope, a cut or a region | `end(count)` | `Joined`, if a child is not joined |
+//! | the join and end of a call, or of a loop's function | `give_back(count)` | `Joined`, if a child is not joined |
+//! | a join of the current block | `sync(count)` | `Joined`, if a child is not joined |
 //! | any other | none (`laws::instructions_need_no_call`) | none |
 //!
-//! The rest of a block that a strand of its own runs has a recorder of its own (`apart`), in which a child of the block
-//! is out from the first. Where the rest has come to the block's join, `rest` puts its codes behind those of the block.
+//! The continuation of a block that its own strand executes has its own recorder (`apart`), in which a child of the
+//! block is not joined at the start. When the continuation reaches the block's join, `rest` appends its codes to the
+//! codes of the block.
 //!
-//! Once the strands are too many, they are counted on, and no entry is kept. After an error, which says that memory ran
-//! out, a recorder tells of nothing.
+//! If there are too many strands, the recorder counts them and keeps no entry. After an error, which means that
+//! memory ran out, the record is meaningless.
 #![tactic(auto)]
 
 pub mod laws;

@@ -12,23 +12,23 @@ use cw_model::monoid::Monoid;
 use std::alloc::{AllocError, Global};
 use std::mem;
 
-/// What an open part of a run is cut by.
+/// The cuts at the ends of an open part of a run.
 #[derive(Clone, Copy, Debug)]
 pub(crate) enum PartKind {
-    /// A spawned call: at its ends.
+    /// A spawned call: it has cuts for a child at both ends.
     Child,
-    /// A call in place: at its ends.
+    /// A plain call: it has cuts for a call at both ends.
     Call,
-    /// Any other: by nothing.
+    /// Any other part: it has no cuts.
     Quiet,
 }
 
 /// An open part of a run.
 #[derive(Clone, Copy, Debug)]
 pub(crate) struct Part {
-    /// What it is.
+    /// Its kind.
     pub kind: PartKind,
-    /// Whether a child of the block round it is out once it has ended.
+    /// Whether a child of the enclosing block is not joined after the end of this part.
     pub out: bool,
 }
 
@@ -36,16 +36,16 @@ pub(crate) struct Part {
 #[derive(Debug, Drop)]
 pub struct Recorder {
     pub(crate) kept: Piece,
-    /// The count of instructions up to which they are noted.
+    /// The number of instructions that are recorded.
     pub(crate) noted: u64,
-    /// Whether a child of the block that runs is out.
+    /// Whether a child of the current block is not joined.
     pub(crate) out: bool,
-    /// The parts that are open inside of the run itself, the innermost last.
+    /// The open parts of the run, without the run itself, the innermost last.
     pub(crate) parts: Vec<Part>,
 }
 
 impl Recorder {
-    /// The recorder of a run that begins. Takes no memory.
+    /// Returns the recorder of a run at its start. Allocates no memory.
     pub fn new(alloc: Global) -> Recorder
         ensures { Starts result }
     {
@@ -57,8 +57,8 @@ impl Recorder {
         }
     }
 
-    /// The recorder of the rest of a block that a strand of its own runs, up to the block's join: a child of the block is
-    /// out as it begins. Takes no memory.
+    /// Returns the recorder of the continuation of a block that its own strand executes, up to the block's join. A
+    /// child of the block is not joined at the start. Allocates no memory.
     pub fn apart(alloc: Global) -> Recorder
         ensures { StartsRest result }
     {
@@ -70,7 +70,7 @@ impl Recorder {
         }
     }
 
-    // The instructions up to this count.
+    // Records the instructions up to `count`.
     fn settle(&mut self, count: u64) -> Result<(), AllocError>
         ensures { OnOk result (Notes self.old self.new count []) }
     {
@@ -81,7 +81,7 @@ impl Recorder {
         Ok(())
     }
 
-    // A cut after `count` instructions.
+    // Records a cut after `count` instructions.
     fn cut(&mut self, count: u64, cut: Cut) -> Result<(), AllocError>
         ensures { OnOk result (Notes self.old self.new count (code_of_cut cut)) }
     {
@@ -90,7 +90,7 @@ impl Recorder {
         Ok(())
     }
 
-    // A part of this kind begins in the block that runs.
+    // Begins a part of this kind in the current block.
     fn stack(&mut self, kind: PartKind, out: bool) -> Result<(), AllocError>
         ensures { OnOk result (Stacks self.old self.new kind out) }
     {
@@ -99,7 +99,11 @@ impl Recorder {
         Ok(())
     }
 
-    /// A spawned call begins by the instruction after `count` ones, or half of a loop that is spawned.
+    /// Begins a spawned call, or the spawned half of a loop, with the instruction after `count` others.
+    ///
+    /// # Errors
+    ///
+    /// Returns an `AllocError` if memory runs out. The record is then meaningless.
     #[inline(never)]
     pub fn spawn(&mut self, count: u64) -> Result<(), AllocError>
         ensures { OnOk result (BeginsChild self.old self.new count) }
@@ -109,7 +113,11 @@ impl Recorder {
         Ok(())
     }
 
-    /// A call in place begins by the instruction after `count` ones.
+    /// Begins a plain call with the instruction after `count` others.
+    ///
+    /// # Errors
+    ///
+    /// Returns an `AllocError` if memory runs out. The record is then meaningless.
     #[inline(never)]
     pub fn call(&mut self, count: u64) -> Result<(), AllocError>
         ensures { OnOk result (BeginsCall self.old self.new count) }
@@ -119,7 +127,12 @@ impl Recorder {
         Ok(())
     }
 
-    /// A scope, a cut, a region or a function of a loop begins in place, by the instruction after `count` ones.
+    /// Begins a scope, a cut, a region or a plain call of a loop's function with the instruction after `count`
+    /// others.
+    ///
+    /// # Errors
+    ///
+    /// Returns an `AllocError` if memory runs out. The record is then meaningless.
     #[inline(never)]
     pub fn begin(&mut self, count: u64) -> Result<(), AllocError>
         ensures { OnOk result (BeginsQuiet self.old self.new count) }
@@ -128,7 +141,11 @@ impl Recorder {
         Ok(())
     }
 
-    /// The innermost scope, cut or region joins after `count` instructions and ends by the next one.
+    /// Joins the innermost scope, cut or region after `count` instructions, and ends it with the next instruction.
+    ///
+    /// # Errors
+    ///
+    /// Returns an `AllocError` if memory runs out. The record is then meaningless.
     #[inline(never)]
     pub fn end(&mut self, count: u64) -> Result<(), AllocError>
         ensures { OnOk result (Ends self.old self.new count) }
@@ -138,7 +155,12 @@ impl Recorder {
         Ok(())
     }
 
-    /// The innermost call, or function of a loop, joins after `count` instructions and ends by the next one.
+    /// Joins the innermost call, or function of a loop, after `count` instructions, and ends it with the next
+    /// instruction.
+    ///
+    /// # Errors
+    ///
+    /// Returns an `AllocError` if memory runs out. The record is then meaningless.
     #[inline(never)]
     pub fn give_back(&mut self, count: u64) -> Result<(), AllocError>
         ensures { OnOk result (Returns self.old self.new count) }
@@ -148,7 +170,11 @@ impl Recorder {
         Ok(())
     }
 
-    /// The block that runs joins after `count` instructions, by the next one.
+    /// Joins the current block after `count` instructions, with the next instruction.
+    ///
+    /// # Errors
+    ///
+    /// Returns an `AllocError` if memory runs out. The record is then meaningless.
     #[inline(never)]
     pub fn sync(&mut self, count: u64) -> Result<(), AllocError>
         ensures { OnOk result (Syncs self.old self.new count) }
@@ -157,9 +183,12 @@ impl Recorder {
         Ok(())
     }
 
-    /// The rest of the block that runs was run apart, up to the block's join: as `cost` instructions, told to a recorder of
-    /// its own, after the `count` instructions of this one, while a child of the block was out. The error is want of
-    /// memory, after which the recorder stands for nothing.
+    /// Appends the continuation of the current block, up to the block's join: `cost` instructions that another
+    /// recorder recorded, after the `count` instructions of this one, while a child of the block is not joined.
+    ///
+    /// # Errors
+    ///
+    /// Returns an `AllocError` if memory runs out. The record is then meaningless.
     #[inline(never)]
     pub fn rest(&mut self, count: u64, rest: Recorder, cost: u64) -> Result<(), AllocError>
         ensures { OnOk result (Rests self.old rest self.new count cost) }
@@ -172,7 +201,7 @@ impl Recorder {
         Ok(())
     }
 
-    // These strands stand behind those kept.
+    // Appends these strands.
     fn take_in(&mut self, more: Piece) -> Result<(), AllocError>
         ensures kept { OnOk result (self.new.kept ≡ followed self.old.kept more) }
         ensures noted { self.new.noted ≡ self.old.noted }
@@ -185,7 +214,7 @@ impl Recorder {
         Ok(())
     }
 
-    // The block that runs joins: where no child is out, there is nothing to do.
+    // Joins the current block; there is nothing to record if all its children are joined.
     fn join(&mut self, count: u64) -> Result<(), AllocError>
         ensures joins { OnOk result (Joins self.old self.new count) }
         ensures out { OnOk result (self.new.out ≡ false) }
@@ -198,7 +227,7 @@ impl Recorder {
         Ok(())
     }
 
-    // The innermost part, whose block has joined, ends at this count.
+    // Ends the innermost part at `count`; its block has joined.
     fn close(&mut self, count: u64) -> Result<(), AllocError>
         ensures { OnOk result (Closes self.old self.new count) }
     {
@@ -215,7 +244,11 @@ impl Recorder {
         }
     }
 
-    /// The strands of a run that has ended after `count` instructions.
+    /// Returns the strands of a run that ended after `count` instructions.
+    ///
+    /// # Errors
+    ///
+    /// Returns an `AllocError` if memory runs out.
     pub fn finish(self, count: u64) -> Result<Strands, AllocError>
         ensures { IfOk result (λ kept. Reads self count kept) }
     {

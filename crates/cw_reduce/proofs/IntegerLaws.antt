@@ -31,7 +31,7 @@ sums_hold_integers = record {
   reads = λ a f. ap (cast_signed w128) (mod-eq_of_lt (bits_below a f)) ∙ to_z-of_z w128 a f;
 }
 
--- a sum that wraps is the sum of words
+-- a sum that wraps around is the sum of words
 pub wrapped_sum : (a b : ℤ) → word_of (int_wrapping_add w128 a b) ≡ plus (word_of a) (word_of b)
 wrapped_sum a b =
     let n = cast_unsigned w128 a + cast_unsigned w128 b in

@@ -1,4 +1,4 @@
--- Totals that are joined one after another.
+-- Totals that are joined one at a time.
 use Rattle.std.specs.Prelude.{◌≡◌, ℕ, zero, suc, ◌+◌, ◌<◌, ◌≤◌, ◌==◌, Bool, true, false, if◌then◌else◌, None, List, [], ◌∷◌, length, take, map, get_or, set, refl}
 use Rattle.std.proofs.Common.{sym, ◌∙◌, ap, arith}
 use Rattle.std.proofs.lemmas.List.{map-set, get_or-map, length-map, length-set}
@@ -19,7 +19,7 @@ next (x ∷ F) [] i d h k = absurd (omega arith)
 next (x ∷ F) (y ∷ I) zero d h k = ap (λ (l : List Held). held_joined x y ∷ l) (sym (first_joined F I zero))
 next (x ∷ F) (y ∷ I) (suc i) d h k = ap (λ (l : List Held). held_joined x y ∷ l) (next F I i d (omega arith) (omega arith))
 
--- the totals up to a place have been joined
+-- the totals before a place were joined
 pub record JoinedTo (from into : List Total) (i : ℕ) (now : List Total) : Type 0 where
   pub totals : map held now ≡ totals_joined (take i (map held from)) (map held into)
   pub size : length now ≡ length into
@@ -46,7 +46,7 @@ one_joined from into now i f n new h k e g j a =
       size = length-set now i new ∙ a.size;
     }
 
--- what is held at a place, and of a reducer that was told more
+-- the state at a place, and the state of a reducer after an update
 pub held_at : (totals : List Total) (q : ℕ) → held_of (map held totals) q ≡ held (total_of totals q)
 held_at totals q = listn.get_or-map held totals q (total.Max None)
 

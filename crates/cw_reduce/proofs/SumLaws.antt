@@ -1,4 +1,4 @@
--- What the bits of sums are.
+-- The bits of sums.
 use Rattle.std.specs.Prelude.{◌≡◌, ℕ, ◌+◌, ◌^◌, ◌%◌}
 use Rattle.std.proofs.Common.{sym, ◌∙◌, ap}
 use Rattle.std.proofs.Math.Nat.{mod-mod}

@@ -1,8 +1,8 @@
--- The greatest of integers, where there are any.
+-- The maximum of integers, if there are any.
 use Rattle.std.specs.Prelude.{ℤ, Option, Some, None}
 use Rattle.cw_model.specs.Answers.{or_greater}
 
--- the greater of two, where there are any: of two equal ones either, since they are the same
+-- the maximum of two optional integers
 abbrev pub greater : Option ℤ → Option ℤ → Option ℤ
 greater None b = b
 greater (Some v) b = Some (or_greater v b)

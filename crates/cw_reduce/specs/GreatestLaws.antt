@@ -1,4 +1,4 @@
--- Greatest integers make a monoid, and in either order.
+-- Maxima form a commutative monoid.
 use Rattle.std.specs.Prelude.{◌≡◌, ℤ, Option, Some, None, refl}
 use Rattle.std.proofs.Common.{ap, arith}
 use Rattle.std.specs.Int.{int_max}

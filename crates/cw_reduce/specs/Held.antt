@@ -1,4 +1,4 @@
--- What is held of a reducer over a piece of a run.
+-- The state of a reducer over a piece of a run.
 use Rattle.std.specs.Prelude.{ℤ, Option, Some, None, pos}
 use Rattle.std.specs.Int.{cast_signed, w128}
 use Rattle.cw_model.specs.declared.syntax.Reduction.{Reduction}
@@ -8,33 +8,33 @@ use Rattle.cw_model.specs.declared.total.Total.TheVariants as total
 use Rattle.cw_reduce.specs.Words.{Word, word_of, plus}
 use Rattle.cw_reduce.specs.Greatest.{greater}
 
--- a sum within 128 bits, or the greatest of integers
+-- a sum within 128 bits, or the maximum of integers
 pub data Held : Type 0 where
   Summed : Word → Held
   Raised : Option ℤ → Held
 
--- a total as it is held
+-- the state that represents a total
 abbrev pub held : Total → Held
 held (total.Sum v) = Summed (word_of v)
 held (total.Max v) = Raised v
 
--- of a reducer that was told nothing, whichever way it reduces
+-- the state of a reducer without updates, for every reduction
 abbrev pub none_held : Held
 none_held = Raised None
 
--- of one that reduces so and was told one value
+-- the state of a reducer with this reduction after one update
 abbrev pub one_held : Reduction → ℤ → Held
 one_held Sum v = Summed (word_of v)
 one_held Max v = Raised (Some v)
 
--- of both of two pieces: a reducer that sums in one of them sums in both
+-- the state of a reducer over two pieces; if it is a sum in one of them, it is a sum in both
 abbrev pub held_joined : Held → Held → Held
 held_joined (Summed a) (Summed b) = Summed (plus a b)
 held_joined (Summed a) (Raised v) = Summed a
 held_joined (Raised v) (Summed b) = Summed b
 held_joined (Raised v) (Raised w) = Raised (greater v w)
 
--- what a reducer that reduces so comes to by what is held of it
+-- the total of a reducer with this reduction in this state
 abbrev pub as_total : Reduction → Held → Total
 as_total Sum (Summed a) = total.Sum (cast_signed w128 a.bits)
 as_total Sum (Raised v) = total.Sum (pos 0)

@@ -1,4 +1,4 @@
--- What is held of reducers makes a monoid, and in either order.
+-- States of reducers form a commutative monoid.
 use Rattle.std.specs.Prelude.{◌≡◌, ℤ, ◌+◌, Option, refl}
 use Rattle.std.proofs.Common.{ap, arith}
 use Rattle.cw_reduce.specs.Words.{Word, word, plus}

@@ -1,7 +1,8 @@
--- Lists make a monoid.
+-- Lists form a monoid.
 use Rattle.std.specs.Prelude.{◌≡◌, ℤ, List, [], ◌∷◌, ◌++◌, refl}
 use Rattle.std.proofs.Common.{ap}
 
+-- the concatenation of two lists
 abbrev pub joined : List ℤ → List ℤ → List ℤ
 joined a b = a ++ b
 

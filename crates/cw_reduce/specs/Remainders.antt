@@ -1,4 +1,4 @@
--- Remainders are below what is divided by.
+-- A remainder is less than the divisor.
 use Rattle.std.specs.Prelude.{◌≡◌, ℕ, ◌^◌, ◌%◌, nat_lt, true}
 use Rattle.std.proofs.Common.{arith}
 use Rattle.std.proofs.Math.Nat.{mod-lt}

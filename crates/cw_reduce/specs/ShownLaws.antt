@@ -1,4 +1,4 @@
--- What pieces of a run give makes a monoid.
+-- The results of pieces of a run form a monoid.
 use Rattle.std.specs.Prelude.{◌≡◌, ℤ, List, [], ◌∷◌, refl}
 use Rattle.std.proofs.Common.{◌∙◌, ap}
 use Rattle.cw_reduce.specs.ListLaws.{append-last, append-regroup}

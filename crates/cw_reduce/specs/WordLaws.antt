@@ -1,4 +1,4 @@
--- Words make a monoid.
+-- Words form a monoid.
 use Rattle.std.specs.Prelude.{◌≡◌, ℕ, ◌+◌, ◌^◌, ◌%◌, nat_lt, true}
 use Rattle.std.proofs.Common.{sym, ◌∙◌, ap, subst, arith}
 use Rattle.std.proofs.Math.Nat.{add-mod-mod, mod-eq_of_lt}

@@ -1,4 +1,4 @@
-//! The greatest integer that a reducer is told.
+//! The maximum of the values that a reducer receives.
 
 ghost use Rattle.std.specs.Prelude.{◌≡◌, None, Some, IsOk, IfOk};
 ghost use Rattle.cw_model.specs.Answers as answers;
@@ -8,7 +8,7 @@ use cw_model::monoid::Monoid;
 use std::alloc::{AllocError, Global};
 use std::marker::Model;
 
-/// The greatest of integers of 64 bits; none where there were none.
+/// The maximum of 64-bit integers; `None` without integers.
 #[derive(Debug, Drop)]
 pub struct Max(Option<i64>);
 
@@ -21,21 +21,21 @@ impl Model for Max {
 }
 
 impl Max {
-    /// The greatest of nothing.
+    /// Returns the maximum of no numbers.
     pub fn new() -> Max
         ensures { result ≡ None }
     {
         Max(None)
     }
 
-    /// One number more.
+    /// Adds a number.
     pub fn raise(&mut self, n: i64)
         ensures { self.new ≡ greater self.old (Some n) }
     {
         self.0 = greater_of(self.0, Some(n));
     }
 
-    /// The greatest number, if there was one.
+    /// Returns the maximum, if there was a number.
     pub fn value(&self) -> Option<i64>
         ensures { result ≡ self.now }
     {
@@ -43,7 +43,7 @@ impl Max {
     }
 }
 
-/// The greater of two numbers, where there are any.
+/// Returns the maximum of two optional numbers.
 pub(crate) fn greater_of(left: Option<i64>, right: Option<i64>) -> Option<i64>
     ensures { result ≡ greater left right }
 {
@@ -53,7 +53,7 @@ pub(crate) fn greater_of(left: Option<i64>, right: Option<i64>) -> Option<i64>
     }
 }
 
-// The greater of a number and another one, if there is one.
+// Returns the maximum of a number and an optional one.
 fn or_greater(value: i64, other: Option<i64>) -> i64
     ensures { result ≡ answers.or_greater value other }
 {

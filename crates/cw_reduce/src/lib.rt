@@ -1,6 +1,6 @@
-//! What a run gives beside its value: totals of reducers and printed lines.
+//! The results of a run other than its value: totals of reducers and printed lines.
 //!
-//! Each is a `Monoid`: the views of pieces that ran apart join in serial order, in any grouping.
+//! Each type is a `Monoid`: the views of pieces that were executed separately join in serial order, in any grouping.
 #![tactic(auto)]
 
 mod greatest;

@@ -21,7 +21,7 @@ impl Model for Lines {
 }
 
 impl Lines {
-    /// No lines. Takes no memory.
+    /// Returns no lines. Allocates no memory.
     pub fn new(alloc: Global) -> Lines
         ensures { result ≡ [] }
     {
@@ -30,7 +30,11 @@ impl Lines {
         }
     }
 
-    /// One line more.
+    /// Appends a line.
+    ///
+    /// # Errors
+    ///
+    /// Returns an `AllocError` if memory runs out.
     pub fn print(&mut self, value: i64) -> Result<(), AllocError>
         ensures { OnOk result (self.new ≡ self.old ++ value ∷ []) }
     {
@@ -38,7 +42,7 @@ impl Lines {
         Ok(())
     }
 
-    /// The values, in serial order.
+    /// Returns the values, in serial order.
     pub fn values(&self) -> &[i64]
         ensures { result.now ≡ self.now }
     {

@@ -1,4 +1,4 @@
-//! Sums of a reducer.
+//! The sum of the values that a reducer receives.
 
 ghost use Rattle.std.specs.Prelude.{◌≡◌, ℕ, IsOk, IfOk};
 ghost use Rattle.std.specs.Int.{cast_signed, w128};
@@ -8,8 +8,8 @@ use cw_model::monoid::Monoid;
 use std::alloc::{AllocError, Global};
 use std::marker::Model;
 
-/// A sum of 128 bits, of integers of 64 bits. It wraps, so that its join never fails; a run has too few instructions
-/// to bring it so far.
+/// A 128-bit sum of 64-bit integers. It wraps around, so that its join never fails; no run has enough instructions to
+/// reach the bound.
 #[derive(Debug, Drop)]
 pub struct Sum {
     // The sum in two's complement.
@@ -25,21 +25,21 @@ impl Model for Sum {
 }
 
 impl Sum {
-    /// The sum of nothing.
+    /// Returns the sum of no numbers.
     pub fn new() -> Sum
         ensures { result ≡ nothing }
     {
         Sum { bits: 0 }
     }
 
-    /// One number more.
+    /// Adds a number.
     pub fn add(&mut self, n: i64)
         ensures { self.new ≡ plus self.old (word_of n) }
     {
         self.bits = self.bits.wrapping_add(i128::from(n).cast_unsigned());
     }
 
-    /// The sum, signed.
+    /// Returns the sum, as a signed number.
     pub fn value(&self) -> i128
         ensures { result ≡ cast_signed w128 self.now.bits }
     {

@@ -1,5 +1,4 @@
-//! What reducers come to over pieces of a run, as a monoid. No run calls it: what a run joins stands in `totals.rt` of
-//! `cw_jobs`.
+//! The totals of reducers over pieces of a run, as a monoid. No run calls it: runs use `totals.rt` of `cw_jobs`.
 
 ghost use Rattle.std.specs.Prelude.{◌≡◌};
 ghost use Rattle.std.specs.Int.{int_wrapping_add, w128};
@@ -10,7 +9,7 @@ use crate::greatest::greater_of;
 use cw_model::syntax::Reduction;
 use cw_model::total::Total;
 
-/// What a reducer comes to that reduces so and was told this value alone.
+/// Returns the total of a reducer with this reduction after one update with this value.
 pub(crate) fn one_told(how: Reduction, value: i64) -> Total
     ensures { held result ≡ one_held how value }
 {
@@ -20,15 +19,15 @@ pub(crate) fn one_told(how: Reduction, value: i64) -> Total
     }
 }
 
-// Two sums as one, within 128 bits.
+// Returns the sum of two sums, modulo 2^128.
 fn add_up(sum: i128, more: i128) -> i128
     ensures { word_of result ≡ plus (word_of sum) (word_of more) }
 {
     sum.wrapping_add(more)
 }
 
-/// What a reducer comes to over two pieces. One that sums in one of them sums in both, so that joins may be grouped in
-/// any way.
+/// Returns the total of a reducer over two pieces. If it is a sum in one of them, it is a sum in both, so that joins
+/// may be grouped in any way.
 pub(crate) fn joined(left: Total, right: Total) -> Total
     ensures { held result ≡ held_joined (held left) (held right) }
 {
@@ -44,7 +43,7 @@ pub(crate) fn joined(left: Total, right: Total) -> Total
     }
 }
 
-/// The total of a reducer that reduces so.
+/// Returns the total of a reducer with this reduction.
 pub(crate) fn read_as(how: Reduction, total: Total) -> Total
     ensures { result ≡ as_total how (held total) }
 {

@@ -1,4 +1,4 @@
-//! What a run gives beside its value.
+//! The results of a run other than its value.
 
 ghost use Rattle.std.specs.Prelude.{◌≡◌, ◌≤◌, ◌++◌, ◌∷◌, ◌<◌, [], length, map, IfOk, OnOk};
 ghost use Rattle.cw_reduce.specs.Held.{as_total, held};
@@ -12,8 +12,8 @@ use cw_model::total::Total;
 use std::alloc::{AllocError, Global};
 use std::marker::Model;
 
-/// The totals of the reducers, by their number in the order of the source, and the printed lines. A reducer without a
-/// total was told nothing.
+/// The totals of the reducers, by their number in source order, and the printed lines. A reducer without a total had
+/// no updates.
 #[derive(Debug, Drop)]
 pub struct Views {
     totals: Vec<Total>,
@@ -31,7 +31,7 @@ impl Model for Views {
 }
 
 impl Views {
-    /// No totals and no lines. Takes no memory.
+    /// Returns no totals and no lines. Allocates no memory.
     pub fn new(alloc: Global) -> Views
         ensures { result ≡ nothing_shown }
     {
@@ -41,7 +41,11 @@ impl Views {
         }
     }
 
-    /// A reducer that reduces so is told a value.
+    /// Updates a reducer with this reduction with a value.
+    ///
+    /// # Errors
+    ///
+    /// Returns an `AllocError` if memory runs out.
     pub fn tell(&mut self, reducer: u32, how: Reduction, value: i64) -> Result<(), AllocError>
         ensures totals { OnOk result (TellsValue self.old self.new reducer how value) }
         ensures lines { OnOk result (self.new.lines ≡ self.old.lines) }
@@ -50,7 +54,7 @@ impl Views {
         Ok(())
     }
 
-    /// The total of a reducer that reduces so.
+    /// Returns the total of a reducer with this reduction.
     pub fn total(&self, reducer: u32, how: Reduction) -> Total
         ensures { result ≡ as_total how (held_of self.now.totals reducer) }
     {
@@ -58,7 +62,11 @@ impl Views {
         read_as(how, total)
     }
 
-    /// One line more.
+    /// Appends a line.
+    ///
+    /// # Errors
+    ///
+    /// Returns an `AllocError` if memory runs out.
     pub fn print(&mut self, value: i64) -> Result<(), AllocError>
         ensures lines { OnOk result (self.new.lines ≡ self.old.lines ++ value ∷ []) }
         ensures totals { OnOk result (self.new.totals ≡ self.old.totals) }
@@ -67,7 +75,7 @@ impl Views {
         Ok(())
     }
 
-    /// The printed values, in serial order.
+    /// Returns the printed values, in serial order.
     pub fn lines(&self) -> &[i64]
         ensures { result.now ≡ self.now.lines }
     {
@@ -75,7 +83,7 @@ impl Views {
     }
 }
 
-// The total at a place; that of nothing past the end.
+// Returns the total at a place; the total without updates after the end.
 fn total_at(totals: &Vec<Total>, reducer: u32) -> Total
     ensures { result ≡ total_of totals.now.items reducer }
 {
@@ -87,7 +95,7 @@ fn total_at(totals: &Vec<Total>, reducer: u32) -> Total
     }
 }
 
-// So much more at a place.
+// Adds a total to the total at a place.
 fn tell_total(totals: &mut Vec<Total>, reducer: u32, more: Total) -> Result<(), AllocError>
     ensures { OnOk result (TellsTotals totals.old.items totals.new.items reducer more) }
 {
@@ -97,7 +105,7 @@ fn tell_total(totals: &mut Vec<Total>, reducer: u32, more: Total) -> Result<(), 
     Ok(())
 }
 
-// Room for the total at a place: totals that were missing are those of nothing.
+// Extends the totals to this place; missing totals are those without updates.
 fn reach(totals: &mut Vec<Total>, reducer: u32) -> Result<(), AllocError>
     ensures same { OnOk result (SameTotals totals.old.items totals.new.items) }
     ensures within { OnOk result (reducer < length totals.new.items) }
@@ -109,7 +117,7 @@ fn reach(totals: &mut Vec<Total>, reducer: u32) -> Result<(), AllocError>
     Ok(())
 }
 
-// The totals of both, the fewer joined to the more.
+// Joins the totals of both; the shorter list is joined to the longer one.
 fn join_totals(left: Vec<Total>, right: Vec<Total>) -> Vec<Total>
     ensures { AreJoined left.items right.items result.items }
 {
@@ -120,7 +128,7 @@ fn join_totals(left: Vec<Total>, right: Vec<Total>) -> Vec<Total>
     }
 }
 
-// Joins totals to as many or more.
+// Joins totals to a list that is at least as long.
 fn join_all(into: Vec<Total>, from: &Vec<Total>) -> Vec<Total>
     requires { length from.now.items ≤ length into.items }
     ensures { AreJoined from.now.items into.items result.items }

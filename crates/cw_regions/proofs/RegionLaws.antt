@@ -1,4 +1,4 @@
--- A table tells of a run so far, and its calls keep it so.
+-- A table represents a run so far, and each step of a run preserves this.
 use Rattle.std.specs.Prelude.{◌≡◌, ℕ, ◌==◌, ◌≤◌, ◌<◌, Bool, true, false, List, [], ◌∷◌, ◌++◌, Some, refl}
 use Rattle.std.proofs.Common.{sym, ◌∙◌, ap, subst, true≢false, arith}
 use borrow.Author.Tests.{eqb-true}
@@ -21,7 +21,7 @@ use Rattle.cw_regions.specs.RegionRows.{row_of, zero_row, entered_at, entered, l
 use Rattle.cw_regions.specs.Regions.{Readings, Tags, CountsTag, TellsRegions, SmallRegions, executed, RegionsKeep, JoinsRegions}
 use Rattle.cw_regions.specs.lemmas.Regions.{row_other, row_other_left, regions_need_no_call}
 
--- the tallies of a row that an execution begins or ends
+-- the tallies of a row after the start and the end of an execution
 begun_work : (first : Bool) (count path heavy : ℕ) (r : Row) → begun_at first count (work_tally r) ≡ work_tally (entered_at first count path heavy r)
 begun_work true count path heavy r = refl
 begun_work false count path heavy r = refl
@@ -136,7 +136,7 @@ region_begins burden along tags busy os es old new tag count path heavy known c 
         subst D (sym (others q e)) (row_other burden along (tags.name q) (busy q) o os (row_of old.rows q)
         (other_tag tags q tag (same_name (tags.name q) (tags.name tag)) refl less known e) (h q less))
 
--- it ends
+-- an execution ends
 pub region_ends : (burden : Burden) (along : Readings burden) (tags : Tags) (busy : ℕ → ℕ) (os : List Open) (before es : List Event)
     (old new : RegionTable) (tag count path heavy : ℕ) → tag < tags.count → count ≡ work_in (executed tags tag before os) es
     → path ≡ along.path (executed tags tag before os) es → heavy ≡ along.burdened (executed tags tag before os) es → has_spawned es ≡ false
@@ -161,7 +161,7 @@ region_ends burden along tags busy os before es old new tag count path heavy kno
         subst D (sym (others q e)) (row_other_left burden along (tags.name q) (busy q) o os es (row_of old.rows q)
         (other_tag tags q tag (same_name (tags.name q) (tags.name tag)) refl less known e) (h q less))
 
--- nothing has run
+-- the start of a run
 pub regions_start : (burden : Burden) (along : Readings burden) (tags : Tags) (table : RegionTable) → ((q : ℕ) → row_of table.rows q ≡ zero_row) → TellsRegions burden along tags (λ k. 0) [] [] table
 regions_start burden along tags table none = λ k less.
     let D : Row → Type 0 = λ r. CountsTag burden along (tags.name k) 0 [] [] r in
@@ -171,7 +171,7 @@ regions_start burden along tags table none = λ k less.
       burdened_is = record { sum_is = refl; active_is = refl; began_is = tt };
     })
 
--- what is read at the end
+-- the readings at the end
 pub record ReadsRow (row : Row) (burden : Burden) (tag : Name) (t : Tree) : Type 0 where
   pub work_is : row.work ≡ (region_row burden tag t).work
   pub span_is : row.span ≡ (region_row burden tag t).span
@@ -191,7 +191,7 @@ region_read burden along tags busy es table tag known idle h =
 pub regions_keep : RegionsKeep
 regions_keep = regions_need_no_call
 
--- pieces that ran apart
+-- pieces that were executed separately
 row_further : (burden : Burden) (along there : Readings burden) (tag : Name) (busy : ℕ) (os : List Open) (es fs : List Event) (r s : Row)
     → CountsTag burden along tag busy os es r → CountsTag burden there tag 0 [] fs s → CountsTag burden along tag busy os (es ++ fs) (summed r s)
 row_further burden along there tag busy os es fs r s h g = record {
@@ -200,7 +200,7 @@ row_further burden along there tag busy os es fs r s h g = record {
   burdened_is = counts_further (burdened_span burden) along.burdened there.burdened (is_tag tag) busy os es fs (burdened_tally r) (burdened_tally s) h.burdened_is g.burdened_is;
 }
 
--- a row that is read alike counts the same run
+-- a row with equal readings represents the same run
 row_alike : (burden : Burden) (along : Readings burden) (tag : Name) (busy : ℕ) (os : List Open) (es : List Event) (r s : Row) → IsReadAs s r
     → CountsTag burden along tag busy os es r → CountsTag burden along tag busy os es s
 row_alike burden along tag busy os es r s a h = record {

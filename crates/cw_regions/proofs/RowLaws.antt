@@ -1,4 +1,4 @@
--- Rows by tag number: those of two pieces, joined.
+-- Rows by tag number, and the join of two pieces.
 use Rattle.std.proofs.Common.{◌≡◌, ℕ, ◌+◌, ◌<◌, ◌≤◌, ◌==◌, Bool, true, false, if◌then◌else◌, length, refl, sym, ap, subst, ◌∙◌, inl, inr, arith}
 use Rattle.std.proofs.lemmas.Bool.{cases_lt}
 use Rattle.std.proofs.lemmas.List.{get_or_past}
@@ -10,7 +10,7 @@ use Rattle.cw_regions.specs.declared.rows.Rows.{Rows}
 use Rattle.cw_regions.specs.declared.rows.Row.{Row}
 use Rattle.cw_regions.specs.RegionRows.{row_of, zero_row, summed, under, FitsRow, IsGiven, IsReadAs, AddsEach, JoinsRows}
 
--- the rows below a place have been added, and the others not yet
+-- the rows below a place were added, and the others not yet
 pub record Added (add : Row → Row → Row) (old shorter now : Rows) (place : ℕ) : Type 0 where
   pub as_long : length now.by_tag.items ≡ length old.by_tag.items
   pub below : (q : ℕ) → q < place → FitsRow (add (row_of old q) (row_of shorter q)) → row_of now q ≡ add (row_of old q) (row_of shorter q)
@@ -51,7 +51,7 @@ each_added add old shorter now place e h = record {
   beyond = λ q more. h.beyond q (omega arith);
 }
 
--- rows that are the same are read alike
+-- equal rows have equal readings
 read_same : (r s : Row) → r ≡ s → IsReadAs r s
 read_same r s e = record {
   work = ap (λ (x : Row). x.work) e;
@@ -64,7 +64,7 @@ read_same r s e = record {
       λ h. ap (λ (x : Row). x.at_burdened) e;
 }
 
--- a row of the piece alone
+-- a row that only the piece has
 read_alone : (ours piece row : Row) → ours ≡ zero_row → row ≡ piece → piece.active ≡ 0 → IsReadAs row (summed ours piece)
 read_alone ours piece row none e idle =
     let P : Row → Type 0 = λ x. IsReadAs row (summed x piece) in
@@ -83,7 +83,7 @@ summed_none r = let z = unless_nothing (r.active == 0) in let a : r.work + unles
     let b : r.span + unless_at (r.active == 0) 0 ≡ r.span = omega arith in let c : r.burdened + unless_at (r.active == 0) 0 ≡ r.burdened =
     omega arith in simp (a, b, c)
 
--- where ours are no fewer, and where they are fewer
+-- if we have at least the piece's number of rows, and if we have fewer
 pub joined_into_ours : (old piece new : Rows) → AddsEach summed old piece new → JoinsRows old piece new
 joined_into_ours old piece new a = λ q fits alike.
     elim (cases_lt q (length piece.by_tag.items)) [

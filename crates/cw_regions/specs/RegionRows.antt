@@ -1,14 +1,15 @@
--- What is counted of a region tag over a run so far.
+-- The measures of a region tag over a run so far.
 use Rattle.std.specs.Prelude.{◌≡◌, ℕ, ◌+◌, ◌-◌, ◌^◌, ◌<◌, ◌≤◌, ◌==◌, Bool, true, false, length, if◌then◌else◌}
 use Rattle.std.specs.Prelude.{slice_index_or}
 use Rattle.cw_regions.specs.declared.rows.Row.{Row}
 use Rattle.cw_regions.specs.declared.rows.Rows.{Rows}
 use Rattle.cw_measure.specs.Outermost.{unless_open, Tally}
 
+-- the row of a tag that is never executed
 abbrev pub zero_row : Row
 zero_row = record { work = 0; span = 0; burdened = 0; active = 0; at_work = 0; at_path = 0; at_burdened = 0 }
 
--- the row of a tag; zeros where there is none
+-- the row of a tag; zeros if there is none
 abbrev pub row_of : Rows → ℕ → Row
 row_of rows tag = slice_index_or rows.by_tag.items tag zero_row
 
@@ -35,10 +36,11 @@ entered_at false count span burdened r =
       at_burdened = r.at_burdened;
     }
 
+-- an execution begins; the first open one sets the start
 abbrev pub entered : (count span burdened : ℕ) → Row → Row
 entered count span burdened r = entered_at (r.active == 0) count span burdened r
 
--- it ends: the outermost one is summed
+-- an execution ends; only the outermost one is added to the sums
 abbrev pub left_at : (last : Bool) → (count span burdened : ℕ) → Row → Row
 left_at true count span burdened r =
     record {
@@ -61,16 +63,19 @@ left_at false count span burdened r =
       at_burdened = r.at_burdened;
     }
 
+-- an execution ends; the last open one is added to the sums
 abbrev pub left : (count span burdened : ℕ) → Row → Row
 left count span burdened r = left_at (r.active == 1) count span burdened r
 
--- the tallies of a row: the work, the span and the burdened span of its outermost executions
+-- the tally of the work in a row
 abbrev pub work_tally : Row → Tally
 work_tally r = record { sum = r.work; active = r.active; began = r.at_work }
 
+-- the tally of the span in a row
 abbrev pub span_tally : Row → Tally
 span_tally r = record { sum = r.span; active = r.active; began = r.at_path }
 
+-- the tally of the burdened span in a row
 abbrev pub burdened_tally : Row → Tally
 burdened_tally r = record { sum = r.burdened; active = r.active; began = r.at_burdened }
 
@@ -81,12 +86,12 @@ pub record FitsRow (r : Row) : Type 0 where
   pub burdened : r.burdened < 2 ^ 128
   pub active : r.active < 2 ^ 64
 
--- a row is this one, where its sums fit
+-- the row is `wanted`, if its sums fit
 abbrev pub IsWhereItFits : (wanted row : Row) → Type 0
 IsWhereItFits wanted row = FitsRow wanted → row ≡ wanted
 
--- a row, and that of a piece that ran apart and of which no execution is open: where some are open here, those of the
--- piece lie in them
+-- the sum of a row and the row of a piece that was executed separately and has no open execution; if executions are
+-- open around the piece, its executions are inside them
 abbrev pub summed : Row → Row → Row
 summed a b =
     record {
@@ -99,17 +104,17 @@ summed a b =
       at_burdened = a.at_burdened;
     }
 
--- the same, the piece's row first
+-- the sum of both rows, with the piece's row as first argument
 abbrev pub under : Row → Row → Row
 under piece ours = summed ours piece
 
--- each of the shorter rows is added so to the longer ones, and the further ones stay
+-- each of the shorter rows is added to the longer ones, and the further ones are unchanged
 pub record AddsEach (add : Row → Row → Row) (longer shorter new : Rows) : Type 0 where
   pub within : (q : ℕ) → q < length shorter.by_tag.items → FitsRow (add (row_of longer q) (row_of shorter q))
       → row_of new q ≡ add (row_of longer q) (row_of shorter q)
   pub beyond : (q : ℕ) → length shorter.by_tag.items ≤ q → row_of new q ≡ row_of longer q
 
--- a row is read as another: the same sums, as many open and, where one is open, begun at the same readings
+-- two rows have equal readings: the same sums, the same number of open executions and, if one is open, the same start
 pub record IsReadAs (row other : Row) : Type 0 where
   pub work : row.work ≡ other.work
   pub span : row.span ≡ other.span
@@ -119,29 +124,32 @@ pub record IsReadAs (row other : Row) : Type 0 where
   pub at_path : 0 < other.active → row.at_path ≡ other.at_path
   pub at_burdened : 0 < other.active → row.at_burdened ≡ other.at_burdened
 
--- each row whose sums fit is read as ours with the piece's sums, where no execution is open in the piece
+-- each row whose sums fit has the readings of our row with the piece's sums, if the piece has no open execution
 abbrev pub JoinsRows : Rows → (piece : Rows) → Rows → Type 0
 JoinsRows old piece new =
     (q : ℕ) → FitsRow (summed (row_of old q) (row_of piece q)) → (row_of piece q).active ≡ 0
     → IsReadAs (row_of new q) (summed (row_of old q) (row_of piece q))
 
--- the row of one tag becomes this, where its sums fit, and the rows of the others stay
+-- the row of one tag becomes this row, if its sums fit
 abbrev pub Becomes : (Row → Row) → Rows → Rows → (tag : ℕ) → Type 0
 Becomes f old new tag = FitsRow (f (row_of old tag)) → row_of new tag ≡ f (row_of old tag)
 
+-- the rows of other tags are unchanged
 abbrev pub OthersStay : Rows → Rows → (tag : ℕ) → Type 0
 OthersStay old new tag = (q : ℕ) → (tag == q) ≡ false → row_of new q ≡ row_of old q
 
--- an execution of a tag begins, and ends, at this work and on a path of this weight
+-- an execution of a tag begins, at this work and on a path of this weight
 abbrev pub TagBegins : Rows → Rows → (tag count span burdened : ℕ) → Type 0
 TagBegins old new tag count span burdened = Becomes (entered count span burdened) old new tag
 
+-- an execution of a tag ends, at this work and on a path of this weight
 abbrev pub TagEnds : Rows → Rows → (tag count span burdened : ℕ) → Type 0
 TagEnds old new tag count span burdened = Becomes (left count span burdened) old new tag
 
+-- the row of one tag is set, and the rows of other tags are unchanged
 abbrev pub IsGiven : Rows → Rows → (tag : ℕ) → Row → Type 0
 IsGiven old new tag row = (q : ℕ) → row_of new q ≡ (if tag == q then row else row_of old q)
 
--- each tag has the row that it had
+-- the row of each tag is unchanged
 abbrev pub SayTheSame : Rows → Rows → Type 0
 SayTheSame old new = (q : ℕ) → row_of new q ≡ row_of old q

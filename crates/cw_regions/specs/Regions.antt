@@ -1,4 +1,4 @@
--- What a region table tells of a run so far.
+-- A region table, and the run so far that it represents.
 use Rattle.std.specs.Prelude.{◌≡◌, ℕ, ◌<◌, ◌^◌, true, false, List, [], ◌∷◌, ◌++◌, Option, Some, None}
 use Rattle.cw_model.specs.declared.burden.Burden.{Burden}
 use Rattle.cw_model.specs.Syntax.{Name}
@@ -14,20 +14,20 @@ use Rattle.cw_regions.specs.declared.table.RegionRow as declared
 use Rattle.cw_regions.specs.declared.table.RegionTable.{RegionTable}
 use Rattle.cw_regions.specs.RegionRows.{row_of, work_tally, span_tally, burdened_tally}
 
--- how the weight of the path that runs is read, in instructions and with burdens
+-- readings of the weight of the current path, in instructions and with burdens
 pub record Readings (burden : Burden) : Type 0 where
   pub path : Reading
   pub burdened : Reading
   pub path_is : Meters span path
   pub burdened_is : Meters (burdened_span burden) burdened
 
--- the tags of a source by number, of which no two are the same
+-- the tags of a source by number, all distinct
 pub record Tags : Type 0 where
   pub count : ℕ
   pub name : ℕ → Name
   pub differ : (j k : ℕ) → j < count → k < count → same_name (name j) (name k) ≡ true → j ≡ k
 
--- a row counts the executions of a tag over a run so far
+-- a row represents the executions of a tag over a run so far
 pub record CountsTag (burden : Burden) (along : Readings burden) (tag : Name) (busy : ℕ) (os : List Open)
     (es : List Event)
     (r : Row) : Type 0 where
@@ -35,7 +35,7 @@ pub record CountsTag (burden : Burden) (along : Readings burden) (tag : Name) (b
   pub span_is : Counts span along.path (is_tag tag) busy os es (span_tally r)
   pub burdened_is : Counts (burdened_span burden) along.burdened (is_tag tag) busy os es (burdened_tally r)
 
--- a table tells, for each tag, of a run so far; so many executions of each were open round it
+-- a table represents a run so far, for each tag; `busy` is the number of its executions that were open around the run
 abbrev pub TellsRegions : (burden : Burden) → Readings burden → Tags → (busy : ℕ → ℕ) → List Open → List Event
     → RegionTable
     → Type 0
@@ -52,11 +52,12 @@ pub record SmallRegions (burden : Burden) (tags : Tags) (busy : ℕ → ℕ) (os
 abbrev pub executed : Tags → (tag : ℕ) → List Event → List Open → List Open
 executed tags tag es os = in_series (Some (Execution (tags.name tag))) es os
 
+-- the table of a run at its start
 abbrev pub StartsRegions : RegionTable → Type 0
 StartsRegions table =
     (burden : Burden) (along : Readings burden) (tags : Tags) → TellsRegions burden along tags (λ k. 0) [] [] table
 
--- what each call on a table does: it told of a run, and tells of what the run has come to
+-- begins an execution of a tag: a table that represents a run represents the run with the execution
 abbrev pub BeginsRegion : RegionTable → RegionTable → (tag count path heavy : ℕ) → Type 0
 BeginsRegion old new tag count path heavy =
     (burden : Burden) (along : Readings burden) (tags : Tags) (busy : ℕ → ℕ) (os : List Open) (es : List Event)
@@ -65,6 +66,7 @@ BeginsRegion old new tag count path heavy =
     → SmallRegions burden tags busy (executed tags tag es os) [] → TellsRegions burden along tags busy os es old
     → TellsRegions burden along tags busy (executed tags tag es os) [] new
 
+-- ends an execution of a tag whose block has joined
 abbrev pub EndsRegion : RegionTable → RegionTable → (tag count path heavy : ℕ) → Type 0
 EndsRegion old new tag count path heavy =
     (burden : Burden) (along : Readings burden) (tags : Tags) (busy : ℕ → ℕ) (os : List Open) (before es : List Event)
@@ -76,26 +78,26 @@ EndsRegion old new tag count path heavy =
     → TellsRegions burden along tags busy os
     (closed (record { spawned = false; mark = Some (Execution (tags.name tag)); outer = before }) es) new
 
--- a row is the row of a tag in a tree
+-- the row equals the row of a tag in a tree
 pub record IsRow (row : declared.RegionRow) (of : model.RegionRow) : Type 0 where
   pub work : row.work ≡ of.work
   pub span : row.span ≡ of.span
   pub burdened : row.burdened ≡ of.burdened
 
--- a row that is read once no part is open
+-- the row of a tag, if no part is open
 abbrev pub ReadsRegion : RegionTable → (tag : ℕ) → declared.RegionRow → Type 0
 ReadsRegion table tag row =
     (burden : Burden) (along : Readings burden) (tags : Tags) (busy : ℕ → ℕ) (es : List Event) → tag < tags.count
     → busy tag ≡ 0
     → TellsRegions burden along tags busy [] es table → IsRow row (region_row burden (tags.name tag) (tree_of es))
 
--- a part that is no execution of a tag: a call, a scope, a cut, a loop's turn or half
+-- a part that is not an execution of a tag: a call, a scope, a cut, an iteration or the half of a loop
 abbrev pub IsNoExecution : Option Mark → Type 0
 IsNoExecution None = Unit {0}
 IsNoExecution (Some (Invocation site)) = Unit {0}
 IsNoExecution (Some (Execution tag)) = ⊥
 
--- what goes on, joins, begins and ends without a call of the table
+-- instructions, joins, and the start and end of these parts need no call of the table
 pub record RegionsNeedNoCall (burden : Burden) (along : Readings burden) (tags : Tags) (busy : ℕ → ℕ) (os : List Open)
     (table : RegionTable) : Type 0 where
   pub work : (es : List Event) (k : ℕ) → TellsRegions burden along tags busy os es table
@@ -107,17 +109,17 @@ pub record RegionsNeedNoCall (burden : Burden) (along : Readings burden) (tags :
   pub ends : (o : Open) (es : List Event) → IsNoExecution o.mark → TellsRegions burden along tags busy (o ∷ os) es table
       → TellsRegions burden along tags busy os (closed o es) table
 
--- and so for every table
+-- this holds for every table
 abbrev pub RegionsKeep : Type 0
 RegionsKeep =
     (burden : Burden) (along : Readings burden) (tags : Tags) (busy : ℕ → ℕ) (os : List Open) (table : RegionTable)
     → RegionsNeedNoCall burden along tags busy os table
 
--- nothing is open round a piece, as far as it is told
+-- a piece knows no open executions around it
 abbrev pub nothing_open : ℕ → ℕ
 nothing_open tag = 0
 
--- a piece that ran apart inside of the open parts is joined on, as further events of the block that runs
+-- appends a piece that was executed separately inside the open parts, as further events of the current block
 abbrev pub JoinsRegions : RegionTable → (right : RegionTable) → RegionTable → Type 0
 JoinsRegions old right new =
     (burden : Burden) (along there : Readings burden) (tags : Tags) (busy : ℕ → ℕ) (os : List Open) (es fs : List Event)

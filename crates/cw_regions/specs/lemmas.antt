@@ -1,2 +1,2 @@
--- Lemmas that proofs of the crates above cite, with what they stand on.
+-- Lemmas for the proofs of the crates above, with the lemmas that they use.
 pub mod Regions

@@ -1,4 +1,4 @@
-//! What is counted of each region tag, kept by the tag's number, in the order of the source.
+//! The measures of each region tag, by the tag's number in source order.
 
 ghost use Rattle.std.specs.Prelude.{◌≡◌, ℕ, ◌==◌, ◌<◌, ◌≤◌, false, length, OnOk, if◌then◌else◌};
 ghost use Rattle.cw_regions.specs.RegionRows as rows;
@@ -7,26 +7,26 @@ ghost use Rattle.cw_regions.specs.RegionRows.{row_of, zero_row, AddsEach, IsWher
 use std::alloc::{AllocError, Global};
 use std::mem;
 
-/// What is counted of a tag so far.
+/// The measures of a tag so far.
 #[derive(Clone, Copy, Debug)]
 pub struct Row {
-    /// The work of its executions that ended and lie in no other execution of the tag.
+    /// The work of its ended executions that are inside no other execution of the tag.
     pub work: u64,
-    /// Their span.
+    /// The span of these executions.
     pub span: u64,
-    /// Their burdened span.
+    /// The burdened span of these executions.
     pub burdened: u128,
-    /// How many of its executions are open.
+    /// The number of its open executions.
     pub active: u64,
-    /// The work so far as the outermost open one began.
+    /// The work so far at the start of the outermost open execution.
     pub at_work: u64,
-    /// The weight of the strand's path as it began.
+    /// The weight of the strand's path at that start.
     pub at_path: u64,
-    /// The same with burdens.
+    /// The burdened weight of the strand's path at that start.
     pub at_burdened: u128,
 }
 
-/// The rows by the tag's number. A tag past the end has a row of zeros.
+/// The rows by tag number. A tag after the end has a row of zeros.
 #[derive(Debug, Drop)]
 pub struct Rows {
     pub by_tag: Vec<Row>,
@@ -43,7 +43,7 @@ const ZERO: Row = Row {
 };
 
 impl Rows {
-    /// No rows. Takes no memory.
+    /// Returns no rows. Allocates no memory.
     pub fn new(alloc: Global) -> Rows
         ensures { (q : ℕ) → row_of result q ≡ zero_row }
     {
@@ -52,7 +52,7 @@ impl Rows {
         }
     }
 
-    /// The row of a tag.
+    /// Returns the row of a tag.
     #[inline(always)]
     pub fn row(&self, tag: u32) -> Row
         ensures { result ≡ row_of self.now tag }
@@ -71,14 +71,14 @@ impl Rows {
         }
     }
 
-    // Room for the row of this tag: rows that were missing are zeros.
+    // Extends the rows to this tag; missing rows are zeros.
     #[cold]
     #[inline(never)]
     fn reach(&mut self, place: usize) -> Result<(), AllocError>
         ensures same { OnOk result (SayTheSame self.old self.new) }
         ensures within { OnOk result (place < length self.new.by_tag.items) }
     {
-        // So many rows as no number can count are more than memory holds.
+        // Memory cannot hold more rows than a number can count.
         let Some(needed) = place.checked_add(1) else {
             return Err(AllocError);
         };
@@ -88,7 +88,11 @@ impl Rows {
         Ok(())
     }
 
-    /// An execution of a tag begins, at this work and on a path of this weight, without burdens and with them.
+    /// Begins an execution of a tag, at this work and on a path of this weight, without and with burdens.
+    ///
+    /// # Errors
+    ///
+    /// Returns an `AllocError` if memory runs out.
     #[inline(always)]
     pub fn begin(
         &mut self,
@@ -108,7 +112,11 @@ impl Rows {
         Ok(())
     }
 
-    /// An execution of a tag ends, its body's block joined.
+    /// Ends an execution of a tag, whose block has joined.
+    ///
+    /// # Errors
+    ///
+    /// Returns an `AllocError` if memory runs out.
     #[inline(always)]
     pub fn end(&mut self, tag: u32, count: u64, span: u64, burdened: u128) -> Result<(), AllocError>
         ensures own { OnOk result (TagEnds self.old self.new tag count span burdened) }
@@ -122,9 +130,10 @@ impl Rows {
         Ok(())
     }
 
-    /// Adds the sums of a piece that ran apart, of which no execution is open. Where executions of a tag are open here,
-    /// those of the piece lie in them, and are left out.
-    /// Takes one step for each row of the shorter of the two, which are added to those of the longer one, and no memory.
+    /// Adds the sums of a piece that was executed separately and has no open execution. If executions of a tag are
+    /// open here, those of the piece are inside them, and are left out.
+    ///
+    /// Takes one step for each row of the shorter of the two lists, and no memory.
     pub fn join(&mut self, piece: Rows)
         ensures { JoinsRows self.old piece self.new }
     {
@@ -136,7 +145,7 @@ impl Rows {
         }
     }
 
-    // Adds the sums of a piece whose rows are no more than ours.
+    // Adds the sums of a piece whose number of rows is at most ours.
     fn add(&mut self, piece: &Rows)
         requires { length piece.now.by_tag.items ≤ length self.old.by_tag.items }
         ensures { AddsEach rows.summed self.old piece.now self.new }
@@ -147,7 +156,7 @@ impl Rows {
         }
     }
 
-    // These are a piece's rows, and ours are no more: adds ours to them, of which what is open stays open.
+    // Adds our rows to these rows of a piece, of which there are at least as many; open executions stay open.
     fn add_under(&mut self, ours: &Rows)
         requires { length ours.now.by_tag.items ≤ length self.old.by_tag.items }
         ensures { AddsEach rows.under self.old ours.now self.new }
@@ -158,7 +167,7 @@ impl Rows {
         }
     }
 
-    // Gives a tag within the rows its row.
+    // Sets the row of a tag that has one.
     #[inline(always)]
     fn put(&mut self, place: usize, row: Row)
         requires { place < length self.old.by_tag.items }
@@ -169,7 +178,7 @@ impl Rows {
     }
 }
 
-/// The row after an execution of its tag began, at this work and on a path of this weight.
+/// Returns the row after an execution of its tag began, at this work and on a path of this weight.
 #[inline(always)]
 pub fn entered(row: Row, count: u64, span: u64, burdened: u128) -> Row
     ensures { IsWhereItFits (rows.entered count span burdened row) result }
@@ -184,7 +193,7 @@ pub fn entered(row: Row, count: u64, span: u64, burdened: u128) -> Row
     row
 }
 
-/// The row after an execution of its tag ended: the outermost one is summed.
+/// Returns the row after an execution of its tag ended; only the outermost one is added to the sums.
 #[inline(always)]
 pub fn left(row: Row, count: u64, span: u64, burdened: u128) -> Row
     ensures { IsWhereItFits (rows.left count span burdened row) result }
@@ -201,12 +210,12 @@ pub fn left(row: Row, count: u64, span: u64, burdened: u128) -> Row
     row
 }
 
-/// The row with the sums of a piece's row, where no execution is open.
+/// Returns the row with the sums of a piece's row, which are added only if no execution is open.
 pub fn summed(row: Row, piece: Row) -> Row
     ensures { IsWhereItFits (rows.summed row piece) result }
 {
     let mut row = row;
-    // Inside of an open execution nothing is an outermost one.
+    // Inside an open execution there is no outermost execution.
     if row.active > 0 {
         return row;
     }

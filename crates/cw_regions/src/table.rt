@@ -1,4 +1,4 @@
-//! The table of region tags: what is summed over the executions of each tag that lie in no other one of it.
+//! The table of region tags: sums over the outermost executions of each tag.
 
 ghost use Rattle.std.specs.Prelude.{ℕ, OnOk};
 ghost use Rattle.cw_regions.specs.Regions.{BeginsRegion, EndsRegion, JoinsRegions, ReadsRegion, StartsRegions};
@@ -6,9 +6,9 @@ ghost use Rattle.cw_regions.specs.Regions.{BeginsRegion, EndsRegion, JoinsRegion
 use crate::rows::Rows;
 use std::alloc::{AllocError, Global};
 
-/// What is counted of each tag over a run so far, by the tag's number in the order of the source.
+/// The measures of each tag over a run so far, by the tag's number in source order.
 ///
-/// The instructions that begin and end a region lie outside of it: the calls stand after the first and before the
+/// The instructions that begin and end a region are outside of it: call `begin` after the first and `end` before the
 /// second.
 #[derive(Debug, Drop)]
 pub struct RegionTable {
@@ -16,7 +16,7 @@ pub struct RegionTable {
 }
 
 impl RegionTable {
-    /// The table of a run that begins. Takes no memory.
+    /// Returns the table of a run at its start. Allocates no memory.
     pub fn new(alloc: Global) -> RegionTable
         ensures { StartsRegions result }
     {
@@ -25,8 +25,12 @@ impl RegionTable {
         }
     }
 
-    /// An execution of a tag begins, at this work in instructions, and on a path of this weight, in instructions and
+    /// Begins an execution of a tag, at this work in instructions and on a path of this weight, in instructions and
     /// with burdens.
+    ///
+    /// # Errors
+    ///
+    /// Returns an `AllocError` if memory runs out.
     #[inline(never)]
     pub fn begin(
         &mut self,
@@ -41,8 +45,12 @@ impl RegionTable {
         Ok(())
     }
 
-    /// The innermost open execution, one of this tag whose block has joined, ends at this work and on a path of this
-    /// weight.
+    /// Ends the innermost open execution, which is of this tag and whose block has joined, at this work and on a path
+    /// of this weight.
+    ///
+    /// # Errors
+    ///
+    /// Returns an `AllocError` if memory runs out.
     #[inline(never)]
     pub fn end(&mut self, tag: u32, work: u64, path: u64, burdened: u128) -> Result<(), AllocError>
         ensures { OnOk result (EndsRegion self.old self.new tag work path burdened) }
@@ -51,15 +59,16 @@ impl RegionTable {
         Ok(())
     }
 
-    /// Joins the table of a piece that ran apart inside of what is open, and of which nothing is open itself: the next
-    /// piece of the block that runs. Its table is one that began by `new`, and knows of nothing that is open round it.
+    /// Appends the table of a piece that was executed separately inside the open parts and has no open part itself,
+    /// as the next piece of the current block. That table began with `new`, and does not know the open parts around
+    /// it.
     pub fn join(&mut self, right: RegionTable)
         ensures { JoinsRegions self.old right self.new }
     {
         self.rows.join(right.rows);
     }
 
-    /// What is counted of a tag, once no part is open.
+    /// Returns the row of a tag, if no part is open.
     pub fn region(&self, tag: u32) -> RegionRow
         ensures { ReadsRegion self.now tag result }
     {
@@ -72,13 +81,13 @@ impl RegionTable {
     }
 }
 
-/// What is counted of a tag, over its executions that lie in no other one of it.
+/// The measures of a tag, over its executions that are inside no other execution of the tag.
 #[derive(Clone, Copy, Debug, PartialEq, Eq)]
 pub struct RegionRow {
-    /// Their work, in instructions.
+    /// The work of these executions, in instructions.
     pub work: u64,
-    /// Their span.
+    /// The span of these executions, in instructions.
     pub span: u64,
-    /// Their span with what their paths are charged at each fork.
+    /// The span of these executions, with the charges of their paths at each fork.
     pub burdened: u128,
 }

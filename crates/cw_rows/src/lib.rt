@@ -1,16 +1,17 @@
-//! Files of rows: texts that are asked of a program that reads them, each with the answer that is expected. The tables of tests
-//! stand in such files, so that a row costs nothing to prove.
+//! Files of test cases ("rows"): texts that are given to a program, each with the expected answer. Tests are tables
+//! in such files because a row costs nothing to prove.
 //!
-//! A file is read line by line. A line of it is one of these:
+//! A file is read line by line. A line is one of these:
 //!
-//! - nothing, or `#` and a remark;
-//! - `text NAME: TEXT`, a text that later ones name; lines `| LINE` behind it add a line each;
+//! - an empty line, or `#` and a remark;
+//! - `text NAME: TEXT`, which defines a text that later texts can refer to; each line `| LINE` after it adds a line
+//!   to the text;
 //! - `table NAME`, which begins a table;
-//! - `ask QUESTION: BEFORE\@BEHIND`, what is asked of each text of the table, between these two; with `QUESTION, ANSWER:` every
-//!   text has this answer, whatever its row says;
+//! - `ask QUESTION: BEFORE\@AFTER`, a question about each text of the table, placed between `BEFORE` and `AFTER`;
+//!   `ask QUESTION, ANSWER: ..` expects this answer for every text of the table, instead of the answer of its row;
 //! - `ANSWER <- TEXT`, a row.
 //!
-//! In all of these texts a backslash and what stands behind it are read as `written::read` says.
+//! In all texts of these lines, `written::read` defines the meaning of a backslash.
 #![tactic(auto)]
 
 mod rows;

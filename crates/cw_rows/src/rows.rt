@@ -1,40 +1,40 @@
-//! A file of rows, as far as it is read.
+//! Reads a file of rows and compares its answers.
 
 use crate::written::{Texts, Unread, read};
 use std::alloc::{AllocError, Global};
 use std::collections::BTreeMap;
 
-/// What is asked of each text of a table.
+/// Represents a question about each text of a table.
 #[derive(Drop)]
 struct Ask {
     question: String,
-    // the answer of every text, if one is named
+    // the answer for every text, if the question gives one
     answer: Option<Vec<u8>>,
     before: Vec<u8>,
     behind: Vec<u8>,
 }
 
-/// A question that a row asks.
+/// Represents a question about a row.
 #[derive(Drop)]
 pub struct Asked {
-    /// What is asked.
+    /// The name of the question.
     pub question: String,
-    /// What stands before the text of the row.
+    /// The text before the text of the row.
     pub before: Vec<u8>,
     /// The text of the row.
     pub text: Vec<u8>,
-    /// What stands behind it.
+    /// The text after the text of the row.
     pub behind: Vec<u8>,
-    /// The answer that is expected.
+    /// The expected answer.
     pub answer: Vec<u8>,
 }
 
 impl Asked {
-    /// The text of the row between the two others.
+    /// Returns the text of the row between the two others.
     ///
     /// # Errors
     ///
-    /// An `AllocError` where there is no memory for it.
+    /// Returns an `AllocError` if there is no memory for the text.
     pub fn whole(&self, alloc: Global) -> Result<Vec<u8>, AllocError> {
         let mut whole = Vec::new(alloc);
         whole.extend_from_slice(self.before.as_slice())?;
@@ -44,7 +44,7 @@ impl Asked {
     }
 }
 
-/// A file of rows, as far as it is read.
+/// Holds the state of reading a file of rows, with the results so far.
 #[derive(Drop)]
 pub struct Rows {
     alloc: Global,
@@ -62,7 +62,7 @@ pub struct Rows {
 }
 
 impl Rows {
-    /// No line of this file is read.
+    /// Returns the state before the first line of this file.
     pub fn new(alloc: Global, file: &'static str) -> Rows {
         Rows {
             alloc,
@@ -79,12 +79,12 @@ impl Rows {
         }
     }
 
-    /// Reads the next line, and gives what it asks: nothing, unless it is a row. A line that is not written as the lines of such
-    /// files are, and a row of which nothing is asked, count as an answer that differs.
+    /// Reads the next line, and returns its questions: none, unless the line is a row. A line of no valid form, and a
+    /// row without a question, count as an answer that differs.
     ///
     /// # Errors
     ///
-    /// An `AllocError` where there is no memory; a part of the line may be read then.
+    /// Returns an `AllocError` if memory runs out; a part of the line may have been read then.
     pub fn read(&mut self, line: &str) -> Result<Vec<Asked>, AllocError> {
         self.line = self.line.saturating_add(1);
         match self.take(line) {
@@ -97,11 +97,11 @@ impl Rows {
         }
     }
 
-    /// Compares what was answered with what the row expects, and keeps a line for it where they differ.
+    /// Compares an answer with the expected answer of the row, and records a line if they differ.
     ///
     /// # Errors
     ///
-    /// An `AllocError` where there is no memory for the line; the answer is counted.
+    /// Returns an `AllocError` if there is no memory for the line; the answer is counted.
     pub fn compare(&mut self, asked: &Asked, found: &str) -> Result<(), AllocError> {
         self.answers = self.answers.saturating_add(1);
         if asked.answer.as_slice() == found.as_bytes() {
@@ -111,11 +111,11 @@ impl Rows {
         }
     }
 
-    /// A line for each answer that differs, and one with the counts.
+    /// Returns a line for each answer that differs, and a line with the counts.
     ///
     /// # Errors
     ///
-    /// An `AllocError` where there is no memory for them.
+    /// Returns an `AllocError` if there is no memory for the lines.
     pub fn told(&self) -> Result<String, AllocError> {
         format!(in self.alloc;
             "{}{}: {} rows, {} answers, {} differ\n",
@@ -125,7 +125,7 @@ impl Rows {
 }
 
 impl Rows {
-    // A line of what is told at the end.
+    // Adds a line to the report.
     fn tell(&mut self, what: &str, why: &str) -> Result<(), AllocError> {
         self.differing = self.differing.saturating_add(1);
         let (file, line, table) = (self.file, self.line, self.table.as_str());
@@ -162,7 +162,7 @@ impl Rows {
         Ok(Vec::new(self.alloc))
     }
 
-    // `NAME: TEXT`.
+    // Reads `NAME: TEXT`.
     fn name(&mut self, rest: &str) -> Result<(), Unread> {
         let (name, written) = rest.split_once(": ").ok_or(Unread::Form)?;
         let text = read(self.alloc, &self.texts, written)?;
@@ -171,7 +171,7 @@ impl Rows {
         Ok(())
     }
 
-    // One more line of the last text.
+    // Appends a line to the last text.
     fn lengthen(&mut self, line: &str) -> Result<(), Unread> {
         let text = self.texts.get_mut(self.text.as_str()).ok_or(Unread::Form)?;
         text.extend_from_slice(line.as_bytes())?;
@@ -179,7 +179,7 @@ impl Rows {
         Ok(())
     }
 
-    // `QUESTION: BEFORE\@BEHIND`, or `QUESTION, ANSWER: BEFORE\@BEHIND`.
+    // Reads `QUESTION: BEFORE\@AFTER` or `QUESTION, ANSWER: BEFORE\@AFTER`.
     fn ask(&mut self, rest: &str) -> Result<(), Unread> {
         let (words, around) = rest.split_once(": ").ok_or(Unread::Form)?;
         let (before, behind) = around.split_once("\\@").ok_or(Unread::Form)?;
@@ -197,7 +197,7 @@ impl Rows {
         Ok(())
     }
 
-    // What a row asks.
+    // Returns the questions of a row.
     fn row(&mut self, answer: &str, text: &str) -> Result<Vec<Asked>, Unread> {
         let answer = read(self.alloc, &self.texts, answer)?;
         let text = read(self.alloc, &self.texts, text)?;
@@ -214,7 +214,7 @@ impl Rows {
 }
 
 impl Ask {
-    // The question of a row with this text and this answer.
+    // Returns the question about a row with this text and this answer.
     fn of(&self, alloc: Global, text: &[u8], answer: &[u8]) -> Result<Asked, AllocError> {
         let answer = match &self.answer {
             Some(answer) => answer.clone()?,

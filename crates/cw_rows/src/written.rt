@@ -1,14 +1,14 @@
-//! Texts as rows write them: what a backslash and the sign behind it stand for.
+//! Texts as rows write them: the escapes that begin with a backslash.
 
 use std::alloc::{AllocError, AllocFailed, Global};
 use std::collections::BTreeMap;
 
-/// Why a text stands for nothing.
+/// Represents the reason why a text cannot be read.
 #[derive(Debug, Drop)]
 pub enum Unread {
-    /// No memory was left.
+    /// Out of memory.
     Memory(AllocError),
-    /// It is not written as texts are.
+    /// The text has no valid form.
     Form,
 }
 
@@ -24,17 +24,19 @@ impl<T: Drop> From<AllocFailed<T>> for Unread {
     }
 }
 
-/// Texts by their names.
+/// Maps names to texts.
 pub type Texts = BTreeMap<String, Vec<u8>>;
 
-/// What a written text stands for, with these named texts.
+/// Returns the bytes that a written text represents; `texts` holds the named texts.
 ///
-/// `\n`, `\r` and `\t` are the bytes that they are in Rust, `\xNN` is the byte of two digits to the base 16, `\b` is a backslash,
-/// `\{NAME}` a named text. `\<COUNT TEXT\>` is a text so many times, in which `\#` is how many stand before it, and `\+` one more.
+/// `\n`, `\r` and `\t` are the same bytes as in Rust, `\xNN` is the byte with these two hexadecimal digits, `\b` is a
+/// backslash, and `\{NAME}` is a named text. `\<COUNT TEXT\>` repeats a text; in the repeated text `\#` is the number
+/// of the repetition counted from 0, and `\+` is that number counted from 1.
 ///
 /// # Errors
 ///
-/// `Form` where a backslash has something else behind it, no text of the name stands before, or a count is above 4,294,967,295.
+/// Returns `Form` if another character follows a backslash, if no text with the name was defined before, or if a
+/// count exceeds 4,294,967,295, and `Memory` if memory runs out.
 pub fn read(alloc: Global, texts: &Texts, written: &str) -> Result<Vec<u8>, Unread> {
     let mut out = Vec::new(alloc);
     for (place, part) in written.split("\\<").enumerate() {
@@ -47,7 +49,7 @@ pub fn read(alloc: Global, texts: &Texts, written: &str) -> Result<Vec<u8>, Unre
     Ok(out)
 }
 
-// `COUNT TEXT\>REST`.
+// Reads `COUNT TEXT\>REST`.
 fn repeat(out: &mut Vec<u8>, alloc: Global, texts: &Texts, part: &str) -> Result<(), Unread> {
     let (repeated, rest) = part.split_once("\\>").ok_or(Unread::Form)?;
     let (count, text) = repeated.split_once(' ').ok_or(Unread::Form)?;
@@ -58,7 +60,7 @@ fn repeat(out: &mut Vec<u8>, alloc: Global, texts: &Texts, part: &str) -> Result
     append(out, alloc, texts, 0, rest)
 }
 
-// A text without repetitions, behind so many of its kind.
+// Appends a text without repetitions; `number` is the number of the repetition.
 fn append(
     out: &mut Vec<u8>,
     alloc: Global,
@@ -76,7 +78,7 @@ fn append(
     Ok(())
 }
 
-// What stands behind a backslash, up to the next one.
+// Appends the text that begins with an escape, up to the next backslash.
 fn escape(
     out: &mut Vec<u8>,
     alloc: Global,
@@ -112,7 +114,7 @@ fn both(out: &mut Vec<u8>, first: &[u8], rest: &[u8]) -> Result<(), Unread> {
     Ok(())
 }
 
-// The byte of two digits to the base 16.
+// Returns the byte with these two hexadecimal digits.
 fn byte(high: u8, low: u8) -> Result<u8, Unread> {
     match (digit(high), digit(low)) {
         (Some(high), Some(low)) => Ok(high.saturating_mul(16).saturating_add(low)),

@@ -1,4 +1,5 @@
-//! Tables of tests of what runs: what small codes give, and the texts of reports, over public calls alone.
+//! Tables of test cases for runs: the results of small codes, and the texts of reports, through public functions
+//! only.
 #![tactic(auto)]
 
 #[cfg(test)]

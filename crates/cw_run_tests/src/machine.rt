@@ -1,4 +1,4 @@
-//! What small codes give, by hand: each at its cost, and over its limit at one less.
+//! The results of small codes, worked out by hand: each run is at its exact cost, and over the limit with one less.
 
 mod arrays;
 mod calls;
@@ -28,10 +28,10 @@ use cw_text::Fault;
 use std::alloc::{AllocError, Global};
 use std::sync::Arc;
 
-/// The greatest limit.
+/// The maximum limit.
 pub(crate) const MOST: u64 = 4_611_686_018_427_387_904;
 
-// A function that gives its first parameter less its second.
+// A function that returns its first parameter minus its second.
 const MINUS: Part = Part {
     gives_int: true,
     params: 2,
@@ -46,7 +46,7 @@ const MINUS: Part = Part {
     ],
 };
 
-// A function that prints its parameter and gives nothing.
+// A function that prints its parameter and returns nothing.
 const SHOW: Part = Part {
     gives_int: false,
     params: 1,
@@ -56,8 +56,8 @@ const SHOW: Part = Part {
     body: &[Instr::Load(0), Instr::Print, Instr::Return],
 };
 
-/// A main with one parameter and three names, and two functions: one gives its first parameter less its second, and one
-/// prints its parameter and gives nothing.
+/// A `main` with one parameter and three slots, and two functions: one returns its first parameter minus its second,
+/// and one prints its parameter and returns nothing.
 pub(crate) static SMALL: Around = Around {
     main: Part {
         gives_int: true,
@@ -73,27 +73,27 @@ pub(crate) static SMALL: Around = Around {
     tags: &[""],
 };
 
-/// What the reducer of a small program comes to where it is told nothing.
+/// The total of the reducer of a small program without updates.
 pub(crate) const UNTOLD: &[Total] = &[Total::Sum(0)];
 
-/// Nothing is charged for an edge.
+/// No charge for any edge.
 const FREE: Burden = Burden {
     charge: 0,
     edges: Edges::Spawn,
 };
 
-/// What a run comes to.
+/// The expected outcome of a run.
 #[derive(Clone, Copy)]
 pub(crate) enum Wanted {
-    /// It ends with this value, these lines and these totals.
+    /// It finishes with this value, these lines and these totals.
     Ends(i64, &'static [i64], &'static [Total]),
-    /// It traps, by the trap of this number and in this line, with these lines before.
+    /// It traps with the trap of this number in this line, after these lines.
     Traps(u8, u32, &'static [i64]),
-    /// It is over its limit.
+    /// It exceeds its limit.
     IsOver,
 }
 
-/// What stands around a main.
+/// The code around a `main`.
 #[derive(Clone, Copy)]
 pub(crate) enum Setting {
     Small,
@@ -125,7 +125,7 @@ impl Setting {
     }
 }
 
-/// The verified code of a main in a setting.
+/// Returns the verified code of a `main` in a setting.
 pub(crate) fn code_in(
     alloc: Global,
     setting: Setting,
@@ -134,7 +134,7 @@ pub(crate) fn code_in(
     verified_of(alloc, setting.around(), body)
 }
 
-/// A main and what stands around it, and what it comes to on each of these lists of arguments at this cost.
+/// A `main` and the code around it, and its outcome for each of these lists of arguments at this cost.
 #[derive(Clone, Copy)]
 pub(crate) struct Row {
     pub(crate) name: &'static str,
@@ -145,7 +145,7 @@ pub(crate) struct Row {
     pub(crate) wanted: Wanted,
 }
 
-// Whether a run that ended so is the wanted one.
+// Returns whether a finished run has the expected outcome.
 fn is_end(value: i64, lines: &[i64], totals: &[Total], wanted: &Wanted) -> bool {
     match wanted {
         Wanted::Ends(told, printed, sums) => {
@@ -155,7 +155,7 @@ fn is_end(value: i64, lines: &[i64], totals: &[Total], wanted: &Wanted) -> bool 
     }
 }
 
-// Whether a fault is this trap, with these lines before.
+// Returns whether a fault is this trap, after these lines.
 fn is_trap(fault: &Fault, number: u8, at: u32, lines: &[i64]) -> bool {
     match fault {
         Fault::Trap { code, line, output } => {
@@ -165,7 +165,7 @@ fn is_trap(fault: &Fault, number: u8, at: u32, lines: &[i64]) -> bool {
     }
 }
 
-// Whether a fault is the wanted one.
+// Returns whether a fault is the expected outcome.
 fn is_fault(fault: &Fault, wanted: &Wanted) -> bool {
     match wanted {
         Wanted::Ends(..) => false,
@@ -174,7 +174,7 @@ fn is_fault(fault: &Fault, wanted: &Wanted) -> bool {
     }
 }
 
-// Whether a run within a limit comes to this.
+// Returns whether a run within a limit has this outcome.
 fn comes_to(alloc: Global, code: Arc<Verified>, args: &[i64], limit: u64, wanted: &Wanted) -> bool {
     match run_alone(alloc, code, args, limit, FREE) {
         Ok(ended) => is_end(
@@ -187,7 +187,7 @@ fn comes_to(alloc: Global, code: Arc<Verified>, args: &[i64], limit: u64, wanted
     }
 }
 
-// The same with nothing counted.
+// Returns whether a run of values only, within a limit, has this outcome.
 fn plainly_comes_to(
     alloc: Global,
     code: Arc<Verified>,
@@ -206,7 +206,7 @@ fn plainly_comes_to(
     }
 }
 
-// Whether both runs within a limit come to this. The error is want of memory.
+// Returns whether both runs within a limit have this outcome. Returns an `AllocError` if memory runs out.
 fn both_come_to(
     alloc: Global,
     code: &Arc<Verified>,
@@ -219,8 +219,8 @@ fn both_come_to(
     Ok(counted && plain)
 }
 
-// Whether a row holds on these arguments at its cost, and is over its limit at one less, if it is not at its cost. The
-// error is want of memory.
+// Returns whether a test case holds for these arguments at its cost, and exceeds the limit with one less if it does
+// not exceed it at its cost. Returns an `AllocError` if memory runs out.
 fn holds_on(
     alloc: Global,
     code: &Arc<Verified>,
@@ -235,7 +235,7 @@ fn holds_on(
     Ok(exact && over)
 }
 
-// Whether a row holds on all its lists of arguments.
+// Returns whether a test case holds for all its lists of arguments.
 fn holds_on_all(alloc: Global, code: &Arc<Verified>, row: &Row) -> bool {
     for args in row.args {
         if !holds_on(alloc, code, args, row).unwrap_or(false) {
@@ -245,7 +245,7 @@ fn holds_on_all(alloc: Global, code: &Arc<Verified>, row: &Row) -> bool {
     true
 }
 
-/// Whether a row holds.
+/// Returns whether a test case holds.
 pub(crate) fn holds(alloc: Global, row: &Row) -> bool {
     match code_in(alloc, row.setting, row.body) {
         Ok(code) => holds_on_all(alloc, &code, row),

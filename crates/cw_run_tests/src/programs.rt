@@ -1,4 +1,4 @@
-//! Programs as code that is written by hand.
+//! Programs as hand-written code.
 
 use cw_code::code::{Callee, Code, Func, Instr, Reducer, Site};
 use cw_model::syntax::{CallKind, Name, Reduction};
@@ -8,8 +8,8 @@ use cw_verify::verify::verify;
 use std::alloc::{AllocError, Global};
 use std::sync::Arc;
 
-/// A function of code: whether it gives a value, its integer parameters and slots, its array parameters and slots, and
-/// its instructions.
+/// A function of code: whether it returns a value, its integer parameters and slots, its array parameters and slots,
+/// and its instructions.
 #[derive(Clone, Copy)]
 pub(crate) struct Part {
     pub(crate) gives_int: bool,
@@ -20,8 +20,9 @@ pub(crate) struct Part {
     pub(crate) body: &'static [Instr],
 }
 
-/// A program but for the instructions of its main: main with none, the functions after it, the lists of array slots
-/// that its calls take, its reducers and its tags. Each function has a plain and a spawned site, numbered from 1 on.
+/// A program without the instructions of its `main`: a `main` with none, the functions after it, the lists of array
+/// slots that its calls take, its reducers and its tags. Each function has a plain and a spawned site, numbered from
+/// 1.
 #[derive(Clone, Copy)]
 pub(crate) struct Around {
     pub(crate) main: Part,
@@ -31,7 +32,7 @@ pub(crate) struct Around {
     pub(crate) tags: &'static [&'static str],
 }
 
-/// A call of the second function at its plain site, which drops what it gives and passes the first list.
+/// A call of the second function at its plain site, which drops the result and passes the first list.
 pub(crate) const CALLED: Callee = Callee {
     function: 1,
     site: 3,
@@ -41,10 +42,10 @@ pub(crate) const CALLED: Callee = Callee {
     lent: 0,
 };
 
-/// The same at its spawned site.
+/// A call of the second function at its spawned site, which drops the result and passes the first list.
 pub(crate) const SPAWNED: Callee = Callee { site: 4, ..CALLED };
 
-// A function with these instructions, after those that stand already.
+// Adds a function with these instructions after the existing ones.
 fn place(code: &mut Code, part: &Part, body: &[Instr]) -> Result<(), AllocError> {
     let start = code.instrs.len();
     code.instrs.extend_from_slice(body)?;
@@ -61,7 +62,7 @@ fn place(code: &mut Code, part: &Part, body: &[Instr]) -> Result<(), AllocError>
     Ok(())
 }
 
-// These functions.
+// Adds these functions.
 fn place_parts(code: &mut Code, parts: &[Part]) -> Result<(), AllocError> {
     for part in parts {
         place(code, part, part.body)?;
@@ -69,7 +70,7 @@ fn place_parts(code: &mut Code, parts: &[Part]) -> Result<(), AllocError> {
     Ok(())
 }
 
-// A site of a function, after those that stand already.
+// Adds a site of a function after the existing ones.
 fn place_site(
     alloc: Global,
     code: &mut Code,
@@ -87,7 +88,7 @@ fn place_site(
     Ok(())
 }
 
-// The sites of so many functions.
+// Adds the sites of this number of functions.
 fn place_sites(alloc: Global, code: &mut Code, functions: u32) -> Result<(), AllocError> {
     for function in 0..functions {
         let before = function.wrapping_mul(2);
@@ -109,7 +110,7 @@ fn place_sites(alloc: Global, code: &mut Code, functions: u32) -> Result<(), All
     Ok(())
 }
 
-/// Gives code these tags.
+/// Adds these tags to code.
 pub(crate) fn place_tags(alloc: Global, code: &mut Code, texts: &[&str]) -> Result<(), AllocError> {
     for text in texts {
         code.tags.push(Name::new(alloc, text.as_bytes())?)?;
@@ -117,7 +118,7 @@ pub(crate) fn place_tags(alloc: Global, code: &mut Code, texts: &[&str]) -> Resu
     Ok(())
 }
 
-/// Gives code these reducers.
+/// Adds these reducers to code.
 pub(crate) fn place_reducers(
     alloc: Global,
     code: &mut Code,
@@ -132,7 +133,7 @@ pub(crate) fn place_reducers(
     Ok(())
 }
 
-// These lists of array slots.
+// Adds these lists of array slots.
 fn place_lists(alloc: Global, code: &mut Code, lists: &[&[u32]]) -> Result<(), AllocError> {
     for list in lists {
         code.passed.push(Vec::from_slice(alloc, list)?)?;
@@ -140,7 +141,7 @@ fn place_lists(alloc: Global, code: &mut Code, lists: &[&[u32]]) -> Result<(), A
     Ok(())
 }
 
-/// Code with nothing in it, whose main stands in a line.
+/// Returns empty code, whose `main` is in this line.
 pub(crate) fn empty_code(alloc: Global, main_line: u32) -> Code {
     Code {
         instrs: Vec::new(alloc),
@@ -155,7 +156,7 @@ pub(crate) fn empty_code(alloc: Global, main_line: u32) -> Code {
     }
 }
 
-// All of a program whose main has these instructions.
+// Adds all parts of a program whose `main` has these instructions.
 fn place_all(
     alloc: Global,
     code: &mut Code,
@@ -171,14 +172,14 @@ fn place_all(
     place_lists(alloc, code, around.passed)
 }
 
-// The code of a program whose main has these instructions.
+// Returns the code of a program whose `main` has these instructions.
 fn code_of(alloc: Global, around: &Around, body: &[Instr]) -> Result<Code, AllocError> {
     let mut code = empty_code(alloc, 1);
     place_all(alloc, &mut code, around, body)?;
     Ok(code)
 }
 
-/// The same once the verifier has let it through.
+/// Returns the verified code of a program whose `main` has these instructions.
 pub(crate) fn verified_of(
     alloc: Global,
     around: &Around,

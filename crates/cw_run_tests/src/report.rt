@@ -14,7 +14,7 @@ use cw_text::Fault;
 use cw_verify::verify::verify;
 use std::alloc::{AllocError, Global};
 
-// What a sink took of a text, what was answered, and how many writes failed.
+// The part of a text that a sink took, the answer, and the number of failed writes.
 #[derive(Drop)]
 struct Taken {
     bytes: Vec<u8>,
@@ -23,8 +23,8 @@ struct Taken {
 }
 
 impl Taken {
-    // Whether a sink with so much room took all of a text that it has room for, and one write failed if that is not
-    // all.
+    // Returns whether a sink with this room took as much of a text as it has room for, and whether one write failed
+    // if that is not all of the text.
     fn is_beginning(&self, text: &[u8], room: usize) -> bool {
         match text.get(..room) {
             Some(beginning) if room < text.len() => {
@@ -37,7 +37,7 @@ impl Taken {
     }
 }
 
-// A main without parameters that gives 3.
+// Adds a `main` without parameters that returns 3.
 fn place_main(code: &mut Code) -> Result<(), AllocError> {
     code.instrs
         .extend_from_slice(&[Instr::Push(3), Instr::ReturnValue])?;
@@ -54,7 +54,7 @@ fn place_main(code: &mut Code) -> Result<(), AllocError> {
     Ok(())
 }
 
-// A call site of main.
+// Adds a call site of `main`.
 fn place_site(
     alloc: Global,
     code: &mut Code,
@@ -73,7 +73,7 @@ fn place_site(
     Ok(())
 }
 
-// That main, two call sites, and these reducers and tags.
+// Adds this `main`, two call sites, and these reducers and tags.
 fn place_all(
     alloc: Global,
     code: &mut Code,
@@ -87,7 +87,7 @@ fn place_all(
     place_tags(alloc, code, tags)
 }
 
-// Code with these reducers and tags and two call sites, whose main stands in line 12.
+// Returns code with these reducers and tags and two call sites, whose `main` is in line 12.
 fn code_with(
     alloc: Global,
     reducers: &[(&str, Reduction)],

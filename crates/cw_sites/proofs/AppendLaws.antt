@@ -1,4 +1,4 @@
--- Paths of pieces that ran apart are put at the end of a list of steps.
+-- Paths of pieces that were executed separately are appended to a list of steps.
 use Rattle.std.specs.Prelude.{◌≡◌, ℕ, ◌+◌, ◌-◌, ◌<◌, ◌≤◌, ◌^◌, Bool, true, false, nat_lt, List, [], ◌∷◌, length, get_or, Option, Some, None, refl}
 use Rattle.std.proofs.Common.{sym, ◌∙◌, ap, subst, arith}
 use Rattle.cw_sites.specs.declared.steps.Steps.{Steps}
@@ -13,7 +13,7 @@ use Rattle.cw_sites.proofs.CompactingLaws.{all_below_at}
 use Rattle.cw_sites.proofs.StepSumLaws.{upto-mono, upto-next}
 use Rattle.cw_sites.proofs.PathLaws.{path_with, make, same_path, same_strand_path, strand_path_of, seen_blocks_same}
 
--- steps more, whose weight is added apart
+-- steps were added, without their weight
 pub stepped : (q : ℕ) (steps steps' : List Steps) (weight start site count : ℕ) (fs : List Block)
     → ((n : ℕ) → n ≤ start → n ≤ length steps → upto q steps' n ≡ upto q steps n)
     → ((all_steps q steps - upto q steps start) + if_site q site count < 2 ^ 64 → all_steps q steps' ≡ all_steps q steps + if_site q site count)
@@ -41,7 +41,7 @@ append_after old mid new piece first laid same more = λ l p q fits.
     let P : StrandPath → Type 0 = λ t. Fits (plus (whole t) (whole (strand_path q piece))) in
     more (laid l) p q (subst P (sym e) fits) ∙ ap (appends first (strand_path q piece)) e
 
--- the steps of a list from a place up to another
+-- the steps of a list from one place up to another were added
 pub record SteppedTo (old now : Paths) (steps : List Steps) (from i : ℕ) : Type 0 where
   pub laid : Laid old → Laid now
   pub path : Laid old → (q : ℕ) → (strand_path q old).now.own + (upto q steps i - upto q steps from) < 2 ^ 64
@@ -88,7 +88,7 @@ weighed t n ps weight weight' own e w =
     (same_path weight' (t.now.weight + weight) n.own (t.now.own + own) w f)
     (ap (λ (x : StrandPath). x.blocks) e)
 
--- all of them, and their weight
+-- all steps were added, with their weight
 pub all_stepped : (old now : Paths) (steps : List Steps) (from to i weight weight' : ℕ) → (from ≤ to → to ≤ length steps → i ≡ to)
     → (now.weight + weight < 2 ^ 64 → weight' ≡ now.weight + weight) → SteppedTo old now steps from i → from ≤ to → to ≤ length steps → Laid old
     → (q : ℕ) → Fits (plus (strand_path q old).now (part q steps from to weight))
@@ -102,7 +102,7 @@ all_stepped old now steps from to i weight weight' e w h order within laid q fit
     let P : ℕ → Type 0 = λ n. strand_path_of q now.steps.items weight' now.start now.blocks.items ≡ extends_by (path_with weight (n - upto q steps from)) (strand_path q old) in
     subst P at (weighed (strand_path q old) (strand_path q now).now (strand_path q now).blocks weight weight' (upto q steps i - upto q steps from) p (omega arith))
 
--- what is kept gets no more by a spawn, a child's end or a join
+-- a spawn, the end of a child and a join do not increase the paths
 abbrev pub Below : Path → Path → Type 0
 Below a b = (a.weight ≤ b.weight) × (a.own ≤ b.own)
 
@@ -146,7 +146,7 @@ forks_by first p t t1 t2 t3 s e n fits =
     let e2 = e (omega arith, omega arith) ∙ ap (extends_by p) s in
     n (fits_same t2 (extends_by p (spawns first t)) e2 (omega arith, omega arith)) ∙ ap ends e2
 
--- what a piece keeps
+-- the paths of a piece
 abbrev pub piece_with : (base : Path) → Option Path → (rest now : Path) → StrandPath
 piece_with b l r n = make n (record { base = b; longest = l; rest = r } ∷ [])
 
@@ -171,7 +171,7 @@ appends_some first b n r c l t t1 t2 t3 z e f g fits =
     let k = forks_within first c t1 in let k0 = k.0 in let k1 = k.1 in
     g (omega arith, omega arith) ∙ ap (extends_by n) (e2 ∙ ap (forks first c) e1) ∙ ap (λ (x : Option Path). appends_block first b x n t) (sym z)
 
--- the innermost block alone is no more than all
+-- the innermost block is at most the sum of all
 pub fits_block : (t u : StrandPath) (n : Path) (p : SeenBlock) (ps : List SeenBlock) → u ≡ make n (p ∷ ps) → Fits (plus (whole t) (whole u)) → Fits (plus (whole t) (whole (make n (p ∷ []))))
 fits_block t u n p ps e fits =
     let f0 = fits.0 in let f1 = fits.1 in

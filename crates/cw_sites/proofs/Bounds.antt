@@ -1,4 +1,4 @@
--- What is kept of a run is no more than its work.
+-- The paths of a run are at most its work.
 use Rattle.std.specs.Prelude.{◌≡◌, ℕ, ◌+◌, ◌==◌, ◌≤◌, nat_lt, Bool, true, false, if◌then◌else◌, List, [], ◌∷◌, Option, Some, None, refl}
 use Rattle.std.proofs.Common.{sym, ap, subst, inl, inr, arith}
 use Rattle.std.proofs.lemmas.Bool.{cases_lt}
@@ -17,7 +17,7 @@ use Rattle.cw_sites.specs.SiteRows.{own_tree, own_in}
 use Rattle.cw_sites.specs.lemmas.ChosenPaths.{takes_first, takes_second}
 use Rattle.cw_sites.specs.lemmas.SiteRows.{own_leaf}
 
--- a path is at most another and so much
+-- a path is at most another path plus `k`
 abbrev pub Within : (a b : Path) → ℕ → Type 0
 Within a b k = (a.weight ≤ b.weight + k) × (a.own ≤ b.own + k)
 
@@ -40,7 +40,7 @@ chosen_within site here (Seq a b) = let g = chosen_within site here a in let h =
 chosen_within site here (Par child rest) = heavier_within (chosen site here child) (chosen site here rest) (work child) (work rest) (chosen_within site here child) (chosen_within site here rest)
 chosen_within site here (Marked mark t) = chosen_within site (site_inside mark here) t
 
--- all that is kept of a block
+-- the sum of all paths of a block
 abbrev pub total : BlockPath → Path
 total (Straight n) = n
 total (Split b l n) = plus (plus b (longest_path l)) n
@@ -75,7 +75,7 @@ total_after site here L (Series t) = total_extended (chosen site here t) L (work
 total_after site here L (Fork t) = total_ended (chosen site here t) L (work t) (chosen_within site here t)
 total_after site here L Join = total_finished L
 
--- the works of events
+-- the sum of the work of events
 abbrev pub sum_of_works : List Event → ℕ
 sum_of_works [] = 0
 sum_of_works (e ∷ es) = work (tree_in e) + sum_of_works es
@@ -88,7 +88,7 @@ works-is : (es : List Event) → sum_of_works es ≡ work (tree_of es)
 works-is [] = refl
 works-is (e ∷ es) = let a = adds_first work work_adds e es in let b = works-is es in omega arith
 
--- the path that a run's innermost open part began with, or nothing
+-- the path at the start of a run's innermost open part, or the empty path
 abbrev pub start_of : (site base : ℕ) → List Open → Path
 start_of site base [] = nowhere
 start_of site base (o ∷ os) = now_of (enters o.spawned (block_path site base os o.outer))
@@ -106,7 +106,7 @@ total_local site base (o ∷ os) es =
     let a = ap (λ (p : Path). p.weight) (enters_total o.spawned (block_path site base os o.outer)) in
     let b = ap (λ (p : Path). p.own) (enters_total o.spawned (block_path site base os o.outer)) in (omega arith, omega arith)
 
--- the blocks of a block hold what is kept of it beside the path that runs, and those below it
+-- the blocks hold the paths of a block, except the current path, and the paths of the blocks below
 stands_sum : (below : List SeenBlock → Type 0) (L : BlockPath) (ps : List SeenBlock) (start : Path) (k : ℕ)
     → ((qs : List SeenBlock) → below qs → Within (plus (sum_of qs) start) nowhere k) → (j : ℕ) → Within (total L) start j → StandsOn below L ps
     → Within (plus (sum_of ps) (now_of L)) nowhere (j + k)
@@ -133,7 +133,7 @@ rests_sum below (Split b l n) (p ∷ ps) start k bound j t h =
     let lw = ap (λ (x : Option Path). (longest_path x).weight) h.1 in let lo = ap (λ (x : Option Path). (longest_path x).own) h.1 in
     let rw' = ap (λ (x : Path). x.weight) h.2 in let ro = ap (λ (x : Path). x.own) h.2 in (omega arith, omega arith)
 
--- the work of the blocks round the one that runs
+-- the work of the enclosing blocks
 abbrev pub work_round : List Open → ℕ
 work_round [] = 0
 work_round (o ∷ os) = work_in os o.outer
@@ -156,7 +156,7 @@ under_sum site base (o ∷ os) ps h =
     let s = round-is os o.outer in
     lies_sum o.spawned (Under site base os) (block_path site base os o.outer) ps (start_of site base os) (work_round os) bound (work (tree_of o.outer)) (work_in os o.outer) s t h
 
--- what is kept of a run is within its work
+-- the paths of a run are at most its work
 pub whole_within : (site base : ℕ) (os : List Open) (es : List Event) (t : StrandPath) → Shows site base os es t → Within (whole t) nowhere (work_in os es)
 whole_within site base os es t h =
     let bound : (qs : List SeenBlock) → Under site base os qs → Within (plus (sum_of qs) (start_of site base os)) nowhere (work_round os) = λ qs k. under_sum site base os qs k in
@@ -164,7 +164,7 @@ whole_within site base os es t h =
     let r = round-is os es in
     let nw = ap (λ (x : Path). x.weight) h.now_is in let no = ap (λ (x : Path). x.own) h.now_is in (omega arith, omega arith)
 
--- a site's own instructions, and the sums over its invocations, are within the work
+-- the instructions of a site, and the sums over its invocations, are at most the work
 own_within : (site here : ℕ) (t : Tree) → own_tree site here t ≤ work t
 own_within site here (Leaf k) = let e = own_leaf site here k in let s = steps_within site here k in omega arith
 own_within site here (Seq a b) = let e = weight-append site (leaves here a) (leaves here b) in let g = own_within site here a in let h = own_within site here b in omega arith

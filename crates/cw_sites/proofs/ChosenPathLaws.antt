@@ -1,4 +1,4 @@
--- The leaves of a chosen path are what it says of each site.
+-- The leaves of a chosen path have its instructions of each site.
 use Rattle.std.specs.Prelude.{◌≡◌, ℕ, ◌==◌, ◌≤◌, ◌<◌, List, [], ◌∷◌, ◌++◌, filter}
 use Rattle.std.proofs.Common.{sym, ◌∙◌, ap, inl, inr, arith}
 use Rattle.std.proofs.lemmas.Bool.{cases_lt}
@@ -10,7 +10,7 @@ use Rattle.cw_model.specs.Rows.{site_inside, chosen_leaves}
 use Rattle.cw_sites.specs.ChosenPaths.{Path, plus, path_of, steps_of, chosen}
 use Rattle.cw_sites.specs.lemmas.ChosenPaths.{takes_second, takes_first, chosen-weight}
 
--- leaves one after others
+-- a concatenation of leaves
 pub path_of-append : (site : ℕ) (a b : List (ℕ × ℕ)) → path_of site (a ++ b) ≡ plus (path_of site a) (path_of site b)
 path_of-append site a b =
     let w = sum_by-append (λ (leaf : ℕ × ℕ). leaf.1) a b in
@@ -36,7 +36,7 @@ path_of_choice site here child rest e f =
     child_first : (here : ℕ) (child rest : Tree) → span rest ≤ span child → chosen_leaves here (Par child rest) ≡ chosen_leaves here child
     child_first here child rest h = grind (arith, nat_tests)
 
--- the leaves of the chosen path are what it says of each site
+-- the leaves of the chosen path have its instructions of each site
 pub path_of-chosen_leaves : (site here : ℕ) (t : Tree) → path_of site (chosen_leaves here t) ≡ chosen site here t
 path_of-chosen_leaves site here (Leaf k) = path_of_one site here k
 path_of-chosen_leaves site here (Seq a b) =

@@ -1,4 +1,4 @@
--- Steps that are added up by site say what they said.
+-- Merged steps contain the same instructions of each site.
 use Rattle.std.specs.Prelude.{◌≡◌, ℕ, zero, suc, ◌+◌, ◌-◌, ◌^◌, ◌≤◌, ◌<◌, ◌==◌, nat_lt, Bool, true, false, if◌then◌else◌, List, [], ◌∷◌, ◌++◌, length, take, drop, refl}
 use Rattle.std.proofs.Common.{sym, ◌∙◌, ap, subst, inl, inr, set, get_or, arith}
 use Rattle.std.proofs.lemmas.Bool.{cases_lt}
@@ -40,7 +40,7 @@ all_below-set most [] i y h a = tt
 all_below-set most (x ∷ xs) zero y h a = (h, a.1)
 all_below-set most (x ∷ xs) (suc i) y h a = (a.0, all_below-set most xs i y h a.1)
 
--- the sums over the steps from a place up to another
+-- the sums over the steps from one place up to another
 pub record SummedTo (from to : ℕ) (steps : List Steps) (i : ℕ) (sums : List ℕ) : Type 0 where
   pub each : to ≤ length steps → i ≤ to → (q : ℕ) → upto q steps to - upto q steps from < 2 ^ 64 → sum_at q sums ≡ upto q steps i - upto q steps from
   pub words : length sums ≤ 2 ^ 32
@@ -69,14 +69,14 @@ all_summed from to steps i sums e h o l = λ q fits. let z = e o l in h.each l (
 not_same : (n q : ℕ) → n < q → ((n == q) ≡ false) × ((q == n) ≡ false)
 not_same n q h = (grind (arith, nat_tests), grind (arith, nat_tests))
 
--- the place of a site that was given one, and those of others
+-- the place of a site after it was set, and the places of others
 given_here : (to : ℕ) (old new : Table ℕ) (site place : ℕ) → Enters to old new site place → entry to new site ≡ place
 given_here to old new site place g = g site ∙ ap (λ (b : Bool). if b then place else entry to old site) (equal site site refl)
 
 given_other : (to : ℕ) (old new : Table ℕ) (site place q : ℕ) → Enters to old new site place → (site == q) ≡ false → entry to new q ≡ entry to old q
 given_other to old new site place q g e = g q ∙ ap (λ (b : Bool). if b then place else entry to old q) e
 
--- how many sites have one
+-- the number of sites with a place
 pub placed_few : (to : ℕ) (places : Table ℕ) (most : ℕ) → placed to places most ≤ most
 placed_few to places zero = omega arith
 placed_few to places (suc n) = let k = placed_few to places n in at_most (nat_lt (entry to places n) to) (placed to places n) n k
@@ -109,7 +109,7 @@ placed_more to old new site place (suc n) g p t h = elim (cases_lt site n) [
       omega arith)
 ]
 
--- nothing is gathered yet
+-- no step is merged yet
 pub nothing_gathered : (from to : ℕ) (old : List Steps) (places : Table ℕ) → ((k : ℕ) → entry to places k ≡ to) → Gathered from to old old from places from
 nothing_gathered from to old places none = record {
   from_is = omega arith;
@@ -127,7 +127,7 @@ nothing_gathered from to old places none = record {
     none_placed zero = refl
     none_placed (suc n) = let k = none_placed n in let e = none n in let f = ap one_if (not_below (entry to places n) to (omega arith)) in omega arith
 
--- the step at the place `i` is of the list that there was
+-- the step at the place `i` is an unchanged step of the list
 next_is : (q i : ℕ) (old now : List Steps) (one : Steps) → i < length now → one ≡ get_or now i one
     → upto q now (i + 1) + upto q old i ≡ upto q old (i + 1) + upto q now i → upto q old (i + 1) ≡ upto q old i + if_site q one.site one.count
 next_is q i old now one lt is behind =
@@ -141,7 +141,7 @@ merged_by : (b : Bool) (before all new there count sum next end : ℕ) → new +
 merged_by true before all new there count sum next end e f g h fits m = let k = m (omega arith) in omega arith
 merged_by false before all new there count sum next end e f g h fits m = omega arith
 
--- it is added to the one of its site
+-- the step is added to the merged step of its site
 pub one_merged : (from to : ℕ) (old now : List Steps) (i end place sum : ℕ) (places : Table ℕ) (one there : Steps) → i < to → to ≤ length now
     → one ≡ get_or now i one → place ≡ entry to places one.site → place < to → there ≡ get_or now place there
     → (there.count + one.count < 2 ^ 64 → sum ≡ there.count + one.count) → Gathered from to old now i places end
@@ -208,7 +208,7 @@ one_merged from to old now i end place sum places one there lt within is at less
           ]
         ]
 
--- it is put behind them
+-- the step is put after the merged steps
 pub one_put : (from to : ℕ) (old now : List Steps) (i end : ℕ) (places new_places : Table ℕ) (one : Steps) → i < to → to ≤ length now
     → one ≡ get_or now i one → to ≤ entry to places one.site → Enters to places new_places one.site end → Gathered from to old now i places end
     → Gathered from to old (set now end one) (i + 1) new_places (end + 1)
@@ -252,7 +252,7 @@ one_put from to old now i end places new_places one lt within is free g h =
         let P : ℕ → Type 0 = λ x. IsAt site (set now end one) from (end + 1) x in
         subst P (sym was) (s.0, omega arith, λ d. ap (λ (x : Steps). x.site) (get_or-set_other now end (entry to places site) one d (λ x. absurd (omega arith))) ∙ s.2 d)
 
--- all are gathered
+-- all steps are merged
 pub all_gathered : (from to i end : ℕ) (old new : List Steps) (places : Table ℕ) → i ≡ to → to ≤ length old → Gathered from to old new i places end → IsGathered from to old new end
 all_gathered from to i end old new places is within h =
     let P : ℕ → Type 0 = λ x. Gathered from to old new x places end in
@@ -268,7 +268,7 @@ all_gathered from to i end old new places is within h =
       kept = g.kept;
     }
 
--- and what lay behind them is moved up to their end
+-- the steps after the merged ones moved up to their end
 pub added_up : (from to end : ℕ) (old put new : List Steps) → to ≤ length old → IsGathered from to old put end → IsCutOut end to put new → IsAddedUp from to old new end
 added_up from to end old put new l p g =
     let n = p.count_is in let m = g.count_is in let b = p.end_is in let f = p.from_is in

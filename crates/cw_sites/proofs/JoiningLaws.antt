@@ -1,4 +1,4 @@
--- Tables of pieces that ran apart are joined.
+-- Tables of pieces that were executed separately are joined.
 use Rattle.std.specs.Prelude.{◌≡◌, ℕ, ◌+◌, ◌<◌, ◌^◌, Bool, List, [], ◌∷◌, ◌++◌}
 use Rattle.std.proofs.Common.{sym, ◌∙◌, subst, arith}
 use Rattle.cw_model.specs.Trees.{Event, tree_of, work, span}
@@ -20,7 +20,7 @@ use Rattle.cw_sites.proofs.Bounds.{whole_within}
 use Rattle.cw_sites.proofs.PieceShowLaws.{shows_piece}
 use Rattle.cw_sites.proofs.TableLaws.{fits_row}
 
--- sums of two lists of events
+-- sums over a concatenation of events
 own_append : (site base : ℕ) (os : List Open) (es fs : List Event) → own_in site base os (es ++ fs) ≡ own_in site base os es + own_tree site (here_in base os) (tree_of fs)
 own_append site base [] es fs = adds_append (own_tree site base) (own_adds site base) es fs
 own_append site base (o ∷ os) es fs = let a = adds_append (own_tree site (here_in base (o ∷ os))) (own_adds site (here_in base (o ∷ os))) es fs in omega arith
@@ -34,7 +34,7 @@ row_further site base busy os es fs r s h g = record {
   span_is = counts_further span (path_in site base) (path_in site (here_in base os)) (is_site site) busy os es fs (span_tally r) (span_tally s) h.span_is g.span_is;
 }
 
--- a row that is read alike counts the same run
+-- a row with equal readings represents the same run
 row_alike : (site base busy : ℕ) (os : List Open) (es : List Event) (r s : Row) → IsReadAs s r → CountsSite site base busy os es r → CountsSite site base busy os es s
 row_alike site base busy os es r s a h = record {
   calls_is = a.calls ∙ h.calls_is;

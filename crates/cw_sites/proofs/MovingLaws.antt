@@ -1,4 +1,4 @@
--- Steps that are moved down in a list: what each part of it says then.
+-- Steps that moved down in a list: the instructions in each part afterwards.
 use Rattle.std.specs.Prelude.{◌≡◌, ℕ, suc, ◌+◌, ◌-◌, ◌≤◌, ◌<◌, min, List, [], ◌∷◌, ◌++◌, length, take, drop}
 use Rattle.std.proofs.Common.{sym, ◌∙◌, ap, subst, inl, inr, length-append, length-drop, arith, get_or, set, swap_remove}
 use Rattle.std.specs.List.{SameBelow, SameFrom}
@@ -11,7 +11,7 @@ use Rattle.cw_sites.specs.StepSums.{upto, whole, AllBelow, IsMovedDown, IsCutOut
 use Rattle.cw_sites.proofs.StepSumLaws.{upto-append, upto-take, upto-drop, upto-set, upto-last, upto-next, upto_past-set}
 use Rattle.cw_sites.proofs.CompactingLaws.{all_below_at, all_below-append, all_below-take, all_below-drop, all_below-set}
 
--- the steps of two lists, one behind the other
+-- the steps of a concatenation
 upto_behind : (q : ℕ) (xs ys : List Steps) (n : ℕ) → upto q (xs ++ ys) (length xs + n) ≡ whole q xs + upto q ys n
 upto_behind q [] ys n = let z : 0 + n ≡ n = omega arith in let e = ap (upto q ys) z in omega arith
 upto_behind q (x ∷ xs) ys n =
@@ -22,7 +22,7 @@ upto_behind q (x ∷ xs) ys n =
 whole_take : (q : ℕ) (xs : List Steps) (n : ℕ) → n ≤ length xs → whole q (take n xs) ≡ upto q xs n
 whole_take q xs n h = ap (upto q (take n xs)) (length-take-le n xs h) ∙ upto-take q xs n n (omega arith)
 
--- a copy of the first k steps of t at a place of s
+-- a copy of the first k steps of t to a place of s
 module _ (q : ℕ) (s : List Steps) (at : ℕ) (t : List Steps) (k : ℕ) (a : at ≤ length s) (b : k ≤ length t) where
   head_long : length (take at s ++ take k t) ≡ at + k
   head_long = let e = length-append (take at s) (take k t) in let f = length-take-le at s a in let g = length-take-le k t b in omega arith
@@ -61,7 +61,7 @@ module _ (q : ℕ) (s : List Steps) (at : ℕ) (t : List Steps) (k : ℕ) (a : a
       let y = upto-drop q s (at + k) m in
       omega arith
 
--- the last steps of a part come down
+-- the last steps of a part moved down
 module _ (from to end count : ℕ) (old new : List Steps) (order : from ≤ to) (behind : to ≤ end) (within : end ≤ length old)
     (c : count ≡ min (to - from) (end - to)) (e : new ≡ paste old from (drop (end - count) old) (end - (end - count))) where
   moved_count : end - (end - count) ≡ count
@@ -132,7 +132,7 @@ all_below-moved most old new from src count e a =
     (all_below-append most (take from old) (take count (drop src old)) (all_below-take most old from a) (all_below-take most (drop src old) count (all_below-drop most old src a)))
     (all_below-drop most old (from + count) a))
 
--- and the list is cut
+-- the list is cut off after a move
 pub cut_out : (from to end : ℕ) (old moved new : List Steps) → end ≡ length old → from ≤ to → to ≤ length old → IsMovedDown from to end old moved
     → new ≡ take (end - (to - from)) moved → IsCutOut from to old new
 cut_out from to end old moved new z order within h e =
@@ -151,7 +151,7 @@ cut_out from to end old moved new z order within h e =
           omega arith;
     }
 
--- the last part is taken out
+-- the last part is removed
 pub last_out : (from to : ℕ) (old new : List Steps) → from ≤ to → to ≡ length old → new ≡ take from old → IsCutOut from to old new
 last_out from to old new order end e =
     let l : length new ≡ from = ap length e ∙ length-take-le from old (omega arith) in
@@ -165,7 +165,7 @@ last_out from to old new order end e =
           omega arith;
     }
 
--- a part of one step is taken out, and the last step comes to lie there
+-- a part of one step is removed, and the last step moves to its place
 pub swapped_out : (from to : ℕ) (old new : List Steps) (gone : Steps) → from + 1 ≡ to → to ≤ length old → new ≡ swap_remove old from gone → IsCutOut from to old new
 swapped_out from to old new gone one within e =
     let last = get_or old (length old - 1) gone in
@@ -200,7 +200,7 @@ all_below-swapped most old new from gone within e a =
     let last = get_or old (length old - 1) gone in
     subst P (sym e) (all_below-take most (set old from last) (length old - 1) (all_below-set most old from last (all_below_at most old (length old - 1) gone (omega arith) a) a))
 
--- a part is taken out in front of a path, and then what the path left behind it
+-- a part before a path is removed, then the gap after the path
 pub closed_up : (from to end mid : ℕ) (old moved new : List Steps) → from ≤ to → to ≤ end → end ≤ length old → mid ≡ from + (end - to)
     → IsMovedDown from to end old moved → IsCutOut mid end moved new → IsClosedUp from to end old new mid
 closed_up from to end mid old moved new order behind within m h g =
@@ -218,7 +218,7 @@ closed_up from to end mid old moved new order behind within m h g =
           omega arith;
     }
 
--- which places are written
+-- the places that are written
 pub within_moved : (from to count src : ℕ) (old new : List Steps) → count ≤ to - from → from ≤ to → SameBelow old new from → SameFrom old new (from + count) → WritesWithin from to old new
 within_moved from to count src old new c o below above place d outside long = elim outside [
   | inl less ↦ below place d less

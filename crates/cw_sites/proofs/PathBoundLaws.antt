@@ -1,4 +1,4 @@
--- Paths that have no more steps than they may.
+-- Paths are within their bounds.
 use Rattle.std.specs.Prelude.{◌≡◌, ℕ, ◌+◌, ◌*◌, ◌≤◌, List, [], ◌∷◌, ◌++◌, length, refl}
 use Rattle.std.proofs.Common.{sym, ◌∙◌, ap, subst, arith}
 use Rattle.cw_sites.specs.declared.steps.Steps.{Steps}
@@ -24,11 +24,11 @@ short_pop n (g ∷ fs) f h = let i = short_pop n fs f h.1 in ((h.0, i.0), i.1)
 pub short_pushed : (n : ℕ) (fs fs' : List Block) (f : Block) → fs' ≡ fs ++ f ∷ [] → AreShort n fs → IsShortBlock n f → AreShort n fs'
 short_pushed n fs fs' f e h s = subst (AreShort n) (sym e) (short_push n fs f h s)
 
--- room for more
+-- a larger bound
 pub looser : (room room' most : ℕ) (paths : Paths) → room ≤ room' → IsBoundedBy room most paths → IsBoundedBy room' most paths
 looser room room' most paths le h = let n = h.now in record { laid = h.laid; sites = h.sites; limit = h.limit; blocks = h.blocks; now = omega arith }
 
--- within its limit a path is as after a step
+-- a path within its limit satisfies the bound after a step
 pub tight_within : (room most : ℕ) (paths : Paths) → IsWithinLimit paths → IsBoundedBy room most paths → IsTight most paths
 tight_within room most paths le h = let l = h.limit in record { laid = h.laid; sites = h.sites; limit = h.limit; blocks = h.blocks; now = omega arith }
 
@@ -48,7 +48,7 @@ tight_with most r r' f e start steps limit h =
       now = omega arith;
     }
 
--- the base of a block with nothing behind it, and after a part was taken out, and then added up
+-- the base of a block without steps after it, and after a part was removed and the rest merged
 pub gathers_none : (steps : List Steps) (f : Block) → InOrder f → f.mid ≡ f.child → Gathers steps steps f f.mid
 gathers_none steps f o e =
     let o0 = o.0 in let o1 = o.1 in let o2 = o.2 in
@@ -90,7 +90,7 @@ gathers_added steps closed new f mid end o g h =
       child = λ q. let a = g.child q in let b = h.last q in omega arith;
     }
 
--- the path that runs was added up
+-- the current path was merged
 pub shortened_laid : (old new : Paths) (len end : ℕ) → len ≡ length old.steps.items → AddsUpWithin old.start len old.steps.items new.steps.items end → KeepsBlocks old new → Laid old → Laid new
 shortened_laid old new len end e all k laid =
     let st = laid.start in
@@ -121,7 +121,7 @@ shortened_bounded room most old new len end e all short kept limit k b =
       now = omega arith;
     }
 
--- the paths of the open blocks lie one behind the other
+-- the paths of the open blocks are consecutive
 few_from : (n lo hi : ℕ) (fs : List Block) → LaidFrom lo fs hi → AreShort n fs → hi ≤ lo + n * (3 * length fs)
 few_from n lo hi [] h s = omega arith
 few_from n lo hi (f ∷ fs) h s =

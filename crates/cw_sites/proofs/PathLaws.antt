@@ -35,7 +35,7 @@ pub laid_pop : (lo hi : ℕ) (fs : List Block) (f : Block) → LaidFrom lo (fs +
 laid_pop lo hi [] f h = (h.0, h.1, h.2)
 laid_pop lo hi (g ∷ fs) f h = let i = laid_pop g.child hi fs f h.2 in ((h.0, h.1, i.0), i.1, i.2)
 
--- a list that is the same up to a place shows the same blocks below it
+-- a list that is unchanged below a place represents the same blocks below it
 part_same : (q : ℕ) (steps steps' : List Steps) (from to weight hi : ℕ) → ((n : ℕ) → n ≤ hi → upto q steps' n ≡ upto q steps n) → from ≤ hi → to ≤ hi
     → part q steps' from to weight ≡ part q steps from to weight
 part_same q steps steps' from to weight hi same a b = let e = same from a in let f = same to b in ap (λ (o : ℕ). path_with weight o) (omega arith)
@@ -71,7 +71,7 @@ same_strand_path n n' ps ps' e f = cc
 pub same_path : (w w' o o' : ℕ) → w ≡ w' → o ≡ o' → path_with w o ≡ path_with w' o'
 same_path w w' o o' e f = cc
 
--- a strand_path by its parts
+-- the paths of a strand by their parts
 abbrev pub strand_path_of : (q : ℕ) → List Steps → (weight start : ℕ) → List Block → StrandPath
 strand_path_of q steps weight start fs = record { now = part q steps start (length steps) weight; blocks = seen_blocks q steps fs [] }
 
@@ -81,11 +81,11 @@ laid_of steps start fs = LaidFrom 0 fs start × (start ≤ length steps)
 part_is : (q : ℕ) (steps : List Steps) (from to w : ℕ) (p : Path) → w ≡ p.weight → upto q steps to - upto q steps from ≡ p.own → part q steps from to w ≡ p
 part_is q steps from to w p e f = same_path w p.weight (upto q steps to - upto q steps from) p.own e f
 
--- no part at all
+-- the empty part
 part_none : (q : ℕ) (steps : List Steps) (from to : ℕ) → from ≡ to → part q steps from to 0 ≡ nowhere
 part_none q steps from to e = let f = ap (upto q steps) e in part_is q steps from to 0 nowhere refl (omega arith)
 
--- so many instructions more
+-- more instructions
 pub extended_strand_path : (q : ℕ) (steps steps' : List Steps) (weight weight' start site count : ℕ) (fs : List Block)
     → ((n : ℕ) → n ≤ start → n ≤ length steps → upto q steps' n ≡ upto q steps n)
     → ((whole q steps - upto q steps start) + if_site q site count < 2 ^ 64 → whole q steps' ≡ whole q steps + if_site q site count)
@@ -104,7 +104,7 @@ extended_strand_path q steps steps' weight weight' start site count fs below all
     (same_path weight' (weight + count) (whole q steps' - upto q steps' start) ((whole q steps - upto q steps start) + if_site q site count) w (omega arith))
     (seen_blocks_same q steps steps' fs [] 0 start (λ n h. below n h (omega arith)) laid)
 
--- the path is added up by site
+-- the path is merged by site
 pub added_up : (q : ℕ) (steps steps' : List Steps) (weight start end : ℕ) (fs : List Block) → IsAddedUp start (length steps) steps steps' end
     → start ≤ length steps → LaidFrom 0 fs start → (part q steps start (length steps) weight).own < 2 ^ 64
     → strand_path_of q steps' weight start fs ≡ strand_path_of q steps weight start fs
@@ -118,7 +118,7 @@ added_up q steps steps' weight start end fs h l laid fits =
     (same_path weight weight (whole q steps' - upto q steps' start) (whole q steps - upto q steps start) refl (omega arith))
     (seen_blocks_same q steps steps' fs [] 0 start (λ n h'. h.below q n h') laid)
 
--- a strand_path whose blocks and weight stayed
+-- the paths after a change of steps only
 pub kept_path : (q : ℕ) (old new : Paths) → KeepsBlocks old new → strand_path q new ≡ strand_path_of q new.steps.items old.weight old.start old.blocks.items
 kept_path q old new k =
     ap (λ (w : ℕ). strand_path_of q new.steps.items w new.start new.blocks.items) k.weight
@@ -138,7 +138,7 @@ extends_after old mid new site count laid same more = λ l q fits.
     let P : StrandPath → Type 0 = λ t. Fits (plus t.now (steps_of q site count)) in
     more (laid l) q (subst P (sym e) fits) ∙ ap (λ (t : StrandPath). make (plus t.now (steps_of q site count)) t.blocks) e
 
--- a block's first spawn
+-- the first spawn of a block
 abbrev pub first_fork : (weight start len : ℕ) → Block
 first_fork weight start len = record { base = weight; longest = None; rest = 0; from = start; mid = len; end = len; child = len }
 
@@ -158,7 +158,7 @@ begun_strand_path q steps weight start len fs fs' e f =
     ∙ ap (λ (p : SeenBlock). p ∷ seen_blocks q steps fs []) (place_same
     (part_is q steps start len weight (part q steps start (length steps) weight) refl (omega arith)) refl (part_none q steps len len refl)))
 
--- a further one
+-- a further spawn of a block
 abbrev pub again_fork : Block → (weight len : ℕ) → Block
 again_fork f weight len = record { base = f.base; longest = f.longest; rest = weight; from = f.from; mid = f.mid; end = f.end; child = len }
 
@@ -197,7 +197,7 @@ again_strand_path q steps steps' weight start len all fs fs' f e g k cut h =
     (seen_blocks_same q steps steps' fs [] 0 f.from (λ y l. x.below q y (omega arith)) p.0))
     ∙ sym (ap (λ (x : List SeenBlock). again (make n x)) (ap (λ (x : List Block). seen_blocks q steps x []) g ∙ seen_blocks-push q steps fs f []))
 
--- the child is the longest
+-- the child becomes the longest
 abbrev pub taken_fork : Block → (base weight mid len : ℕ) → Block
 taken_fork f base weight mid len = record { base = base; longest = Some weight; rest = 0; from = f.from; mid = mid; end = len; child = len }
 
@@ -236,7 +236,7 @@ taken_strand_path q steps steps' weight start len mid base fs fs' f l o c b g e 
     ∙ ap (λ (x : List SeenBlock). place_with (plus (part q steps f.from f.mid f.base) (part q steps f.end f.child f.rest)) (Some (part q steps start (length steps) weight)) nowhere ∷ x)
     (seen_blocks_same q steps steps' fs [] 0 f.from (λ x h. g.below q x h) l))
 
--- the child is not the longest
+-- the child does not become the longest
 abbrev pub gone_fork : Block → Block
 gone_fork f = record { base = f.base; longest = f.longest; rest = 0; from = f.from; mid = f.mid; end = f.end; child = f.end }
 
@@ -269,7 +269,7 @@ gone_strand_path q steps steps' start fs fs' f l o c b g k =
     ∙ ap (λ (x : List SeenBlock). place_with (part q steps f.from f.mid f.base) (option_map (part q steps f.mid f.end) f.longest) nowhere ∷ x)
     (seen_blocks_same q steps steps' fs [] 0 f.from (λ x h. low x (omega arith)) l))
 
--- the block joins, and its longest child is taken out
+-- the block joins, and its longest child is removed
 pub closed_laid : (steps steps' : List Steps) (start : ℕ) (fs : List Block) (f : Block) → LaidFrom 0 fs f.from → InOrder f → f.child ≡ start
     → start ≤ length steps → IsCutOut f.mid start steps steps' → laid_of steps' f.from fs
 closed_laid steps steps' start fs f l o c b g = let o0 = o.0 in let o1 = o.1 in let o2 = o.2 in let n = g.count_is in (l, omega arith)
@@ -328,7 +328,7 @@ laid_with r r' f e start steps laid =
     let b = laid.start in
     record { blocks = p.0; order = p.1; child = p.2 ∙ sym start; start = omega arith }
 
--- the strand_path with the innermost block apart
+-- the paths with the innermost block outside of the list
 pub strand_path_by : (q : ℕ) (r r' : Paths) (f : Block) → r.blocks.items ≡ r'.blocks.items ++ f ∷ []
     → strand_path q r ≡ make (strand_path q r).now (seen q r.steps.items f ∷ seen_blocks q r.steps.items r'.blocks.items [])
 strand_path_by q r r' f e = ap (make (strand_path q r).now) (ap (λ (x : List Block). seen_blocks q r.steps.items x []) e ∙ seen_blocks-push q r.steps.items r'.blocks.items f [])
@@ -337,7 +337,7 @@ pub fits_with : (q : ℕ) (r r' : Paths) (f : Block) → r.blocks.items ≡ r'.b
     → Fits (all_of (make (strand_path q r).now (seen q r.steps.items f ∷ seen_blocks q r.steps.items r'.blocks.items [])))
 fits_with q r r' f e h = let P : StrandPath → Type 0 = λ t. Fits (all_of t) in subst P (strand_path_by q r r' f e) h
 
--- the ends, by the test
+-- the end of a child, by the test
 pub ends_taken : (q : ℕ) (steps : List Steps) (f : Block) (n : Path) (ps : List SeenBlock) → is_longer f.longest (f.rest + n.weight) ≡ true
     → takes (seen q steps f).base (seen q steps f).rest n ps ≡ ends (make n (seen q steps f ∷ ps))
 ends_taken q steps f n ps e = by_longest f.longest e
@@ -358,6 +358,6 @@ ends_gone q steps f n ps e = by_longest f.longest e
     by_longest None e = cc
     by_longest (Some w) e = sym (ap (λ (b : Bool). chooses b (part q steps f.from f.mid f.base) (part q steps f.mid f.end w) (part q steps f.end f.child f.rest) n ps) e)
 
--- the longest child is chosen where it weighs as much as the rest
+-- the longest child is chosen if it is at least as heavy as the continuation
 pub best_kept : (q : ℕ) (steps : List Steps) (from to w : ℕ) (l : Option ℕ) (n : Path) → l ≡ Some w → n.weight ≤ w → part q steps from to w ≡ best (option_map (part q steps from to) l) n
 best_kept q steps from to w l n e h = sym (takes_first (part q steps from to w) n h) ∙ ap (λ (x : Option ℕ). best (option_map (part q steps from to) x) n) (sym e)

@@ -1,4 +1,4 @@
--- A piece that ran apart is joined on: what is kept is what it would be if the piece's events had come one after another.
+-- A piece that was executed separately joins as if its events had followed.
 use Rattle.std.specs.Prelude.{◌≡◌, ℕ, ◌+◌, ◌≤◌, ◌<◌, Bool, true, false, ◌||◌, not, List, [], ◌∷◌, Some, None, refl}
 use Rattle.std.proofs.Common.{sym, ◌∙◌, ap, subst, inl, inr, arith}
 use Rattle.std.proofs.lemmas.Bool.{cases_lt}
@@ -12,7 +12,7 @@ use Rattle.cw_sites.specs.lemmas.BlockPaths.{takes_later, keeps_longest}
 use Rattle.cw_sites.specs.Laws.{PiecesAreOne}
 use Rattle.cw_sites.specs.lemmas.OpenPaths.{after_all-append, split_all}
 
--- a block goes on by two paths, and by nothing
+-- a block extended by two paths, and by the empty path
 pub extended_twice : (p c : Path) (L : BlockPath) → extended (plus p c) L ≡ extended c (extended p L)
 extended_twice p c (Straight n) = ap Straight (sym (plus-assoc n p c))
 extended_twice p c (Split b l n) = ap (Split b l) (sym (plus-assoc n p c))
@@ -21,13 +21,13 @@ extended_nowhere : (L : BlockPath) → extended nowhere L ≡ L
 extended_nowhere (Straight n) = ap Straight (plus-nowhere_last n)
 extended_nowhere (Split b l n) = ap (Split b l) (plus-nowhere_last n)
 
--- the piece goes on
+-- the piece continues
 joined_more : (c : Path) (L M : BlockPath) → joined_on L (extended c M) ≡ extended c (joined_on L M)
 joined_more c L (Straight m) = extended_twice m c L
 joined_more c L (Split b None n) = ap (λ (p : Path). extended p L) (sym (plus-assoc b n c)) ∙ extended_twice (plus b n) c L
 joined_more c L (Split b (Some d) n) = extended_twice n c (child_ended d (extended b L))
 
--- a later child of the piece is the longest of the piece, or it is not
+-- a later child of the piece becomes its longest, or it does not
 later_child : (b d n c : Path) (L : BlockPath) → d.weight < n.weight + c.weight → child_ended c (extended (plus b n) L) ≡ child_ended c (extended n (child_ended d (extended b L)))
 later_child b d n c (Straight x) h =
     let e : plus x (plus b n) ≡ plus (plus x b) (plus nowhere n) = sym (plus-assoc x b n) ∙ ap (plus (plus x b)) (sym (plus-nowhere_first n)) in
@@ -69,7 +69,7 @@ joined_forked c L (Split b (Some d) n) = elim (cases_lt d.weight (n.weight + c.w
   | inr more ↦ ap (joined_on L) (keeps_longest b d n c more) ∙ shorter_child b d n c L more
 ]
 
--- the piece joins, where nothing before it is to be joined with it
+-- the piece joins, if nothing before it has to be joined
 joined_joins : (x : Path) (M : BlockPath) → joined_on (Straight x) (joined M) ≡ joined (joined_on (Straight x) M)
 joined_joins x (Straight m) = refl
 joined_joins x (Split b None n) = refl
@@ -107,7 +107,7 @@ straight_all site here x M (e ∷ fs) =
     straight_all site here x (after site here M e) fs
     ∙ ap (λ (K : BlockPath). after_all site here K fs) (joined_straight site here x M e)
 
--- THE LAW OF PIECES: a piece without a join, or with joins after a block that has spawned nothing
+-- the law of pieces: without joins, or with joins after a block that has spawned nothing
 pub piece_joined : (site here : ℕ) (first : Bool) (L : BlockPath) (fs : List Event) → is_split L ≡ not first → (first || no_joins fs) ≡ true
     → joined_on L (after_all site here (Straight nowhere) fs) ≡ after_all site here L fs
 piece_joined site here true (Straight x) fs s n = straight_all site here x (Straight nowhere) fs ∙ ap (λ (p : Path). after_all site here (Straight p) fs) (plus-nowhere_last x)

@@ -1,4 +1,4 @@
--- A strand_path shows a run so far with a piece that ran apart joined on.
+-- The paths of a strand represent a run so far after a separately executed piece was joined.
 use Rattle.std.specs.Prelude.{◌≡◌, ℕ, Bool, true, false, ◌||◌, not, List, [], ◌∷◌, ◌++◌, Option, Some, None, refl}
 use Rattle.std.proofs.Common.{sym, ◌∙◌, subst}
 use Rattle.cw_model.specs.Trees.{Event}
@@ -33,7 +33,7 @@ forked_at below false c L t s h = at below c L t.now t.blocks s h.now_is h.block
         let P : Path → Type 0 = λ x. ShowsLocal below (child_ended c (Split b l m)) (ends (record { now = x; blocks = record { base = p.base; longest = p.longest; rest = n } ∷ ps })) in
         subst P (sym (plus-nowhere_first c)) (ends_places below (Split b l m) c (record { base = p.base; longest = p.longest; rest = n } ∷ ps) r)
 
--- a piece, in what it keeps of its block
+-- the paths of a piece's block
 abbrev is_none : List SeenBlock → Type 0
 is_none ps = ps ≡ []
 
@@ -63,7 +63,7 @@ block_append : (site base : ℕ) (os : List Open) (es fs : List Event) → block
 block_append site base [] es fs = after_all-append site base (Straight nowhere) es fs
 block_append site base (o ∷ os) es fs = after_all-append site (here_in base (o ∷ os)) (enters o.spawned (block_path site base os o.outer)) es fs
 
--- a piece that ran apart goes on with the block that runs
+-- a piece that was executed separately continues the current block
 pub shows_piece : (site base : ℕ) (os : List Open) (es fs : List Event) (t u : StrandPath) (first : Bool) → has_spawned es ≡ not first
     → (first || no_joins fs) ≡ true → Shows site base os es t → Shows site (here_in base os) [] fs u → Shows site base os (es ++ fs) (appends first u t)
 shows_piece site base os es fs t u first s n h g =

@@ -1,4 +1,4 @@
--- Rows by site number: those of two pieces, joined.
+-- Rows by site number, and the join of two pieces.
 use Rattle.std.proofs.Common.{◌≡◌, ℕ, ◌+◌, ◌*◌, ◌<◌, ◌≤◌, ◌==◌, max, zero, suc, ◌∷◌, ◌++◌, Bool, true, false, if◌then◌else◌, List, [], length, get_or, set, refl, sym, ap, subst, ◌∙◌, inl, inr, arith}
 use Rattle.std.proofs.lemmas.Bool.{cases_lt}
 use Rattle.std.proofs.lemmas.Bool.Decides.{nat_tests}
@@ -19,7 +19,7 @@ summed_none : (r : Row) → summed r zero_row ≡ r
 summed_none r = let a : r.calls + 0 ≡ r.calls = omega arith in let b : r.own + 0 ≡ r.own = omega arith in let z = unless_nothing (r.active == 0) in
     let c : r.work + unless_at (r.active == 0) 0 ≡ r.work = omega arith in let d : r.span + unless_at (r.active == 0) 0 ≡ r.span = omega arith in simp (a, b, c, d)
 
--- what is kept of a site beyond the first ones
+-- the entry of a site outside of the vector
 page_item : (further : Pages Kept) (q : ℕ) → further_of further q ≡ item none_kept further q
 unfolding further_of
 page_item further q = refl
@@ -27,12 +27,12 @@ page_item further q = refl
 pub kept_further : (rows : Rows) (q : ℕ) → length rows.by_site.items ≤ q → kept_of rows q ≡ item none_kept rows.further q
 kept_further rows q past = get_or_past rows.by_site.items q (further_of rows.further q) past ∙ page_item rows.further q
 
--- what is kept of each site stays, and so many are among the first ones
+-- the entries are unchanged, and the vector has this many sites
 pub record IsReached (old now : Rows) (count : ℕ) : Type 0 where
   pub same : (q : ℕ) → kept_of now q ≡ kept_of old q
   pub count_is : length now.by_site.items ≡ count
 
--- one more comes to the first ones, as it was
+-- one more site moves to the vector, unchanged
 pub kept_pushed : (xs ys : List Kept) (x : Kept) (further : Pages Kept) → ys ≡ xs ++ x ∷ [] → x ≡ item none_kept further (length xs) → (q : ℕ)
     → get_or ys q (further_of further q) ≡ get_or xs q (further_of further q)
 kept_pushed xs ys x further is at q =
@@ -50,7 +50,7 @@ kept_pushed xs ys x further is at q =
         let l : n + suc (length zs) ≡ suc n + length zs = omega arith in
         ap (λ (m : ℕ). get_or (zs ++ x ∷ []) k (further_of further m)) s ∙ pushed zs (suc n) k (e ∙ ap (item none_kept further) l) ∙ sym (ap (λ (m : ℕ). get_or zs k (further_of further m)) s)
 
--- a site has something kept in its page, and among the first ones
+-- an entry is set in a page, for a site outside of the vector
 pub kept_in_page : (by_site : List Kept) (old new : Pages Kept) (place : ℕ) (kept : Kept) → length by_site ≤ place
     → Gives none_kept old new place kept → (q : ℕ) → get_or by_site q (further_of new q) ≡ (if place == q then kept else get_or by_site q (further_of old q))
 kept_in_page by_site old new place kept past g q = elim (cases_lt q (length by_site)) [
@@ -75,14 +75,14 @@ kept_here xs place kept others less q = elim (cases_lt place q) [
   ]
 ]
 
--- a site that is past the first rows, and that no page has
+-- a site outside of the vector and of all pages
 free_row : (rows : Rows) (q : ℕ) → length rows.by_site.items ≤ q → item none_kept rows.further q ≡ none_kept → row_of rows q ≡ zero_row
 free_row rows q past none = ap (λ (x : Kept). x.row) (kept_further rows q past ∙ none)
 
 pub empty_rows : (by_site : List Kept) (further : Pages Kept) → by_site ≡ [] → ((k : ℕ) → item none_kept further k ≡ none_kept) → (q : ℕ) → (get_or by_site q (further_of further q)).row ≡ zero_row
 empty_rows by_site further e none q = let n = ap length e in ap (λ (x : Kept). x.row) (get_or_past by_site q (further_of further q) (omega arith) ∙ page_item further q ∙ none q)
 
--- no row is added yet, and one more is
+-- no row is added yet, and one more row is added
 pub none_joined : (piece ours : Rows) → JoinsBelow piece 0 ours ours
 none_joined piece ours = record { within = λ q less fits. absurd (omega arith); beyond = λ q more. refl }
 
@@ -112,7 +112,7 @@ rows_skipped piece ours now a b order free h = record {
   beyond = λ q more. h.beyond q (omega arith);
 }
 
--- beside the piece's first rows, which were added
+-- the rows outside of the piece's vector
 pub on_none : (piece old : Rows) (a b : ℕ) → a ≡ b → JoinsOn piece a b old old
 on_none piece old a b e = λ ours h.
     let B : ℕ → Type 0 = λ n. JoinsBelow piece (max (length piece.by_site.items) n) ours old in
@@ -149,7 +149,7 @@ pub on_rest_free : (piece old : Rows) (shelf page : ℕ) → page ≤ 32 → Has
 on_rest_free piece old shelf page less none = on_skip piece old (shelf * 2048 + page * 64) (shelf * 2048 + 2048) (omega arith)
     (λ q past from to. let at = on_pages_from shelf page q from to in free_row piece q past (none none_kept q at.0 at.1))
 
--- all shelves have been added
+-- all shelves were added
 pub all_joined : (piece old new : Rows) (shelf shelves : ℕ) → shelf ≡ shelves → HasNoShelfFrom piece.further shelves → JoinsOn piece 0 (shelf * 2048) old new → JoinsFurther piece old new
 all_joined piece old new shelf shelves is none on = λ ours h q fits.
     let l = length piece.by_site.items in
@@ -161,7 +161,7 @@ all_joined piece old new shelf shelves is none on = λ ours h q fits.
       | inr more ↦ j.beyond q more ∙ sym (summed_none (row_of ours q)) ∙ ap (summed (row_of ours q)) (sym (free_row piece q (omega arith) (none none_kept q (on_shelves_from shelves q (omega arith)))))
     ]
 
--- rows that are the same are read alike
+-- equal rows have equal readings
 read_same : (r s : Row) → r ≡ s → IsReadAs r s
 read_same r s e = record {
   calls = ap (λ (x : Row). x.calls) e;

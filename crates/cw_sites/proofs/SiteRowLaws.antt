@@ -1,4 +1,4 @@
--- A row counts a run so far, and the calls of a run keep it so.
+-- A row represents a run so far, and each step of a run preserves this.
 use Rattle.std.specs.Prelude.{◌≡◌, ℕ, ◌+◌, ◌==◌, Bool, true, false, List, [], ◌∷◌, ◌++◌, refl}
 use Rattle.std.proofs.Common.{sym, ◌∙◌, ap, subst, arith}
 use Rattle.cw_model.specs.Trees.{Event, Work, Join, work, span}
@@ -14,7 +14,7 @@ use Rattle.cw_sites.specs.OpenPaths.{here_in, path_in}
 use Rattle.cw_sites.specs.SiteRows.{worked, entered_at, entered, left_at, left, own_tree, work_tally, span_tally, CountsSite}
 use Rattle.cw_sites.specs.lemmas.SiteRows.{path_meters, calls_adds, own_leaf, own_nothing, own_adds, calls_more, own_more, left_calls, left_own}
 
--- the block that runs goes on by so many instructions
+-- the current block continues with instructions
 pub row_work : (site base busy : ℕ) (os : List Open) (es : List Event) (r : Row) (k : ℕ) → CountsSite site base busy os es r
     → CountsSite site base busy os (es ++ Work k ∷ []) (worked (steps_of site (here_in base os) k).own r)
 row_work site base busy os es r k h = record {
@@ -32,7 +32,7 @@ row_join site base busy os es r h = record {
   span_is = counts_join span (path_in site base) (is_site site) busy os es (span_tally r) h.span_is;
 }
 
--- the tallies of a row that an invocation begins or ends
+-- the tallies of a row after the start and the end of an invocation
 begun_work : (first : Bool) (count path : ℕ) (r : Row) → begun_at first count (work_tally r) ≡ work_tally (entered_at first count path r)
 begun_work true count path r = refl
 begun_work false count path r = refl

@@ -1,4 +1,4 @@
--- The first so many steps of a list that was changed.
+-- The instructions in the first steps of a list after a change.
 use Rattle.std.specs.Prelude.{◌≡◌, ℕ, zero, suc, ◌+◌, ◌-◌, ◌^◌, ◌≤◌, ◌<◌, ◌==◌, min, Bool, true, false, if◌then◌else◌, List, [], ◌∷◌, ◌++◌, length, take, drop, refl}
 use Rattle.std.proofs.Common.{sym, ◌∙◌, ap, set, get_or, arith}
 use Rattle.cw_sites.specs.declared.steps.Steps.{Steps}
@@ -45,7 +45,7 @@ upto_all-set q [] i y d h = absurd (omega arith)
 upto_all-set q (x ∷ xs) zero y d h = omega arith
 upto_all-set q (x ∷ xs) (suc i) y d h = let k = upto_all-set q xs i y d (omega arith) in omega arith
 
--- without the first b
+-- without the first `b` steps
 pub upto-drop : (q : ℕ) (xs : List Steps) (b n : ℕ) → upto q (drop b xs) n + upto q xs b ≡ upto q xs (n + b)
 upto-drop q [] zero n = refl
 upto-drop q [] (suc b) n = refl
@@ -55,7 +55,7 @@ upto-drop q (x ∷ xs) (suc b) n = let i = upto-drop q xs b n in let z : n + suc
 abbrev pub steps_if : Bool → ℕ → ℕ
 steps_if b k = if b then k else 0
 
--- the last steps, and those before them
+-- the last step, and the steps before it
 pub upto-last : (q : ℕ) (xs : List Steps) (i : ℕ) (d : Steps) → suc i ≡ length xs → upto q xs i + if_site q (get_or xs i d).site (get_or xs i d).count ≡ whole q xs
 upto-last q [] i d h = absurd (omega arith)
 upto-last q (x ∷ []) zero d h = omega arith
@@ -63,7 +63,7 @@ upto-last q (x ∷ []) (suc i) d h = absurd (omega arith)
 upto-last q (x ∷ y ∷ xs) zero d h = absurd (omega arith)
 upto-last q (x ∷ y ∷ xs) (suc i) d h = let k = upto-last q (y ∷ xs) i d (omega arith) in omega arith
 
--- a step more
+-- one more step
 pub upto-next : (q : ℕ) (xs : List Steps) (i : ℕ) (d : Steps) → i < length xs → upto q xs (i + 1) ≡ upto q xs i + if_site q (get_or xs i d).site (get_or xs i d).count
 upto-next q [] i d h = absurd (omega arith)
 upto-next q (x ∷ xs) zero d h = let z = upto-zero q xs in omega arith
@@ -74,7 +74,7 @@ by_site : (b : Bool) (before all new old count sum : ℕ) → new + steps_if b o
 by_site true before all new old count sum e f g h = let m = h (omega arith) in omega arith
 by_site false before all new old count sum e f g h = omega arith
 
--- steps of the same site that are there become more
+-- steps of the same site that exist grow
 pub upto-more : (q : ℕ) (xs : List Steps) (i start : ℕ) (s : Steps) (site count sum : ℕ) → i < length xs → start ≤ i → s ≡ get_or xs i s
     → s.site ≡ site → (s.count + count < 2 ^ 64 → sum ≡ s.count + count) → (whole q xs - upto q xs start) + if_site q site count < 2 ^ 64
     → whole q (set xs i (record { site = site; count = sum })) ≡ whole q xs + if_site q site count
@@ -101,7 +101,7 @@ own_next q xs start i to s sum next le lt within g e small n =
     let t = upto-mono q xs (i + 1) to within in
     next_by (s.site == q) s.count sum next (upto q xs i) (upto q xs start) (upto q xs (i + 1)) (omega arith) e m (omega arith) n
 
--- one step is put in the place of another: up to it, and past it
+-- a step is replaced by another: the sums up to it, and past it
 pub upto_to-set : (q : ℕ) (xs : List Steps) (i : ℕ) (y : Steps) → i < length xs → upto q (set xs i y) (i + 1) ≡ upto q xs i + if_site q y.site y.count
 upto_to-set q [] i y h = absurd (omega arith)
 upto_to-set q (x ∷ xs) zero y h = let z = upto-zero q xs in omega arith

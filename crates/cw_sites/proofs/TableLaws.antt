@@ -1,4 +1,4 @@
--- A table tells of a run so far, and its calls keep it so.
+-- A table represents a run so far, and each step of a run preserves this.
 use Rattle.std.specs.Prelude.{◌≡◌, ℕ, ◌+◌, ◌-◌, ◌^◌, ◌==◌, ◌<◌, Bool, true, false, not, List, [], ◌∷◌, ◌++◌, Option, Some, refl, ◌*◌}
 use Rattle.std.proofs.Common.{sym, ◌∙◌, ap, subst, arith}
 use borrow.Author.Tests.{eqb-true}
@@ -57,7 +57,7 @@ small_closed busy o os es small = record {
   active = λ q. let a = small.active q in omega arith;
 }
 
--- a table and a path of each site tell of a run, where so many instructions wait to be given to a site
+-- the row and path of a site represent a run, with `k` instructions still to be attributed to a site
 abbrev pub given_row : (q here k : ℕ) → Row → Row
 given_row q here k r = worked (steps_of q here k).own r
 
@@ -98,7 +98,7 @@ pub record Both (q base busy : ℕ) (os : List Open) (es : List Event) (r : Row)
   pub counts : CountsSite q base busy os es r
   pub shows : Shows q base os es t
 
--- what both say after the events since the last call
+-- the row and path after the events since the last call
 abbrev BothAfter : (q base busy : ℕ) → List Open → Row → StrandPath → List Event → ℕ → Type 0
 BothAfter q base busy os r t es n = Both q base busy os es (given_row q (here_in base os) n r) (given_strand_path q (here_in base os) n t)
 
@@ -188,7 +188,7 @@ table_entered base busy os es old new b site path small h p f s l = record {
   here_is = f.here_is;
 }
 
--- it ends
+-- an invocation ends
 left_row : (own : Bool) (base : ℕ) (busy : ℕ → ℕ) (os : List Open) (before es : List Event) (old new : SiteTable) (b : Bool) (site outer q : ℕ)
     → (old.here == q) ≡ own → has_spawned es ≡ false → Small busy (record { spawned = b; mark = Some (Invocation site); outer = before } ∷ os) es
     → Tells base busy (record { spawned = b; mark = Some (Invocation site); outer = before } ∷ os) es old → RowLeft old new outer
@@ -238,7 +238,7 @@ table_joined base busy os es old new n small h l f r m k = record {
   here_is = k ∙ h.here_is;
 }
 
--- where no instruction is to be given to a site, nothing is flushed
+-- if no instruction is to be attributed, a flush changes nothing
 pub flushed_none : (t : SiteTable) (count : ℕ) → t.noted ≡ count → Flushed t t count
 flushed_none t count e =
     let none : 0 ≡ count - t.noted = omega (arith, e) in
@@ -250,7 +250,7 @@ flushed_none t count e =
       here_is = refl;
     }
 
--- the public calls
+-- The public methods.
 
 pub call_begins : (base : ℕ) (busy : ℕ → ℕ) (os : List Open) (es fs : List Event) (old mid new : SiteTable) (count site : ℕ)
     → Since old.noted count es fs → Small busy (called site (es ++ fs) os) [] → Tells base busy os es old → Flushed old mid count
@@ -348,7 +348,7 @@ pub record ReadsRow (row : Row) (own : ℕ) (of : SiteRow) : Type 0 where
   pub work : row.work ≡ of.work
   pub span : row.span ≡ of.span
 
--- the row of a site, once all has ended
+-- the row of a site after the end of the run
 pub row_read : (site : ℕ) (busy : ℕ → ℕ) (es : List Event) (table : SiteTable) → busy site ≡ 0 → has_spawned es ≡ false → Small busy [] es
     → Tells 0 busy [] es table → (own : ℕ) → (Laid table.paths → (strand_path site table.paths).now.own < 2 ^ 64
     → own ≡ (strand_path site table.paths).now.own) → ReadsRow (row_of table.rows site) own (site_row site (tree_of es))
@@ -366,7 +366,7 @@ row_read site busy es table idle n small h own o =
       span = counts_read span (path_in site 0) (is_site site) (busy site) es (span_tally (row_of table.rows site)) idle r.span_is;
     }
 
--- half of a loop begins and ends
+-- the half of a loop begins and ends
 abbrev with_paths : SiteTable → Paths → SiteTable
 with_paths t p = record { rows = t.rows; paths = p; noted = t.noted; here = t.here }
 
@@ -408,14 +408,14 @@ half_ends base busy mark os before es fs old mid paths count quiet since n small
       here_is = m.here_is ∙ quiet_inside mark (here_in base os) quiet;
     }
 
--- a table whose paths are another's is bounded with it
+-- a table with equal paths has the same bound
 pub bounded_by : (most : ℕ) (old new : SiteTable) (site : ℕ) → new.paths ≡ old.paths → new.here ≡ site → site < most → IsTightTable most old → IsTightTable most new
 bounded_by most old new site p e less h = let P : Paths → Type 0 = IsTight most in record { paths = subst P (sym p) h.paths; here = omega arith }
 
 pub tight_bounded : (most : ℕ) (table : SiteTable) → IsTightTable most table → IsBoundedTable most table
 tight_bounded most table h = record { paths = looser (most_steps most + 1) (2 * (most_steps most + 1)) most table.paths (omega arith) h.paths; here = h.here }
 
--- the instructions so far are given to their sites without adding up: of a path within its limit, and of any
+-- a flush without merging, for a path within its limit and for any path
 pub flushed_within : (most : ℕ) (old new : SiteTable) → IsWithinLimit old.paths → GrowsWithin old.here old.paths new.paths → new.here ≡ old.here
     → IsBoundedTable most old → IsTightTable most new
 flushed_within most old new le grows e h =

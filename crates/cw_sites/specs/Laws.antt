@@ -13,7 +13,7 @@ use Rattle.cw_sites.specs.ChosenPaths.{Path, nowhere, path_of, plus, steps_of, c
 use Rattle.cw_sites.specs.StrandPaths.{StrandPath, begins, again, ends, joins}
 use Rattle.cw_sites.specs.OpenPaths.{here_in, path_in, Shows}
 
--- the calls of a run keep a strand_path that shows it, for each site; at its end the strand_path is the chosen path
+-- each step of a run preserves a path that represents the run, for each site; at the end it is the chosen path
 pub record RunsAreShown (site base : ℕ) : Type 0 where
   pub work : (os : List Open) (es : List Event) (t : StrandPath) (k : ℕ) → Shows site base os es t
       → Shows site base os (es ++ Work k ∷ [])
@@ -38,15 +38,13 @@ pub record RunsAreShown (site base : ℕ) : Type 0 where
   pub end : (es : List Event) (t : StrandPath) → has_spawned es ≡ false → Shows site base [] es t
       → t.now ≡ chosen site base (tree_of es)
 
--- what is kept of a block adds the chosen path of the block's tree to what came before; that path is the one of the
--- model
+-- the paths of a block add the chosen path of the block's tree to the path before; it is the chosen path of the model
 pub record BlocksReadChosenPaths : Type 0 where
   pub blocks : (site here : ℕ) (before : Path) (es : List Event)
       → finished (after_all site here (Straight before) es) ≡ plus before (chosen site here (tree_of es))
   pub leaves : (site here : ℕ) (t : Tree) → path_of site (chosen_leaves here t) ≡ chosen site here t
 
--- a piece without a join, or one with joins after a block that has spawned nothing: joined on, it is what would be kept
--- if its events had come one after another
+-- a piece without joins, or with joins after a block that has spawned nothing, joins as if its events had followed
 abbrev pub PiecesAreOne : Type 0
 PiecesAreOne =
     (site here : ℕ) (first : Bool) (before : Path) (es fs : List Event) → has_spawned es ≡ not first
@@ -54,21 +52,21 @@ PiecesAreOne =
     → joined_on (after_all site here (Straight before) es) (after_all site here (Straight nowhere) fs)
     ≡ after_all site here (Straight before) (es ++ fs)
 
--- the weight of the path that runs grows along a part, whose block has joined, by the part's span
+-- over a part whose block has joined, the weight of the current path grows by the part's span
 abbrev pub PathsAreMetered : Type 0
 PathsAreMetered = (site base : ℕ) → Meters span (path_in site base)
 
--- parts that are no invocation begin and end in series without a call of the table, once the instructions so far are
--- noted
+-- parts that are not invocations begin and end in series without a call of the table, once the instructions so far
+-- are noted
 abbrev pub QuietPartsNeedNoCall : Type 0
 QuietPartsNeedNoCall = (base : ℕ) (busy : ℕ → ℕ) (os : List Open) (table : SiteTable) → QuietParts base busy os table
 
+-- for every site, `RunsAreShown` holds
 abbrev pub AllRunsAreShown : Type 0
 AllRunsAreShown = (site base : ℕ) → RunsAreShown site base
 
--- all steps of paths that a bounded table keeps: three paths for each open block that has spawned, and two for the
--- strand
--- that runs
+-- the number of steps in a bounded table: at most three paths for each open block that has spawned, and two for the
+-- current strand
 abbrev pub PathsAreFew : Type 0
 PathsAreFew =
     (most : ℕ) (table : SiteTable) → IsBoundedTable most table

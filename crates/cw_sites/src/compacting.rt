@@ -1,4 +1,4 @@
-//! Steps of the same sites, added up, so that a path has at most as many steps as there are sites.
+//! Merging of steps by site, so that a path has at most as many steps as there are sites.
 
 ghost use Rattle.std.specs.Prelude.{◌≡◌, ◌+◌, ◌≤◌, ◌<◌, ◌^◌, ℕ, length, IfOk, OnOk};
 ghost use Rattle.cw_sites.specs.Compacting.{AddsTo, AddsUpWithin, CountsOn, EndsWithinSites, GathersIn, IsGathered, NoMoreThanSites, StaysWithin, SumsUpWithin};
@@ -8,8 +8,12 @@ use crate::steps::{Steps, take_out};
 use cw_pages::Table;
 use std::alloc::AllocError;
 
-/// Adds up, by site, the steps from a place up to another, or up to the end; gives the place where they end then. Takes
-/// memory for the sites that they are of, and lets it go.
+/// Merges the steps from one place up to another, or up to the end, by site. Returns the place where they then end.
+/// Takes memory for the sites of these steps, and releases it.
+///
+/// # Errors
+///
+/// Returns an `AllocError` if memory runs out.
 pub fn add_up(steps: &mut Vec<Steps>, from: usize, to: usize) -> Result<usize, AllocError>
     ensures all { IfOk result (λ end. AddsUpWithin from to steps.old.items steps.new.items end) }
     ensures short { IfOk result (λ end. EndsWithinSites from steps.old.items end) }
@@ -25,7 +29,8 @@ pub fn add_up(steps: &mut Vec<Steps>, from: usize, to: usize) -> Result<usize, A
     Ok(end)
 }
 
-// Each site's steps from a place up to another come to be one, from that place on; gives the place where these end.
+// Merges each site's steps from one place up to another into one, from the first place on. Returns the place where
+// they end.
 fn gather(steps: &mut Vec<Steps>, from: usize, to: usize) -> Result<usize, AllocError>
     requires order { from ≤ to }
     requires within { to ≤ length steps.old.items }
@@ -40,8 +45,8 @@ fn gather(steps: &mut Vec<Steps>, from: usize, to: usize) -> Result<usize, Alloc
     Ok(end)
 }
 
-// The step at a place `i` comes to those before it, which end at `end`: to the one of its site, whose place is kept in
-// `places`, or behind them all. Gives the place where they end.
+// Adds the step at the place `i` to the merged steps, which end at `end`: to the step of its site, whose place is in
+// `places`, or after all of them. Returns the place where they end.
 #[inline(always)]
 fn gather_one(
     steps: &mut Vec<Steps>,
@@ -69,7 +74,11 @@ fn gather_one(
     Ok(end + 1)
 }
 
-/// The sum of each site over the steps from a place up to another.
+/// Replaces `sums` by the sum of each site over the steps from one place up to another.
+///
+/// # Errors
+///
+/// Returns an `AllocError` if memory runs out. The sums are then incomplete.
 pub fn sum_up(
     steps: &Vec<Steps>,
     from: usize,
@@ -89,7 +98,7 @@ pub fn sum_up(
     Ok(())
 }
 
-// So much more for a site.
+// Adds `count` to the sum of a site.
 fn add_to(sums: &mut Vec<u64>, site: u32, count: u64) -> Result<(), AllocError>
     ensures sums { OnOk result (AddsTo site count sums.old.items sums.new.items) }
     ensures longest { OnOk result (StaysWithin site sums.old.items sums.new.items) }
@@ -101,7 +110,7 @@ fn add_to(sums: &mut Vec<u64>, site: u32, count: u64) -> Result<(), AllocError>
     Ok(())
 }
 
-// Room for the sum of this site: sums that were missing are 0.
+// Extends the sums to this site; missing sums are 0.
 fn reach(sums: &mut Vec<u64>, site: u32) -> Result<(), AllocError>
     ensures same { OnOk result ((q : ℕ) → sum_at q sums.new.items ≡ sum_at q sums.old.items) }
     ensures within { OnOk result (site < length sums.new.items) }

@@ -1,12 +1,12 @@
-//! The path of the strand that runs, and of the blocks round it that have spawned.
+//! The path of the current strand, and the paths of the enclosing blocks that have spawned.
 //!
-//! The steps of all paths lie in one list, one path behind the other, and those of one path are in no order. So what is
-//! taken out of the middle is filled from the end: at most twice as many steps move as are let go of (`WritesWithin`).
-//! Steps of a site are added to those that were put last for it, where these still lie in the path that runs: so a path
-//! of calls in place has few steps for each of its sites. A path longer than its limit, which is twice the sites of the
-//! paths that were added up so far and a constant, is added up by site, and then has at most half of that: the path of
-//! the strand that runs before a step is put to it, and a block's base where it takes a rest in. So each step that is
-//! put pays for its moves and its adding up once, whatever the length of the paths that are joined.
+//! The steps of all paths are in one list, path after path, and the steps of one path have no order. So a gap in the
+//! middle is filled from the end: at most twice as many steps move as are dropped (`WritesWithin`). New steps of a
+//! site are added to its last steps if these are still in the current path, so a path of plain calls has few steps
+//! for each site. If a path is longer than its limit (a constant plus twice the number of sites of the paths that
+//! were merged so far), its steps are merged by site, and it then has at most half of the limit. This is checked for
+//! the current path before a step is added to it, and for the base of a block when it takes a continuation in. So
+//! each step pays once for its moves and its merge, for paths of any length that are joined.
 
 ghost use Rattle.std.specs.Prelude.{◌≡◌, ℕ, ◌+◌, ◌-◌, ◌^◌, ◌<◌, ◌≤◌, ◌==◌, true, length, min, if◌then◌else◌, IfOk, OnOk};
 ghost use Rattle.std.specs.Vec.{vec_len, vec_capacity};
@@ -25,14 +25,14 @@ use crate::compacting::{add_up, sum_up};
 use crate::steps::{Steps, add_steps, close_up, grow_steps, has_steps, take_out};
 use std::alloc::{AllocError, Global};
 
-/// A block that has spawned since its last join: weights of paths, and where their steps lie in the list.
+/// A block that has spawned since its last join: the weights of its paths, and the places of their steps in the list.
 #[derive(Clone, Copy, Debug)]
 pub struct Block {
-    /// The path up to the spawn of the longest child: its steps lie from `from` to `mid`.
+    /// The path up to the spawn of the longest child; its steps are from `from` to `mid`.
     pub base: u64,
-    /// The longest child that has ended, from its spawn on: from `mid` to `end`.
+    /// The longest child that has ended, from its spawn on; its steps are from `mid` to `end`.
     pub longest: Option<u64>,
-    /// While a child runs, the path from that spawn to the child's: from `end` to `child`.
+    /// While a child runs: the path from that spawn to the child's spawn; its steps are from `end` to `child`.
     pub rest: u64,
     pub from: usize,
     pub mid: usize,
@@ -40,26 +40,26 @@ pub struct Block {
     pub child: usize,
 }
 
-/// The chosen path so far, in parts of which none is copied.
+/// The chosen path so far, in parts that are never copied.
 #[derive(Debug, Drop)]
 pub struct Paths {
-    /// The steps of all paths, those of the strand that runs last.
+    /// The steps of all paths; the current strand's path is the last.
     pub steps: Vec<Steps>,
-    /// The weight of the path of the strand that runs, from its beginning, or from the spawn of the longest child on.
+    /// The weight of the current strand's path, from its start or from the spawn of the longest child.
     pub weight: u64,
-    /// Where its steps begin.
+    /// The place where the steps of this path begin.
     pub start: usize,
     /// The blocks that have spawned, the innermost last.
     pub blocks: Vec<Block>,
-    /// How many steps a path may have before those of the same sites are added up.
+    /// The number of steps that a path may have before steps of equal sites are merged.
     pub limit: usize,
 }
 
-// How many steps a path may have at first, and beside twice the sites.
+// The initial limit of a path, and the constant that is added to twice the number of sites.
 const LEAST: usize = 64;
 
 impl Paths {
-    /// A path of nothing. Takes no memory.
+    /// Returns the empty path. Allocates no memory.
     pub fn new(alloc: Global) -> Paths
         ensures laid { Laid result }
         ensures nothing { (q : ℕ) → strand_path q result ≡ nothing_run }
@@ -74,8 +74,12 @@ impl Paths {
         }
     }
 
-    /// So many instructions of a site more. `place` is where its steps were put before, or any other number; where these
-    /// are put elsewhere, that place is given.
+    /// Adds `count` instructions of a site. `place` is the place of the site's last steps, or any other number.
+    /// Returns the place of the new steps if they are elsewhere.
+    ///
+    /// # Errors
+    ///
+    /// Returns an `AllocError` if memory runs out.
     #[inline(always)]
     pub fn extend(
         &mut self,
@@ -93,7 +97,7 @@ impl Paths {
         Ok(at)
     }
 
-    // The same, however long the path is.
+    // Adds `count` instructions of a site, like `extend`, to a path of any length.
     #[inline(always)]
     fn add(&mut self, place: usize, site: u32, count: u64) -> Result<Option<usize>, AllocError>
         ensures laid { OnOk result (Laid self.old → Laid self.new) }
@@ -108,16 +112,16 @@ impl Paths {
         Ok(at)
     }
 
-    /// Whether the path that runs is within its limit.
+    /// Returns whether the current path is within its limit.
     #[inline(always)]
     pub fn is_within_limit(&self) -> bool
         ensures { result ≡ true → IsWithinLimit self.now }
     {
-        // As in `shorten`.
+        // `shorten` has the same comparison.
         self.steps.len() <= self.start.wrapping_add(self.limit)
     }
 
-    /// Whether that is so, and there is room for steps more.
+    /// Returns whether the current path is within its limit and there is room for more steps.
     #[inline(always)]
     pub fn has_room(&self) -> bool
         ensures { result ≡ true → HasRoom self.now }
@@ -128,7 +132,7 @@ impl Paths {
         false
     }
 
-    /// Whether the path that runs has steps of a site at this place.
+    /// Returns whether the current path has steps of this site at this place.
     #[inline(always)]
     pub fn has_steps(&self, place: usize, site: u32) -> bool
         ensures { result ≡ true → HasSteps self.now.start place site self.now.steps.items }
@@ -136,7 +140,7 @@ impl Paths {
         has_steps(&self.steps, self.start, place, site)
     }
 
-    /// So many instructions more of the site whose steps lie at this place in the path that runs.
+    /// Adds `count` instructions to the steps at this place in the current path.
     #[inline(always)]
     pub fn grow(&mut self, place: usize, count: u64)
         requires within { place < length self.old.steps.items }
@@ -151,7 +155,7 @@ impl Paths {
         self.weight = self.weight.wrapping_add(count);
     }
 
-    /// So many instructions of a site more, as steps of their own, where there is room. Gives their place.
+    /// Adds `count` instructions of a site as new steps, for which there must be room. Returns their place.
     #[inline(always)]
     pub fn put(&mut self, site: u32, count: u64) -> usize
         requires { HasRoom self.old }
@@ -167,7 +171,7 @@ impl Paths {
         place
     }
 
-    // The path that runs is added up by site where it is longer than its limit.
+    // Merges the steps of the current path by site if it is longer than its limit.
     #[inline(always)]
     fn shorten(&mut self) -> Result<(), AllocError>
         ensures laid { OnOk result (Laid self.old → Laid self.new) }
@@ -175,7 +179,7 @@ impl Paths {
         ensures short { OnOk result (IsWithinLimit self.new) }
         ensures bounded { OnOk result (ComesToFit self.old self.new) }
     {
-        // A sum that is too great is less than it was, so that no path is longer for it.
+        // If the sum wraps around, it is smaller, so no longer path is let through.
         let end = self.steps.len();
         if end > self.start.wrapping_add(self.limit) {
             self.compact(self.start, end)?;
@@ -183,7 +187,7 @@ impl Paths {
         Ok(())
     }
 
-    // The steps from a place up to another are added up by site. Gives the place where they end then.
+    // Merges the steps from one place up to another by site. Returns the place where they end.
     #[cold]
     #[inline(never)]
     fn compact(&mut self, from: usize, to: usize) -> Result<usize, AllocError>
@@ -201,7 +205,11 @@ impl Paths {
         Ok(end)
     }
 
-    /// A block's first spawn since its last join.
+    /// Begins the first spawned part of a block since its last join.
+    ///
+    /// # Errors
+    ///
+    /// Returns an `AllocError` if memory runs out.
     #[inline(always)]
     pub fn begin(&mut self) -> Result<(), AllocError>
         ensures laid { OnOk result (Laid self.old → Laid self.new) }
@@ -223,7 +231,7 @@ impl Paths {
         Ok(())
     }
 
-    /// Whether there is room for a block.
+    /// Returns whether there is room for a block.
     #[inline(always)]
     pub fn has_room_for_block(&self) -> bool
         ensures { result ≡ true → HasRoomForBlock self.now }
@@ -231,7 +239,7 @@ impl Paths {
         self.blocks.len() < self.blocks.capacity()
     }
 
-    /// As `begin`, where there is room for a block.
+    /// Begins the first spawned part of a block since its last join, like `begin`. There must be room for a block.
     #[inline(always)]
     pub fn begin_within(&mut self)
         requires { HasRoomForBlock self.old }
@@ -253,7 +261,11 @@ impl Paths {
         self.start = len;
     }
 
-    /// A further spawn of the innermost block that has spawned.
+    /// Begins a further spawned part of the innermost block that has spawned.
+    ///
+    /// # Errors
+    ///
+    /// Returns an `AllocError` if memory runs out.
     #[inline(always)]
     pub fn begin_again(&mut self) -> Result<(), AllocError>
         ensures laid { OnOk result (Laid self.old → Laid self.new) }
@@ -268,7 +280,7 @@ impl Paths {
                 Ok(())
             }
             Some(f) => {
-                // Nothing, where the child before has ended.
+                // Removes nothing if the child before has ended.
                 take_out(&mut self.steps, f.end, f.child);
                 let len = self.steps.len();
                 self.blocks.push_reserved(Block {
@@ -287,7 +299,11 @@ impl Paths {
         }
     }
 
-    /// A spawn: the first of its block since the last join, or a further one.
+    /// Begins a spawned part: the first of its block since the last join, or a further one.
+    ///
+    /// # Errors
+    ///
+    /// Returns an `AllocError` if memory runs out.
     #[inline(always)]
     pub fn spawn(&mut self, first: bool) -> Result<(), AllocError>
         ensures laid { OnOk result (Laid self.old → Laid self.new) }
@@ -303,7 +319,11 @@ impl Paths {
         }
     }
 
-    /// The spawned child that ran has ended.
+    /// Ends the current spawned child.
+    ///
+    /// # Errors
+    ///
+    /// Returns an `AllocError` if memory runs out.
     #[inline(always)]
     pub fn end(&mut self) -> Result<(), AllocError>
         ensures laid { OnOk result (Laid self.old → Laid self.new) }
@@ -324,7 +344,7 @@ impl Paths {
         }
     }
 
-    /// Whether no step of the block that runs lies between its base and its child, as for its first child.
+    /// Returns whether no step of the current block is between its base and its child, as for its first child.
     #[inline(always)]
     pub fn is_first_child(&self) -> bool
         ensures { result ≡ true → HasFirstChild self.now }
@@ -335,7 +355,7 @@ impl Paths {
         }
     }
 
-    /// The spawned child that ran has ended, of which that is so.
+    /// Ends the current spawned child, like `end`. No step may be between the block's base and the child.
     #[inline(always)]
     pub fn end_first(&mut self)
         requires { HasFirstChild self.old }
@@ -352,7 +372,8 @@ impl Paths {
         }
     }
 
-    // As `take`, where the block's base ends where the child begins.
+    // Makes the current child the longest of this block, like `take`. The block's base must end where the child
+    // begins.
     #[inline(always)]
     fn take_first(&mut self, f: Block)
         requires room { vec_len self.old.blocks < vec_capacity self.old.blocks }
@@ -375,7 +396,7 @@ impl Paths {
         self.start = len;
     }
 
-    // The child that ran is the longest of this block: what was the longest is taken out.
+    // Makes the current child the longest of this block, and removes the one that was the longest.
     #[inline(always)]
     fn take(&mut self, f: Block) -> Result<(), AllocError>
         requires room { vec_len self.old.blocks < vec_capacity self.old.blocks }
@@ -399,7 +420,7 @@ impl Paths {
         Ok(())
     }
 
-    // The base of this block comes to end where the child that ran begins. Gives that place.
+    // Extends the base of this block up to the current child. Returns the place where it ends.
     #[inline(always)]
     fn gather(&mut self, f: Block) -> Result<usize, AllocError>
         ensures all { IfOk result (λ mid. GathersBase self.old self.new f mid) }
@@ -407,11 +428,11 @@ impl Paths {
         ensures rest { OnOk result (KeepsBlocks self.old self.new) }
         ensures room { OnOk result (self.new.blocks ≡ self.old.blocks) }
     {
-        // The block's first child, at whose spawn the base ended.
+        // For the first child of the block, the base already ends at its spawn.
         if f.mid == f.child {
             return Ok(f.mid);
         }
-        // A copy, so that only a later child's block is put in memory for the call.
+        // This is a copy, so that only a later child's block is in memory for the call.
         let later = Block {
             base: f.base,
             longest: f.longest,
@@ -425,7 +446,8 @@ impl Paths {
         Ok(mid)
     }
 
-    // The same, where there are steps between the base and that child.
+    // Extends the base of this block up to the current child, also if there are steps between them. Returns the place
+    // where the base ends.
     #[inline(never)]
     fn gather_steps(&mut self, f: Block) -> Result<usize, AllocError>
         ensures all { IfOk result (λ mid. GathersBase self.old self.new f mid) }
@@ -441,7 +463,7 @@ impl Paths {
         Ok(mid)
     }
 
-    // The child that ran is not the longest of this block: its steps are dropped.
+    // Drops the steps of the current child, which is not the longest of this block.
     #[inline(always)]
     fn let_go(&mut self, f: Block)
         requires room { vec_len self.old.blocks < vec_capacity self.old.blocks }
@@ -463,7 +485,7 @@ impl Paths {
         self.start = f.end;
     }
 
-    /// The innermost block that has spawned joins.
+    /// Joins the innermost block that has spawned.
     #[inline(always)]
     pub fn join(&mut self)
         ensures laid { Laid self.old → Laid self.new }
@@ -475,7 +497,7 @@ impl Paths {
         }
     }
 
-    /// How much of the path of the strand that runs is a site's own.
+    /// Returns the instructions of one site on the current strand's path.
     pub fn own(&self, site: u32) -> u64
         ensures { ReadsOwn self.now site result }
     {
@@ -487,8 +509,12 @@ impl Paths {
         sum
     }
 
-    /// How much of the path of the strand that runs is each site's own, by the sites' numbers, with one walk over the
-    /// path; of a site past the end nothing is. An error where memory runs out.
+    /// Returns the instructions of each site on the current strand's path, by site number, with one traversal of the
+    /// path; sites after the end of the list have none.
+    ///
+    /// # Errors
+    ///
+    /// Returns an `AllocError` if memory runs out.
     pub fn own_by_site(&self, alloc: Global) -> Result<Vec<u64>, AllocError>
         ensures { IfOk result (λ sums. ReadsOwnBySite self.now sums.items) }
     {
@@ -497,7 +523,7 @@ impl Paths {
         Ok(sums)
     }
 
-    // This block joins.
+    // Joins this block.
     #[inline(always)]
     fn join_block(&mut self, f: Block)
         ensures laid { LaidWith self.old f → Laid self.new }
@@ -516,7 +542,7 @@ impl Paths {
         }
     }
 
-    // This block joins, and its longest child is taken out.
+    // Joins this block and removes its longest child.
     #[inline(always)]
     fn close(&mut self, f: Block)
         ensures laid { LaidWith self.old f → Laid self.new }
@@ -529,8 +555,12 @@ impl Paths {
         take_out(&mut self.steps, f.mid, start);
     }
 
-    /// Joins the path of a piece of the block that runs, which ran apart and of which nothing is open; `first` tells that
-    /// the block has not spawned since its last join.
+    /// Appends the path of a piece of the current block that was executed separately and has no open part; `first`
+    /// says that the block has not spawned since its last join.
+    ///
+    /// # Errors
+    ///
+    /// Returns an `AllocError` if memory runs out.
     pub fn append(&mut self, piece: Paths, first: bool) -> Result<(), AllocError>
         ensures laid { OnOk result (Laid self.old → Laid self.new) }
         ensures bounded { OnOk result (FitsBeside piece.steps.items self.old self.new) }
@@ -541,7 +571,7 @@ impl Paths {
         Ok(())
     }
 
-    // The same, where the path that runs is no longer than its limit.
+    // Appends the path of a piece, like `append`, if the current path is within its limit.
     fn append_piece(&mut self, piece: Paths, first: bool) -> Result<(), AllocError>
         ensures laid { OnOk result (Laid self.old → Laid self.new) }
         ensures bounded { OnOk result (StaysTightBeside piece.steps.items self.old self.new) }
@@ -561,7 +591,7 @@ impl Paths {
         }
     }
 
-    // Joins the path of a piece that has spawned since its last join.
+    // Appends the path of a piece that has spawned since its last join.
     fn append_block(&mut self, piece: &Paths, f: Block, first: bool) -> Result<(), AllocError>
         ensures laid { OnOk result (Laid self.old → Laid self.new) }
         ensures bounded { OnOk result (StaysTightBeside piece.now.steps.items self.old self.new) }
@@ -576,7 +606,7 @@ impl Paths {
         Ok(())
     }
 
-    // A spawned child that ran apart: its path is these steps of a list.
+    // Adds a spawned child that was executed separately; its path is a part of `steps`.
     fn fork_by(
         &mut self,
         first: bool,
@@ -595,7 +625,7 @@ impl Paths {
         Ok(())
     }
 
-    // The steps of a list from a place to another, which weigh so much.
+    // Adds the steps of a list from one place up to another, of this weight.
     fn extend_by(
         &mut self,
         steps: &Vec<Steps>,
@@ -616,7 +646,7 @@ impl Paths {
         Ok(())
     }
 
-    // These steps more, whose weight is added apart.
+    // Adds these steps; the caller adds their weight.
     fn step(&mut self, one: Steps) -> Result<(), AllocError>
         ensures laid { OnOk result (Laid self.old → Laid self.new) }
         ensures bounded { OnOk result (FitsAt one.site self.old self.new) }
@@ -627,7 +657,7 @@ impl Paths {
         Ok(())
     }
 
-    // The same, however long the path is.
+    // Adds these steps, like `step`, to a path of any length.
     fn add_step(&mut self, one: Steps) -> Result<(), AllocError>
         ensures laid { OnOk result (Laid self.old → Laid self.new) }
         ensures bounded { OnOk result (GrowsAt one.site self.old self.new) }
@@ -640,7 +670,7 @@ impl Paths {
     }
 }
 
-// Whether the child that ran on a path of this weight is the longest of its block.
+// Returns whether the current child, on a path of this weight, is the longest of its block.
 #[inline(always)]
 fn is_longest(f: Block, child: u64) -> bool
     ensures { f.rest + child < 2 ^ 64 → result ≡ is_longer f.longest (f.rest + child) }
@@ -651,7 +681,7 @@ fn is_longest(f: Block, child: u64) -> bool
     }
 }
 
-// The sum, and these steps where they are the site's.
+// Returns the sum, plus these steps if they belong to the site.
 fn with_steps(sum: u64, steps: Steps, site: u32) -> u64
     ensures { result ≡ (if steps.site == site then min (sum + steps.count) (2 ^ 64 - 1) else sum) }
 {

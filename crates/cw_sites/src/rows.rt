@@ -1,4 +1,4 @@
-//! What is counted of each site, kept by site number.
+//! The measures of each site, by site number.
 
 ghost use Rattle.std.specs.Prelude.{◌≡◌, ℕ, ◌+◌, ◌*◌, ◌^◌, ◌<◌, ◌≤◌, true, false, length, IfOk, OnOk};
 ghost use Rattle.cw_sites.specs.SiteRows as tallies;
@@ -8,26 +8,26 @@ ghost use Rattle.cw_sites.specs.SiteRows.{JoinsFirsts, JoinsFurther, JoinsOn, Jo
 use cw_pages::{PAGE, Pages, SHELF};
 use std::alloc::{AllocError, Global};
 
-/// What is counted of a site so far.
+/// The measures of a site so far.
 #[derive(Clone, Copy, Debug)]
 pub struct Row {
-    /// Its invocations.
+    /// The number of its invocations.
     pub calls: u64,
-    /// Their own instructions.
+    /// The instructions of its invocations themselves.
     pub own: u64,
-    /// The work of those that ended and lie in no other invocation of the site.
+    /// The work of its ended invocations that are inside no other invocation of the site.
     pub work: u64,
-    /// How many of its invocations are open.
+    /// The number of its open invocations.
     pub active: u64,
-    /// Their span.
+    /// The span of its ended invocations that are inside no other invocation of the site.
     pub span: u64,
-    /// The work so far as the outermost open one began.
+    /// The work so far at the start of the outermost open invocation.
     pub at_work: u64,
-    /// The weight of the strand's path as it began.
+    /// The weight of the strand's path at the start of the outermost open invocation.
     pub at_path: u64,
 }
 
-/// A row, and where steps of its site were put last.
+/// A row, and the place of the last steps of its site.
 #[derive(Clone, Copy, Debug)]
 pub struct Kept {
     pub row: Row,
@@ -36,17 +36,17 @@ pub struct Kept {
 
 /// The rows by site number. A site that was not met has a row of zeros.
 ///
-/// The rows of the first sites lie one after another; those of the others lie in pages.
+/// The rows of the first sites are in a vector; the rows of the other sites are in pages.
 #[derive(Debug, Drop)]
 pub struct Rows {
     pub by_site: Vec<Kept>,
-    /// A site below this number comes to lie among the first ones with all before it, where it is told of.
+    /// When a site below this number is met, it and all sites before it get rows in the vector.
     pub firsts: usize,
     pub further: Pages<Kept>,
 }
 
-// How many sites may come to lie so in a piece at first, how many more for each time that another one was told of, and at
-// most: so a piece that is short takes a page for a site, and one that goes on finds it as fast as a whole run.
+// The limit on the vector of a piece at its start, its growth whenever a site beyond it is met, and its maximum: so a
+// short piece takes one page for a site, and a long one finds a row as fast as a whole run does.
 const FIRSTS: usize = 64;
 
 const MORE: usize = 8;
@@ -69,7 +69,7 @@ const NONE: Kept = Kept {
 };
 
 impl Row {
-    /// So many instructions of its site more.
+    /// Adds instructions of its site.
     #[inline(always)]
     pub fn add_own(&mut self, count: u64)
         ensures { IsWhereItFits (tallies.worked count self.old) self.new }
@@ -77,7 +77,7 @@ impl Row {
         self.own = self.own.wrapping_add(count);
     }
 
-    // An invocation of its site begins, at this work and on a path of this weight.
+    // Begins an invocation of its site, at this work and on a path of this weight.
     #[inline(always)]
     fn enter(&mut self, count: u64, path: u64)
         ensures { IsWhereItFits (tallies.entered count path self.old) self.new }
@@ -91,7 +91,7 @@ impl Row {
         }
     }
 
-    // An invocation of its site ends, at this work and on a path of this weight.
+    // Ends an invocation of its site, at this work and on a path of this weight.
     #[inline(always)]
     fn leave(&mut self, count: u64, path: u64)
         ensures { IsWhereItFits (tallies.left count path self.old) self.new }
@@ -106,7 +106,7 @@ impl Row {
 }
 
 impl Rows {
-    /// No rows of a whole run. Takes no memory.
+    /// Returns the empty rows of a whole run. Allocates no memory.
     pub fn new(alloc: Global) -> Rows
         ensures { (q : ℕ) → row_of result q ≡ zero_row }
     {
@@ -117,8 +117,8 @@ impl Rows {
         }
     }
 
-    /// No rows of a piece that runs apart: it will take memory for the sites that it meets, and for few others. Takes no
-    /// memory.
+    /// Returns the empty rows of a piece that is executed separately: it will take memory for the sites that it
+    /// meets, and for few others. Allocates no memory now.
     pub fn apart(alloc: Global) -> Rows
         ensures { (q : ℕ) → row_of result q ≡ zero_row }
     {
@@ -129,7 +129,7 @@ impl Rows {
         }
     }
 
-    /// The row of a site.
+    /// Returns the row of a site.
     #[inline(always)]
     pub fn row(&self, site: u32) -> Row
         ensures { result ≡ row_of self.now site }
@@ -144,7 +144,7 @@ impl Rows {
         self.kept_at(place).row
     }
 
-    // What is kept of a site.
+    // Returns the entry of a site.
     #[inline(always)]
     fn kept_at(&self, place: usize) -> Kept
         ensures { result ≡ kept_of self.now place }
@@ -155,7 +155,7 @@ impl Rows {
         self.further.get(place, NONE)
     }
 
-    // Gives a site what is kept of it.
+    // Sets the entry of a site.
     #[inline(always)]
     fn keep(&mut self, place: usize, kept: Kept) -> Result<(), AllocError>
         ensures { OnOk result (Keeps self.old self.new place kept) }
@@ -167,7 +167,7 @@ impl Rows {
         self.keep_apart(place, kept)
     }
 
-    // The same for a site that has no row among the first ones.
+    // Sets the entry of a site that has no row in the vector.
     #[inline(always)]
     fn keep_apart(&mut self, place: usize, kept: Kept) -> Result<(), AllocError>
         requires { length self.old.by_site.items ≤ place }
@@ -183,14 +183,14 @@ impl Rows {
         Ok(())
     }
 
-    // A row for this site and all before it among the first ones.
+    // Extends the vector to this site.
     #[cold]
     #[inline(never)]
     fn reach(&mut self, place: usize) -> Result<(), AllocError>
         ensures same { OnOk result (KeepTheSame self.old self.new) }
         ensures within { OnOk result (place < length self.new.by_site.items) }
     {
-        // So many rows as no number can count are more than memory holds.
+        // Memory cannot hold more rows than a number can count.
         let Some(needed) = place.checked_add(1) else {
             return Err(AllocError);
         };
@@ -200,7 +200,7 @@ impl Rows {
         Ok(())
     }
 
-    /// Whether a site has a row among the first ones.
+    /// Returns whether a site has a row in the vector.
     #[inline(always)]
     pub fn has(&self, site: u32) -> bool
         ensures { result ≡ true → site < length self.now.by_site.items }
@@ -208,13 +208,17 @@ impl Rows {
         (site as usize) < self.by_site.len()
     }
 
-    /// Where the steps of a site were put last; any other number where it was not met.
+    /// Returns the place of the last steps of a site; any number if it was not met.
     #[inline(always)]
     pub fn place(&self, site: u32) -> usize {
         self.kept_at(site as usize).place
     }
 
-    /// So many instructions of any site more; its steps were put elsewhere, if a place is given.
+    /// Adds instructions of a site, and sets the place of its last steps if one is given.
+    ///
+    /// # Errors
+    ///
+    /// Returns an `AllocError` if memory runs out.
     #[inline(always)]
     pub fn work(&mut self, site: u32, count: u64, at: Option<usize>) -> Result<(), AllocError>
         ensures own { OnOk result (Becomes (tallies.worked count) self.old self.new site) }
@@ -228,7 +232,11 @@ impl Rows {
         Ok(())
     }
 
-    /// An invocation of a site begins, at this work and on a path of this weight.
+    /// Begins an invocation of a site, at this work and on a path of this weight.
+    ///
+    /// # Errors
+    ///
+    /// Returns an `AllocError` if memory runs out.
     #[inline(always)]
     pub fn begin(&mut self, site: u32, count: u64, path: u64) -> Result<(), AllocError>
         ensures own { OnOk result (Becomes (tallies.entered count path) self.old self.new site) }
@@ -242,7 +250,7 @@ impl Rows {
         Ok(())
     }
 
-    // The same in any case.
+    // Begins an invocation of any site, like `begin`, out of line.
     #[inline(never)]
     fn begin_apart(&mut self, site: u32, count: u64, path: u64) -> Result<(), AllocError>
         ensures own { OnOk result (Becomes (tallies.entered count path) self.old self.new site) }
@@ -255,7 +263,7 @@ impl Rows {
         Ok(())
     }
 
-    /// The same for a site that has a row among the first ones.
+    /// Begins an invocation of a site that has a row in the vector, like `begin`, without allocating memory.
     #[inline(always)]
     pub fn begin_here(&mut self, site: u32, count: u64, path: u64)
         requires { site < length self.old.by_site.items }
@@ -265,7 +273,11 @@ impl Rows {
         self.by_site[site as usize].row.enter(count, path);
     }
 
-    /// An invocation of a site ends.
+    /// Ends an invocation of a site, at this work and on a path of this weight.
+    ///
+    /// # Errors
+    ///
+    /// Returns an `AllocError` if memory runs out.
     #[inline(always)]
     pub fn end(&mut self, site: u32, count: u64, path: u64) -> Result<(), AllocError>
         ensures own { OnOk result (Becomes (tallies.left count path) self.old self.new site) }
@@ -279,7 +291,7 @@ impl Rows {
         Ok(())
     }
 
-    // The same in any case.
+    // Ends an invocation of any site, like `end`, out of line.
     #[inline(never)]
     fn end_apart(&mut self, site: u32, count: u64, path: u64) -> Result<(), AllocError>
         ensures own { OnOk result (Becomes (tallies.left count path) self.old self.new site) }
@@ -292,7 +304,7 @@ impl Rows {
         Ok(())
     }
 
-    /// The same for a site that has a row among the first ones.
+    /// Ends an invocation of a site that has a row in the vector, like `end`, without allocating memory.
     #[inline(always)]
     pub fn end_here(&mut self, site: u32, count: u64, path: u64)
         requires { site < length self.old.by_site.items }
@@ -302,9 +314,14 @@ impl Rows {
         self.by_site[site as usize].row.leave(count, path);
     }
 
-    /// Adds the sums of a piece that ran apart, of which no invocation is open. Where invocations of a site are open here,
-    /// those of the piece lie in them: their work and span are left out.
-    /// Takes one step for each of the piece's first rows and for each row of its pages. An error where memory runs out.
+    /// Adds the sums of a piece that was executed separately and has no open invocation. If invocations of a site are
+    /// open here, those of the piece are inside them, and their work and span are left out.
+    ///
+    /// Takes one step for each row in the piece's vector and for each row of its pages.
+    ///
+    /// # Errors
+    ///
+    /// Returns an `AllocError` if memory runs out.
     pub fn join(&mut self, piece: Rows) -> Result<(), AllocError>
         ensures { OnOk result (JoinsRows self.old piece self.new) }
     {
@@ -313,7 +330,7 @@ impl Rows {
         Ok(())
     }
 
-    // Adds the sums of the piece's first rows.
+    // Adds the sums of the rows in the piece's vector.
     fn join_firsts(&mut self, piece: &Rows) -> Result<(), AllocError>
         ensures { OnOk result (JoinsFirsts piece.now self.old self.new) }
     {
@@ -323,7 +340,7 @@ impl Rows {
         Ok(())
     }
 
-    // Adds the sums of the rows of the piece's pages.
+    // Adds the sums of the rows in the piece's pages.
     fn join_further(&mut self, piece: &Rows) -> Result<(), AllocError>
         ensures { OnOk result (JoinsFurther piece.now self.old self.new) }
     {
@@ -333,7 +350,7 @@ impl Rows {
         Ok(())
     }
 
-    // Adds the sums of the rows of the pages of a shelf.
+    // Adds the sums of the rows in the pages of a shelf.
     fn join_shelf(&mut self, piece: &Rows, shelf: usize) -> Result<(), AllocError>
         ensures { OnOk result (JoinsShelf piece.now shelf self.old self.new) }
     {
@@ -343,7 +360,7 @@ impl Rows {
         Ok(())
     }
 
-    // Adds the sums of the rows of a page, if it is there.
+    // Adds the sums of the rows of a page, if it exists.
     fn join_page(&mut self, piece: &Rows, shelf: usize, page: usize) -> Result<(), AllocError>
         requires { page < 32 }
         ensures { OnOk result (JoinsPage piece.now shelf page self.old self.new) }
@@ -358,7 +375,7 @@ impl Rows {
         Ok(())
     }
 
-    // Adds the sums of the piece's row of a site, where it is none of its first rows, which were added before.
+    // Adds the sums of the piece's row of a site, unless the row is in the vector and was added before.
     fn join_beyond(&mut self, piece: &Rows, place: usize) -> Result<(), AllocError>
         ensures { OnOk result (JoinsOn piece.now place (place + 1) self.old self.new) }
     {
@@ -388,27 +405,27 @@ impl Rows {
     }
 }
 
-// The number of the first site of a page.
+// Returns the number of the first site of a page.
 fn first_of(shelf: usize, page: usize) -> Result<usize, AllocError>
     requires { page < 32 }
     ensures is { IfOk result (λ first. first ≡ shelf * 2048 + page * 64) }
     ensures within { IfOk result (λ first. first + 64 < 2 ^ 64) }
 {
-    // As for rows: so many sites as no number can count are more than memory holds.
+    // Memory cannot hold more rows than a number can count.
     if shelf >= usize::MAX / SHELF {
         return Err(AllocError);
     }
     Ok(shelf * SHELF + page * PAGE)
 }
 
-/// The row with the sums of a piece's row: work and span where no invocation is open.
+/// Returns the row with the sums of a piece's row; work and span are added only if no invocation is open.
 pub fn summed(row: Row, piece: Row) -> Row
     ensures { IsWhereItFits (tallies.summed row piece) result }
 {
     let mut row = row;
     row.calls = row.calls.saturating_add(piece.calls);
     row.own = row.own.saturating_add(piece.own);
-    // Inside of an open invocation nothing is an outermost one.
+    // Inside an open invocation there is no outermost invocation.
     if row.active > 0 {
         return row;
     }

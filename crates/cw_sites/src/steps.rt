@@ -6,15 +6,20 @@ ghost use Rattle.cw_sites.specs.StepSums.{AddsSteps, AsBelow, ClosesUp, CutsOut,
 
 use std::alloc::AllocError;
 
-/// So many instructions of a site.
+/// A number of instructions of a site.
 #[derive(Clone, Copy, Debug)]
 pub struct Steps {
     pub site: u32,
     pub count: u64,
 }
 
-/// So many instructions of a site more, in the path that lies from `start` on; what lies before is not touched. Where the
-/// path has steps of the site at `place`, they become more; else these are put at the end, at the place that is given.
+/// Adds `count` instructions of a site to the path that begins at `start`, and changes nothing before it. If the path
+/// has steps of the site at `place`, they grow; otherwise new steps are added at the end, and their place is
+/// returned.
+///
+/// # Errors
+///
+/// Returns an `AllocError` if memory runs out.
 #[inline(always)]
 pub fn add_steps(
     steps: &mut Vec<Steps>,
@@ -38,12 +43,12 @@ pub fn add_steps(
     Ok(Some(len))
 }
 
-/// Whether the path that lies from `start` on has steps of the site at `place`.
+/// Returns whether the path that begins at `start` has steps of the site at `place`.
 #[inline(always)]
 pub fn has_steps(steps: &Vec<Steps>, start: usize, place: usize, site: u32) -> bool
     ensures { result ≡ true → HasSteps start place site steps.now.items }
 {
-    // In this order each of the three is one comparison and one branch.
+    // In this order, each of the three tests is one comparison and one branch.
     if place < steps.len() {
         if steps[place].site == site {
             return place >= start;
@@ -52,7 +57,7 @@ pub fn has_steps(steps: &Vec<Steps>, start: usize, place: usize, site: u32) -> b
     false
 }
 
-/// So many instructions more of the site whose steps lie at `place`.
+/// Adds `count` instructions to the steps at `place`.
 #[inline(always)]
 pub fn grow_steps(steps: &mut Vec<Steps>, place: usize, count: u64)
     requires { place < length steps.old.items }
@@ -65,7 +70,7 @@ pub fn grow_steps(steps: &mut Vec<Steps>, place: usize, count: u64)
     one.count = one.count.wrapping_add(count);
 }
 
-// These steps at the end.
+// Appends these steps.
 #[inline(always)]
 fn put(steps: &mut Vec<Steps>, one: Steps) -> Result<(), AllocError>
     ensures put { OnOk result (steps.new.items ≡ steps.old.items ++ one ∷ []) }
@@ -78,7 +83,7 @@ fn put(steps: &mut Vec<Steps>, one: Steps) -> Result<(), AllocError>
     Ok(())
 }
 
-// Room for steps more. Apart, so that what puts steps holds nothing in memory for it.
+// Makes room for more steps. It is out of line, so that the caller keeps nothing in memory for it.
 #[cold]
 #[inline(never)]
 fn make_room(steps: &mut Vec<Steps>) -> Result<(), AllocError>
@@ -89,8 +94,8 @@ fn make_room(steps: &mut Vec<Steps>) -> Result<(), AllocError>
     Ok(())
 }
 
-/// Takes a part out of the list, where it is one: the last steps come to lie in its place, as many as it had or as lie
-/// behind it. So steps move at most once for each that is taken out.
+/// Removes a part of the list: the last steps move into the gap, as many as the part had or as are after it. So at
+/// most one step moves for each step that is removed.
 #[inline(always)]
 pub fn take_out(steps: &mut Vec<Steps>, from: usize, to: usize)
     ensures cut { CutsOut from to steps.old.items steps.new.items }
@@ -100,12 +105,12 @@ pub fn take_out(steps: &mut Vec<Steps>, from: usize, to: usize)
     if from >= to || to > steps.len() {
         return;
     }
-    // Nothing lies behind it.
+    // There is nothing after the part.
     if to == steps.len() {
         steps.truncate(from);
         return;
     }
-    // One step, as a small child's path mostly is.
+    // One step: the path of a small child, in most cases.
     if to - from == 1 {
         let _gone = steps.swap_remove(from);
         return;
@@ -126,8 +131,8 @@ fn cut(steps: &mut Vec<Steps>, from: usize, to: usize)
     steps.truncate(end - (to - from));
 }
 
-/// Takes a part out of the list in front of a path that ends at `end`, where it is one, and gives the place where that
-/// path ends then. What lies behind it stays apart from it.
+/// Removes a part of the list before a path that ends at `end`, and returns the place where that path now ends. The
+/// steps after the path stay separate from it.
 pub fn close_up(steps: &mut Vec<Steps>, from: usize, to: usize, end: usize) -> usize
     ensures closed { ClosesUp from to end steps.old.items steps.new.items result }
     ensures written { WritesTwice from to end steps.old.items steps.new.items result }
@@ -142,7 +147,7 @@ pub fn close_up(steps: &mut Vec<Steps>, from: usize, to: usize, end: usize) -> u
     new_end
 }
 
-// What lies from `to` up to `end` comes to lie from `from` on, in another order.
+// Moves the steps from `to` up to `end` to `from`, in another order.
 fn move_down(steps: &mut Vec<Steps>, from: usize, to: usize, end: usize)
     requires order { from ≤ to }
     requires behind { to ≤ end }

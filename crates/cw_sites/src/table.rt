@@ -14,21 +14,21 @@ use crate::paths::Paths;
 use crate::rows::Rows;
 use std::alloc::{AllocError, Global};
 
-/// What is counted of each site over a run so far.
+/// The measures of each site over a run so far.
 ///
-/// Each call is told the count of instructions so far, those of children that others ran included.
+/// Each method takes the number of instructions so far, including those of children that other workers executed.
 #[derive(Debug, Drop)]
 pub struct SiteTable {
     pub rows: Rows,
     pub paths: Paths,
-    /// The count up to which instructions have been given to their sites.
+    /// The number of instructions that are included in the rows and the path.
     pub noted: u64,
     /// The site of the innermost invocation.
     pub here: u32,
 }
 
 impl SiteTable {
-    /// The table of a whole run that begins in an invocation of this site. Takes no memory.
+    /// Returns the table of a whole run that begins in an invocation of this site. Allocates no memory.
     pub fn new(alloc: Global, here: u32) -> SiteTable
         ensures told { Tells here (λ q. 0) [] [] result }
         ensures bounded { (most : ℕ) → here < most → IsBoundedTable most result }
@@ -41,7 +41,8 @@ impl SiteTable {
         }
     }
 
-    /// The table of a piece that begins so and runs apart: it will take memory for the sites that it meets. Takes none now.
+    /// Returns the table of a piece that is executed separately. It will take memory only for the sites that the
+    /// piece meets. Allocates no memory now.
     pub fn apart(alloc: Global, here: u32) -> SiteTable
         ensures told { Tells here (λ q. 0) [] [] result }
         ensures bounded { (most : ℕ) → here < most → IsBoundedTable most result }
@@ -54,7 +55,7 @@ impl SiteTable {
         }
     }
 
-    // The instructions since the last call go to the innermost invocation's site.
+    // Attributes the instructions since the last call to the site of the innermost invocation.
     #[inline(always)]
     fn flush(&mut self, count: u64) -> Result<(), AllocError>
         ensures flushed { OnOk result (Flushed self.old self.new count) }
@@ -68,7 +69,7 @@ impl SiteTable {
         Ok(())
     }
 
-    // The same in any case.
+    // Attributes the instructions since the last call in every case, like `flush`, out of line.
     #[inline(never)]
     fn flush_apart(&mut self, count: u64) -> Result<(), AllocError>
         ensures flushed { OnOk result (Flushed self.old self.new count) }
@@ -84,8 +85,9 @@ impl SiteTable {
         Ok(())
     }
 
-    // As `flush`, where that site has a row among the first ones and its steps take no memory. The path that runs need not be
-    // within its limit where no step is put. Tells whether this is so; where it is not, nothing is changed.
+    // Attributes the instructions since the last call, like `flush`, if the site of the innermost invocation has a
+    // row in the vector and its steps need no memory. The current path need not be within its limit if no step is
+    // added. Returns whether this is so; if not, nothing is changed.
     #[inline(always)]
     fn flush_ready(&mut self, count: u64) -> bool
         ensures flushed { result ≡ true → Flushed self.old self.new count }
@@ -102,7 +104,7 @@ impl SiteTable {
         false
     }
 
-    // The same, where that site has a row among the first ones.
+    // Does the work of `flush_ready` for a site that has a row in the vector.
     #[inline(always)]
     fn flush_there(&mut self, count: u64) -> bool
         requires there { self.old.here < length self.old.rows.by_site.items }
@@ -126,7 +128,8 @@ impl SiteTable {
         false
     }
 
-    // As `flush_ready`, where the path that runs is within its limit besides, so that it may become a block's.
+    // Does the work of `flush_ready`, if the current path is also within its limit, so that it may become a block's
+    // path.
     #[inline(always)]
     fn flush_within(&mut self, count: u64) -> bool
         ensures flushed { result ≡ true → Flushed self.old self.new count }
@@ -143,7 +146,8 @@ impl SiteTable {
         false
     }
 
-    // As `flush`, where that site has a row and its steps lie at this place in the path that runs.
+    // Attributes the instructions since the last call, like `flush`. The site must have a row in the vector, and its
+    // steps must be at this place in the current path.
     #[inline(always)]
     fn flush_to(&mut self, place: usize, count: u64)
         requires there { self.old.here < length self.old.rows.by_site.items }
@@ -161,7 +165,8 @@ impl SiteTable {
         self.noted = count;
     }
 
-    // As `flush`, where that site has a row and there is room for its steps.
+    // Attributes the instructions since the last call, like `flush`. The site must have a row in the vector, and
+    // there must be room for its steps.
     #[inline(always)]
     fn flush_behind(&mut self, count: u64)
         requires there { self.old.here < length self.old.rows.by_site.items }
@@ -179,7 +184,7 @@ impl SiteTable {
         self.noted = count;
     }
 
-    // An invocation begins on a path of this weight.
+    // Begins an invocation on a path of this weight.
     #[inline(always)]
     fn begin_row(&mut self, site: u32, path: u64) -> Result<(), AllocError>
         ensures begun { OnOk result (RowBegun self.old self.new site path) }
@@ -189,7 +194,7 @@ impl SiteTable {
         Ok(())
     }
 
-    // The innermost invocation ends, inside one of this site.
+    // Ends the innermost invocation, inside an invocation of the site `outer`.
     #[inline(always)]
     fn end_row(&mut self, outer: u32) -> Result<(), AllocError>
         ensures left { OnOk result (RowLeft self.old self.new outer) }
@@ -199,7 +204,11 @@ impl SiteTable {
         Ok(())
     }
 
-    /// The instructions so far are given to their sites: to be called before a scope or a region begins or ends.
+    /// Attributes the instructions so far to their sites. Call it before a scope or a region begins or ends.
+    ///
+    /// # Errors
+    ///
+    /// Returns an `AllocError` if memory runs out.
     #[inline(always)]
     pub fn note(&mut self, count: u64) -> Result<(), AllocError>
         ensures told { OnOk result (Notes self.old self.new count) }
@@ -210,7 +219,11 @@ impl SiteTable {
         Ok(())
     }
 
-    /// A call in place of this site begins.
+    /// Begins a plain call of this site.
+    ///
+    /// # Errors
+    ///
+    /// Returns an `AllocError` if memory runs out.
     #[inline(always)]
     pub fn enter(&mut self, count: u64, site: u32) -> Result<(), AllocError>
         ensures told { OnOk result (Enters self.old self.new count site) }
@@ -222,15 +235,16 @@ impl SiteTable {
         Ok(())
     }
 
-    /// As `enter`, where it takes no memory and both sites have a row among the first ones. Tells whether this is so; where
-    /// it is not, nothing is changed. So do all that end in `_ready`.
+    /// Begins a plain call of this site, like `enter`, if this needs no memory and both sites have a row in the
+    /// vector. Returns whether this is so; if not, nothing is changed. The methods whose names end in `_ready` all
+    /// have this result.
     #[inline(always)]
     pub fn enter_ready(&mut self, count: u64, site: u32) -> bool
         ensures told { result ≡ true → Enters self.old self.new count site }
         ensures bounded { result ≡ true → StaysBoundedIn site self.old self.new }
         ensures same { result ≡ false → self.new ≡ self.old }
     {
-        // One question for both sites.
+        // One test covers both sites.
         if self.rows.has(site.max(self.here)) {
             if self.flush_there(count) {
                 let path = self.paths.weight;
@@ -241,7 +255,7 @@ impl SiteTable {
         false
     }
 
-    // As `begin_row`, where the site has a row.
+    // Begins an invocation, like `begin_row`, of a site that has a row in the vector.
     #[inline(always)]
     fn begin_row_ready(&mut self, site: u32, path: u64)
         requires { site < length self.old.rows.by_site.items }
@@ -251,7 +265,8 @@ impl SiteTable {
         self.here = site;
     }
 
-    // As `end_row`, where the innermost invocation's site, which is given so that it is read once, has a row.
+    // Ends the innermost invocation, like `end_row`, of a site that has a row in the vector; the caller passes the
+    // site, so that it is read once.
     #[inline(always)]
     fn end_row_ready(&mut self, here: u32, outer: u32)
         requires there { here < length self.old.rows.by_site.items }
@@ -262,7 +277,12 @@ impl SiteTable {
         self.here = outer;
     }
 
-    /// A spawned call of this site begins, in this strand; `first` tells that its block has not spawned since its last join.
+    /// Begins a spawned call of this site that this strand executes; `first` says that its block has not spawned
+    /// since its last join.
+    ///
+    /// # Errors
+    ///
+    /// Returns an `AllocError` if memory runs out.
     #[inline(always)]
     pub fn spawn(&mut self, count: u64, site: u32, first: bool) -> Result<(), AllocError>
         ensures told { OnOk result (Spawns self.old self.new count site first) }
@@ -274,7 +294,8 @@ impl SiteTable {
         Ok(())
     }
 
-    /// As `spawn`, the first of its block.
+    /// Begins the first spawned call of a block since its last join, like `spawn`, if this needs no memory and both
+    /// sites have a row in the vector. Returns whether this is so; if not, nothing is changed.
     #[inline(always)]
     pub fn spawn_ready(&mut self, count: u64, site: u32) -> bool
         ensures told { result ≡ true → Spawns self.old self.new count site true }
@@ -291,7 +312,7 @@ impl SiteTable {
         false
     }
 
-    // Whether a block can begin with a child of this site, once the instructions so far are given to their sites.
+    // Returns whether a block can begin with a child of this site, once the instructions so far are included.
     #[inline(always)]
     fn can_spawn(&self, site: u32) -> bool
         ensures there { result ≡ true → site < length self.now.rows.by_site.items }
@@ -303,7 +324,11 @@ impl SiteTable {
         false
     }
 
-    /// The innermost invocation, a call in place whose block has joined, ends inside one of the site `outer`.
+    /// Ends the innermost invocation, a plain call whose block has joined, inside an invocation of the site `outer`.
+    ///
+    /// # Errors
+    ///
+    /// Returns an `AllocError` if memory runs out.
     #[inline(always)]
     pub fn leave(&mut self, count: u64, outer: u32) -> Result<(), AllocError>
         ensures told { OnOk result (Leaves self.old self.new count outer) }
@@ -314,7 +339,12 @@ impl SiteTable {
         Ok(())
     }
 
-    /// The innermost invocation, a spawned call whose block has joined, ends inside one of the site `outer`.
+    /// Ends the innermost invocation, a spawned call whose block has joined, inside an invocation of the site
+    /// `outer`.
+    ///
+    /// # Errors
+    ///
+    /// Returns an `AllocError` if memory runs out.
     #[inline(always)]
     pub fn end_child(&mut self, count: u64, outer: u32) -> Result<(), AllocError>
         ensures told { OnOk result (EndsChild self.old self.new count outer) }
@@ -326,7 +356,8 @@ impl SiteTable {
         Ok(())
     }
 
-    /// As `leave`.
+    /// Ends the innermost invocation, like `leave`, if this needs no memory and its site has a row in the vector.
+    /// Returns whether this is so; if not, nothing is changed.
     #[inline(always)]
     pub fn leave_ready(&mut self, count: u64, outer: u32) -> bool
         ensures told { result ≡ true → Leaves self.old self.new count outer }
@@ -341,7 +372,8 @@ impl SiteTable {
         false
     }
 
-    /// As `end_child`, where no step lies between the block's base and the child.
+    /// Ends the innermost invocation, like `end_child`, if this needs no memory and its site has a row in the vector.
+    /// No step may be between the block's base and the child. Returns whether this is so; if not, nothing is changed.
     #[inline(always)]
     pub fn end_child_ready(&mut self, count: u64, outer: u32) -> bool
         requires { HasFirstChild self.old.paths }
@@ -358,21 +390,22 @@ impl SiteTable {
         false
     }
 
-    /// As `note`, before a join.
+    /// Attributes the instructions so far to their sites before a join, like `note`, if this needs no memory and the
+    /// site has a row in the vector. Returns whether this is so; if not, nothing is changed.
     #[inline(always)]
     pub fn note_ready(&mut self, count: u64) -> bool
         ensures told { result ≡ true → Notes self.old self.new count }
         ensures bounded { result ≡ true → FlushesBounded self.old self.new }
         ensures same { result ≡ false → self.new ≡ self.old }
     {
-        // Mostly a call has just ended, and all is given to its site.
+        // In most cases a call has just ended, and all instructions are included.
         if self.noted == count {
             return self.paths.is_within_limit();
         }
         self.flush_within(count)
     }
 
-    /// As `join`, where all is noted.
+    /// Joins a block that has spawned since its last join, like `join`. All instructions must be included.
     #[inline(always)]
     pub fn join_noted(&mut self)
         ensures told { JoinsNoted self.old self.new }
@@ -381,7 +414,11 @@ impl SiteTable {
         self.paths.join();
     }
 
-    /// A block joins that has spawned since its last join. Where it has not, there is nothing to call.
+    /// Joins a block that has spawned since its last join. A join of any other block needs no call.
+    ///
+    /// # Errors
+    ///
+    /// Returns an `AllocError` if memory runs out.
     #[inline(always)]
     pub fn join(&mut self, count: u64) -> Result<(), AllocError>
         ensures told { OnOk result (Joins self.old self.new count) }
@@ -392,7 +429,12 @@ impl SiteTable {
         Ok(())
     }
 
-    /// A spawned part that is no call begins, in this strand: half of a loop. `first` as for `spawn`.
+    /// Begins a spawned part that is not a call, the half of a loop, which this strand executes; `first` says that
+    /// its block has not spawned since its last join.
+    ///
+    /// # Errors
+    ///
+    /// Returns an `AllocError` if memory runs out.
     #[inline(always)]
     pub fn spawn_half(&mut self, count: u64, first: bool) -> Result<(), AllocError>
         ensures told { OnOk result (SpawnsHalf self.old self.new count first) }
@@ -403,7 +445,11 @@ impl SiteTable {
         Ok(())
     }
 
-    /// The innermost open part, a spawned one that is no call and whose block has joined, ends.
+    /// Ends the innermost open part, a spawned one that is not a call and whose block has joined.
+    ///
+    /// # Errors
+    ///
+    /// Returns an `AllocError` if memory runs out.
     #[inline(always)]
     pub fn end_half(&mut self, count: u64) -> Result<(), AllocError>
         ensures told { OnOk result (EndsHalf self.old self.new count) }
@@ -414,10 +460,14 @@ impl SiteTable {
         Ok(())
     }
 
-    /// Joins the table of a piece that ran apart inside of what is open, and of which nothing is open itself, as the next
-    /// events of the block that runs: the piece has no join, or the block has not spawned since its last join, which
-    /// `first` tells. The instructions so far of both are noted. Its table is one that began in the site that this one is
-    /// in (`apart`), and knows of no other invocation that is open. An error where memory runs out.
+    /// Appends the table of a piece that was executed separately inside the open parts, and that has no open part
+    /// itself, as the next events of the current block. The piece has no join, or the block has not spawned since its
+    /// last join, which `first` says. The instructions so far of both are included. The table of the piece began in
+    /// this table's current site (`apart`), and knows no other open invocation.
+    ///
+    /// # Errors
+    ///
+    /// Returns an `AllocError` if memory runs out.
     pub fn join_piece(&mut self, piece: SiteTable, first: bool) -> Result<(), AllocError>
         ensures told { OnOk result (JoinsPiece self.old piece self.new first) }
         ensures bounded { OnOk result (StaysBoundedBeside piece self.old self.new) }
@@ -428,7 +478,8 @@ impl SiteTable {
         Ok(())
     }
 
-    /// The weight of the path of the strand that runs, in instructions, once they are noted: what regions are told.
+    /// Returns the weight of the current strand's path, in instructions, if they are included. Region tables use it
+    /// as a reading.
     #[inline(always)]
     pub fn path(&self) -> u64
         ensures { ReadsPath self.now result }
@@ -436,8 +487,8 @@ impl SiteTable {
         self.paths.weight
     }
 
-    /// What is counted of a site, where so much of the path is its own, as `Paths::own_by_site` tells; once no part is
-    /// open and the block has joined.
+    /// Returns the row of a site, given its own span `own` from `Paths::own_by_site`, if no part is open and the
+    /// block has joined.
     pub fn site_with(&self, site: u32, own: u64) -> SiteRow
         ensures { ReadsOwn self.now.paths site own → ReadsSite self.now site result }
     {
@@ -451,7 +502,7 @@ impl SiteTable {
         }
     }
 
-    /// What is counted of a site, once no part is open and the block has joined.
+    /// Returns the row of a site, if no part is open and the block has joined.
     pub fn site(&self, site: u32) -> SiteRow
         ensures { ReadsSite self.now site result }
     {
@@ -466,7 +517,7 @@ impl SiteTable {
     }
 }
 
-/// The sum of a site; 0 where there is none.
+/// Returns the sum of a site; 0 if there is none.
 #[inline(always)]
 pub fn sum_of(sums: &[u64], site: u32) -> u64
     ensures { result ≡ sum_at site sums.now }
@@ -475,17 +526,17 @@ pub fn sum_of(sums: &[u64], site: u32) -> u64
     if at < sums.len() { sums[at] } else { 0 }
 }
 
-/// What is counted of a site.
+/// The measures of a site.
 #[derive(Clone, Copy, Debug, PartialEq, Eq)]
 pub struct SiteRow {
-    /// Its invocations.
+    /// The number of its invocations.
     pub calls: u64,
-    /// Their own instructions.
+    /// The instructions of its invocations themselves.
     pub own_work: u64,
-    /// Those of them on the chosen path of the whole run.
+    /// The instructions of its invocations themselves that are on the chosen path of the whole run.
     pub own_span: u64,
-    /// The work of its invocations that lie in no other invocation of it.
+    /// The work of its invocations that are inside no other invocation of the site.
     pub work: u64,
-    /// Their span.
+    /// The span of its invocations that are inside no other invocation of the site.
     pub span: u64,
 }

@@ -1,4 +1,4 @@
--- A part of the right to some cells is made, and told by its words. Assumes `Logic`.
+-- The words of a `Cells` or a `Kept`. Assumes `Logic`.
 use Rattle.cw_slices.proofs.Steps.{◌≡◌, ◌^◌, List, [], ◌∷◌, refl, ◌∙◌, ◌++◌, w64, Val, vint, vstruct, Logic, ‵, ◌$◌, fjoin, fpack, feq_i, flt_i, Valss, ptr_val, nothing}
 use seplogic.Ra.Ura.{Ura}
 use types.Kit.{Goal, Step, step, Item}

@@ -1,4 +1,4 @@
--- A row of which cells are out is parted and put together, and so is the right to its cells. Assumes `Logic`.
+-- A row with cells out, and the right to its cells, are split and joined. Assumes `Logic`.
 use Rattle.std.proofs.Common.{◌≡◌, ℕ, ◌+◌, ◌-◌, ◌*◌, ◌^◌, ◌≤◌, ℤ, [], ◌∷◌, ◌++◌, List, length, take, drop as drop_l, replicate}
 use Rattle.std.proofs.Common.{Option, Some, None, slice_get, slice_set, refl, sym, ap, ◌∙◌, subst, arith}
 use Prim.Native.Nat.{zero, suc}
@@ -65,7 +65,7 @@ module _ {M : Type 1} {𝓤 : Ura M} (𝓛 : Logic 𝓤) where
     pub glue : ent 𝓤 (sep 𝓤 ⟦ row b o hs gs ⟧ ⟦ row b at cs ds ⟧) ⟦ row b o (hs ++ cs) (gs ++ ds) ⟧
     glue = subst (λ (k : ℕ). ent 𝓤 (sep 𝓤 ⟦ row b o hs gs ⟧ ⟦ row b k cs ds ⟧) ⟦ row b o (hs ++ cs) (gs ++ ds) ⟧) (place_is 8 o (length hs) ∙ sym is) (glue_at b hs cs gs ds o e)
 
-  -- so many cells that are all in, each with the same right, are a run
+  -- cells that are all in, each with the same right, are a run
   abbrev pub alike : ℕ → ℕ → List ℤ → (halved : ℕ) → Fml
   alike b o xs d = row b o (ins xs) (replicate (length xs) d)
 
@@ -93,13 +93,13 @@ module _ {M : Type 1} {𝓤 : Ura M} (𝓛 : Logic 𝓤) where
   of_run b o xs zero = of_own b o xs
   of_run b o xs (suc d) = of_part b o xs (suc d)
 
-  -- nothing is owned of cells that are all out
+  -- cells that are all out own nothing
   none_in : (b o n : ℕ) (ds : List ℕ) → ent 𝓤 (emp 𝓤) ⟦ row b o (outs n) ds ⟧
   none_in b o zero ds = id⊢ 𝓤 (emp 𝓤)
   none_in b o (suc n) [] = id⊢ 𝓤 (emp 𝓤)
   none_in b o (suc n) (d ∷ ds) = qed 𝓛 [] ∵ use0 𝓛 (‵ (row b (o + 8) (outs n) ds)) (none_in b (o + 8) n ds) $ use0 𝓛 (‵ ftrue) (id⊢ 𝓤 (emp 𝓤)) $ done !
 
-  -- a row in three parts
+  -- a row splits into three parts
   module _ (b o : ℕ) (first between rest : List (Option ℤ)) (before at behind : List ℕ) (mid end : ℕ)
       (e₀ : length before ≡ length first) (e₁ : length at ≡ length between) (m₀ : mid ≡ length first * 8 + o) (m₁ : end ≡ length between * 8 + mid) where
     three : ent 𝓤 ⟦ row b o (first ++ (between ++ rest)) (before ++ (at ++ behind)) ⟧ (sep 𝓤 ⟦ row b mid between at ⟧ (sep 𝓤 ⟦ row b end rest behind ⟧ ⟦ row b o first before ⟧))
@@ -112,7 +112,7 @@ module _ {M : Type 1} {𝓤 : Ura M} (𝓛 : Logic 𝓤) where
         use2 𝓛 (‵ (row b mid (between ++ rest) (at ++ behind))) (glue b between rest at behind mid end e₁ m₁) $ move ! (1 ∷ 0 ∷ []) $
         use2 𝓛 (‵ (row b o (first ++ (between ++ rest)) (before ++ (at ++ behind)))) (glue b first (between ++ rest) before (at ++ behind) o mid e₀ m₀) $ done !
 
-  -- half of the right to a number, and both halves
+  -- the right to a number is halved, and both halves are joined
   laws : PartsLaws 𝓛 (mem i64) (shares i64)
   laws = share_laws 𝓛 i64 (Is i64) (shows 𝓛 i64) (sint_vals w64) (sint_Tells w64) (sint_copy 𝓛 w64)
 
@@ -141,11 +141,11 @@ module _ {M : Type 1} {𝓤 : Ura M} (𝓛 : Logic 𝓤) where
     many : (d : ℕ) → length (replicate (length xs) d) ≡ length xs
     many d = length-replicate (length xs) d
 
-    -- rights with others in the place of some
+    -- the rights after a patch of constant rights
     reset : (d : ℕ) → patched from (replicate (length xs) d) ds ≡ take from ds ++ (replicate (length xs) d ++ drop_l (from + length xs) ds)
     reset d = ap (λ (k : ℕ). take from ds ++ (replicate (length xs) d ++ drop_l (from + k) ds)) (many d)
 
-    -- cells with others in the place of some
+    -- the cells after a patch
     refill : (new : List (Option ℤ)) → length new ≡ length xs → patched from new cells ≡ take from cells ++ (new ++ drop_l (from + length xs) cells)
     refill new e = ap (λ (k : ℕ). take from cells ++ (new ++ drop_l (from + k) cells)) e
 
@@ -192,7 +192,7 @@ module _ {M : Type 1} {𝓤 : Ura M} (𝓛 : Logic 𝓤) where
         (λ l. ‵ (row b o l ds)) (sym (refill (outs (length xs)) out)) refl $
         flt_i ! (length (patched from (outs (length xs)) cells) * 8) (2 ^ 63) (omega (arith, same, small)) $ fjoin ! $ done !)
 
-    -- a run takes the place of some of the cells
+    -- a run replaces some of the cells
     pub joined : (d : ℕ) (p : Ptr) → AreHalved ds from (length xs) d
         → ent 𝓤 (sep 𝓤 ⟦ kept_owned p cells ds ⟧ ⟦ span_owned (p +ₚ (from * 8)) xs (marks (ins xs)) d ⟧) ⟦ kept_owned p (patched from (ins xs) cells) ds ⟧
     joined d null_ptr even = qed 𝓛 (‵ (kept_owned null_ptr cells ds) ∷ ‵ (span_owned null_ptr xs (marks (ins xs)) d) ∷ []) ∵ fsplit ! $ drop ! $ keep ! (0 ∷ []) $ by ! (never_e 𝓤 _)
@@ -237,7 +237,7 @@ module _ {M : Type 1} {𝓤 : Ura M} (𝓛 : Logic 𝓤) where
         (λ l. ‵ (row b o l (patched from (replicate (length xs) (suc d)) ds))) (sym all) refl $
         flt_i ! (length cells * 8) (2 ^ 63) small $ fjoin ! $ done !)
 
-    -- the other half comes back
+    -- the other half of the right is put back
     pub healed : (d : ℕ) (p : Ptr) → Have cells from xs → AreHalved ds from (length xs) (suc d)
         → ent 𝓤 (sep 𝓤 ⟦ kept_owned p cells ds ⟧ ⟦ span_owned (p +ₚ (from * 8)) xs (marks (ins xs)) (suc d) ⟧) ⟦ kept_owned p cells (patched from (replicate (length xs) d) ds) ⟧
     healed d null_ptr has even = qed 𝓛 (‵ (kept_owned null_ptr cells ds) ∷ ‵ (span_owned null_ptr xs (marks (ins xs)) (suc d)) ∷ []) ∵ fsplit ! $ drop ! $ keep ! (0 ∷ []) $ by ! (never_e 𝓤 _)
@@ -267,7 +267,7 @@ module _ {M : Type 1} {𝓤 : Ura M} (𝓛 : Logic 𝓤) where
   all_out (block_ptr b o) xs d = qed 𝓛 (‵ (kept_owned (block_ptr b o) (ins xs) (replicate (length xs) d)) ∷ []) ∵ fsplit ! $ flt_l ! (λ small.
       use1 𝓛 (‵ (held d (block_ptr b o) xs (marks (ins xs)))) (to_run b o xs d) $ flt_i ! (length xs * 8) (2 ^ 63) (omega (arith, small, length_ins xs)) $ fjoin ! $ done !)
 
-  -- one cell comes out as room, and goes back with another number
+  -- one cell is taken out as room, and put back with another number
   module _ (b o : ℕ) (cells : List (Option ℤ)) (ds : List ℕ) (i : ℕ) where
     abbrev pub beside : Fml
     beside = fsep (row b o (take i cells) (take i ds)) (row b (i * 8 + 8 + o) (drop_l (suc i) cells) (drop_l (suc i) ds))

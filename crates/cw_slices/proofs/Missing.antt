@@ -1,4 +1,4 @@
--- How many cells of a block are out or shared, and what is read where one is in.
+-- The number of cells of a block that are out or shared, and what is read from a cell that is in.
 use Rattle.std.proofs.Common.{◌≡◌, ◌⊎◌, inl, inr, ℕ, ◌+◌, ◌-◌, ◌^◌, ◌<◌, ◌≤◌, ℤ, Bool, true, false, List, [], ◌∷◌, ◌++◌, length, take, drop, replicate}
 use Rattle.std.proofs.Common.{Option, Some, None, slice_get, slice_set, slice_index_or, IsTrue, refl, sym, ap, ap₂, ◌∙◌, subst, arith}
 use Prim.Native.Nat.{zero, suc}
@@ -32,7 +32,7 @@ missing_within (None ∷ cells) = let le = missing_within cells in let up : suc 
 three : (first new last : Cells) → missing (first ++ (new ++ last)) ≡ missing first + (missing new + missing last)
 three first new last = missing_both first (new ++ last) ∙ ap (λ (k : ℕ). missing first + k) (missing_both new last)
 
--- what is lent is out
+-- lending `length xs` cells increases `missing` by that number
 pub missing_lent : (cells : Cells) (from : ℕ) (xs : List ℤ) → Have cells from xs → from + length xs ≤ length cells → missing (patched from (outs (length xs)) cells) ≡ missing cells + length xs
 missing_lent cells from xs has le =
     let end : drop (from + length (outs (length xs))) cells ≡ drop (from + length xs) cells = ap (λ (k : ℕ). drop (from + k) cells) (length_outs (length xs)) in
@@ -41,7 +41,7 @@ missing_lent cells from xs has le =
     ap missing (middle from xs cells has le) ∙ three (take from cells) (ins xs) (drop (from + length xs) cells) in
     omega (arith, now, was, missing_outs (length xs), missing_ins xs)
 
--- what comes back is in
+-- taking `length xs` cells back decreases `missing` by that number
 pub missing_back : (cells : Cells) (from : ℕ) (xs : List ℤ) → AreOut cells from (length xs) → from + length xs ≤ length cells → missing cells ≡ missing (patched from (ins xs) cells) + length xs
 missing_back cells from xs out le =
     let end : drop (from + length (ins xs)) cells ≡ drop (from + length xs) cells = ap (λ (k : ℕ). drop (from + k) cells) (length_ins xs) in
@@ -50,7 +50,7 @@ missing_back cells from xs out le =
     ap missing (alike_middle from (length xs) None cells out le) ∙ three (take from cells) (outs (length xs)) (drop (from + length xs) cells) in
     omega (arith, now, was, missing_outs (length xs), missing_ins xs)
 
--- another number in a place that is in
+-- setting a cell that is in keeps `missing`
 pub missing_set : (cells : Cells) (i : ℕ) (y : ℤ) → IsIn cells i → missing (slice_set cells i (Some y)) ≡ missing cells
 missing_set [] i y is = absurd (none-some (Some is.0) is.1)
 missing_set (Some x ∷ cells) zero y is = refl
@@ -84,15 +84,15 @@ module _ (e from n d : ℕ) (ds : List ℕ) (fits : from + n ≤ length ds) (le 
   patched_is : (v : ℕ) → patched from (replicate n v) ds ≡ take from ds ++ (replicate n v ++ drop (from + n) ds)
   patched_is v = ap (λ (k : ℕ). take from ds ++ (replicate n v ++ drop (from + k) ds)) (length-replicate n v)
 
-  -- cells are shared once more
+  -- sharing `n` cells increases `excess` by `n`
   pub excess_shared : AreHalved ds from n d → excess e (patched from (replicate n (suc d)) ds) ≡ excess e ds + n
   excess_shared are = ap (excess e) (patched_is (suc d)) ∙ raised_middle ∙ ap (λ (l : List ℕ). excess e l + n) (sym (alike_middle from n d ds are fits))
 
-  -- and once less
+  -- merging `n` cells decreases `excess` by `n`
   pub excess_merged : AreHalved ds from n (suc d) → excess e ds ≡ excess e (patched from (replicate n d) ds) + n
   excess_merged are = ap (excess e) (alike_middle from n (suc d) ds are fits) ∙ raised_middle ∙ ap (λ (l : List ℕ). excess e l + n) (sym (patched_is d))
 
--- each right is still no less than it was at least
+-- patching rights with a right of at least `e` keeps the least right
 pub at_least : (e from n v : ℕ) (ds : List ℕ) → from + n ≤ length ds → (0 < n → e ≤ v) → AtLeast e ds → AtLeast e (patched from (replicate n v) ds)
 at_least e from n v ds fits le all k d is = by (cases_lt k from)
   where
@@ -114,26 +114,26 @@ at_least e from n v ds fits le all k d is = by (cases_lt k from)
     by (inl lt) = all k d (sym (patched_before from (replicate n v) ds within k lt) ∙ is)
     by (inr above) = inside above (cases_lt k (from + n))
 
--- of all that are alike
+-- equal rights are at least what they all are
 pub at_least_alike : (n e : ℕ) → AtLeast e (replicate n e)
 at_least_alike zero e k d is = absurd (none-some d is)
 at_least_alike (suc n) e zero d is = let same : e ≡ d = same_Some e d is in omega (arith, same)
 at_least_alike (suc n) e (suc k) d is = at_least_alike n e k d is
 
--- where no share is out all rights are as at first
+-- if no share is out, all rights are equal to the base
 pub none_shared : (e : ℕ) (ds : List ℕ) → AtLeast e ds → excess e ds ≡ 0 → ds ≡ replicate (length ds) e
 none_shared e [] all is = refl
 none_shared e (d ∷ ds) all is =
     let is' : (d - e) + excess e ds ≡ 0 = is in let le : e ≤ d = all 0 d refl in
     ap₂ (λ (a : ℕ) (l : List ℕ). a ∷ l) (omega (arith, is', le)) (none_shared e ds (λ k. all (suc k)) (omega (arith, is')))
 
--- where nothing is out all is in
+-- if no cell is out, all cells are in
 pub none_missing : (cells : Cells) → missing cells ≡ 0 → (xs : List ℤ) × (cells ≡ ins xs)
 none_missing [] e = ([], refl)
 none_missing (Some x ∷ cells) e = let rest = none_missing cells e in (x ∷ rest.0, ap (λ (l : Cells). Some x ∷ l) rest.1)
 none_missing (None ∷ cells) e = let e' : suc (missing cells) ≡ 0 = e in absurd (omega (arith, e'))
 
--- what is counted of a block: as it is made
+-- a new block satisfies `Counts`
 pub counts_of : (xs : List ℤ) (n d : ℕ) (cells : Cells) (rights : List ℕ) (base : ℕ) → n ≡ length xs → n < 2 ^ 60
     → cells ≡ ins xs → rights ≡ replicate n d → base ≡ d → Counts cells rights base 0
 counts_of xs n d cells rights base many few are alike same =
@@ -151,7 +151,7 @@ counts_of xs n d cells rights base many few are alike same =
     }
 
 module _ (cells cells' : Cells) (rights rights' : List ℕ) (base base' out : ℕ) (c : Counts cells rights base out) (same : base' ≡ base) where
-  -- what is shared is as before
+  -- the count of shared cells stays if the rights stay
   shared_still : (out' : ℕ) → rights' ≡ rights → length cells' ≡ length cells → out' ≡ missing cells' + c.shared → Counts cells' rights' base' out'
   shared_still out' alike long is =
       record {
@@ -179,7 +179,7 @@ module _ (cells cells' : Cells) (rights rights' : List ℕ) (base base' out : �
       shared_still (out - n) alike (ap length are ∙ length_patched from (ins xs) cells (omega (arith, fits, length_ins xs)))
       (let m = missing_back cells from xs gone fits in let now = ap missing are in omega (arith, m, now, c.is, many))
 
-  -- cells are shared once more, or once less
+  -- sharing or merging cells once more changes the count of shared cells accordingly
   shared_so : (from n v out' : ℕ) → cells' ≡ cells → rights' ≡ patched from (replicate n v) rights → from + n ≤ length cells → (0 < n → base ≤ v)
       → (s : ℕ) × (out' ≡ missing cells + s) × IsCount (excess base (patched from (replicate n v) rights)) s → Counts cells' rights' base' out'
   shared_so from n v out' are now fits least is =
@@ -216,7 +216,7 @@ module _ (cells cells' : Cells) (rights rights' : List ℕ) (base base' out : �
       (subst (λ (e : ℕ). IsCount e c.shared) (excess_merged base from n d rights within le alike) c.counted) in
       shared_so from n d out' are now fits le is
 
--- so many cells that are shared are counted, unless the count is stuck
+-- the count covers the shared cells, unless it is stuck
 pub counted_there : (base from n d out : ℕ) (cells : Cells) (rights : List ℕ) → Counts cells rights base out → from + n ≤ length cells
     → AreHalved rights from n (suc d) → (0 < n → base ≤ d) → out < 2 ^ 63 → n ≤ out
 counted_there base from n d out cells rights c fits alike le small = by c.counted
@@ -227,7 +227,7 @@ counted_there base from n d out cells rights c fits alike le small = by c.counte
         let more = excess_merged base from n d rights within le alike in omega (arith, c.is, e.0, more)
     by (inr stuck) = absurd (omega (arith, c.is, stuck.0, small))
 
--- what may be lent more, and what was
+-- adding the cells to be lent to `out` does not overflow
 pub lent_fits : (base n out : ℕ) (cells : Cells) (rights : List ℕ) → Counts cells rights base out → n < 2 ^ 60 → out + n < 2 ^ 64
 lent_fits base n out cells rights c few = by c.counted
   where
@@ -238,7 +238,7 @@ lent_fits base n out cells rights c few = by c.counted
     by (inl e) = omega (arith, c.is, e.1, le, c.few, few)
     by (inr stuck) = omega (arith, c.is, stuck.1, le, c.few, few)
 
--- with nothing out no share is
+-- if `out` is 0, no cell is lent and no share is out
 pub all_own : (base : ℕ) (cells : Cells) (rights : List ℕ) → Counts cells rights base 0 → (missing cells ≡ 0) × (rights ≡ replicate (length cells) base)
 all_own base cells rights c = (omega (arith, c.is), by c.counted)
   where
@@ -246,7 +246,7 @@ all_own base cells rights c = (omega (arith, c.is), by c.counted)
     by (inl e) = none_shared base rights c.least (omega (arith, c.is, e.0)) ∙ ap (λ (k : ℕ). replicate k base) c.as_many
     by (inr stuck) = absurd (omega (arith, c.is, stuck.0))
 
--- a place that is in is marked, and its number is read there
+-- a place that is in is marked, and reading it returns its number
 marked : (cells : Cells) (i : ℕ) → IsIn cells i → slice_index_or (marks cells) i false ≡ true
 marked [] i is = absurd (none-some (Some is.0) is.1)
 marked (Some x ∷ cells) zero is = refl

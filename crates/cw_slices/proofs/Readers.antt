@@ -1,4 +1,4 @@
--- Cells are lent to all who hold a `&` to a part of the right to them. Assumes `Logic`.
+-- Every holder of a `&` to a part of the right may read the cells. Assumes `Logic`.
 use Rattle.std.proofs.Common.{◌≡◌, ℕ, ◌*◌, ◌^◌, ℤ, pos, Bool, true, false, List, [], ◌∷◌, length, Option, Some, None, sym, ◌∙◌, subst, arith}
 use Prim.Native.Nat.{zero, suc}
 use seplogic.Ra.Ura.{Ura}
@@ -35,7 +35,7 @@ module _ {M : Type 1} {𝓤 : Ura M} (𝓛 : Logic 𝓤) where
   open 𝓛 use {H, A}
 
   module _ (l : Lft) (within : Incl l i64.lives) where
-    -- a number of which a part is owned
+    -- a part of the right to a number permits reading it
     Lends-lies : (q : Share) (p : Ptr) (x : ℤ) → Lends 𝓛 (lies_at i64 q p x) (lent_at i64 p x) l
     Lends-lies q (block_ptr b o) x κ ts inc sp = qed 𝓛 (‵ (fbor κ (part_at i64 q x b o)) ∷ raw (lfts 𝓛 ts) ∷ []) {P = H.⇛ (sep 𝓤 (sem 𝓛 (lent_at i64 (block_ptr b o) x κ)) (lfts 𝓛 ts))} (
         updating ! $ use2 𝓛 (later (‵ (shared_of i64 x b o κ) ⊛ raw (lfts 𝓛 ts))) ((i64-copy.copied M 𝓤 𝓛).shares q i64.lives x κ ts b o (Incl-trans inc within) sp) $ await ! tt $ split ! $
@@ -76,7 +76,7 @@ module _ {M : Type 1} {𝓤 : Ura M} (𝓛 : Logic 𝓤) where
     Lends-held d p n xs fs = let small = flt (n * bytes_of i64) (2 ^ 63) in
         Lends-both 𝓛 small (in_block p (held d p xs fs)) (said small) (slots_lent i64 p xs fs) l (Lends-said 𝓛 small tt l) (Lends-row d p xs fs)
 
-    -- the cells that are in are lent
+    -- the cells that are in may be read
     Lends-in : (p : Ptr) (cs : List (Option ℤ)) (ds : List ℕ) → length ds ≡ length cs → Lends 𝓛 (cells_in p cs ds) (slots_lent i64 p (numbers cs) (marks cs)) l
     Lends-in p [] ds e = Lends-nothing 𝓛 ftrue l
     Lends-in p (c ∷ cs) [] e = let e' : 0 ≡ suc (length cs) = e in absurd (omega (arith, e'))

@@ -3,22 +3,23 @@ use Rattle.std.specs.Prelude.{◌≡◌, ℕ, ◌*◌, ℤ, List, drop, length, 
 use Rattle.std.specs.Coded.{Coded, code_by, coded×, coded_list, coded_ℕ, coded_ℤ}
 use denote.RawPtr.{Ptr, coded_ptr, ◌+ₚ◌}
 
--- where a slice begins, and how long the block is that it frees: none, where it does not begin the block. The right to
--- its places is whole, with 0 as `halved`; or it was halved so often, and then it is a right to read them alone
+-- the place of a slice: its pointer, and the length of the block that it frees (0 if it does not begin the block);
+-- `halved` is 0 if the right to its places is whole, and otherwise how often the right was halved, so that it only
+-- permits reading
 pub record Spot : Type 0 where
   pub ptr : Ptr
   pub frees : ℕ
   pub halved : ℕ
 
--- so many numbers further on in the same block
+-- the place `n` numbers further in the same block
 abbrev pub after : ℕ → Spot → Spot
 after n s = record { ptr = s.ptr +ₚ (n * 8); frees = 0; halved = s.halved }
 
--- the same, with the right halved so often
+-- the place `n` numbers further in the same block, with the right halved `d` times
 abbrev pub shared_after : (from halved : ℕ) → Spot → Spot
 shared_after n d s = record { ptr = s.ptr +ₚ (n * 8); frees = 0; halved = d }
 
--- where a slice lies, by its words
+-- the place of a slice, from its words
 abbrev pub spot_of : Ptr → (frees halved : ℕ) → Spot
 spot_of p frees d = record { ptr = p; frees = frees; halved = d }
 
@@ -35,18 +36,18 @@ placed_code =
     (λ p. record { items = p.0; spot = record { ptr = p.1.0; frees = p.1.1.0; halved = p.1.1.1 } })
     (λ _. refl)
 
--- one owner, who may write
+-- the slice has one owner, who may write
 abbrev pub IsOwn : Placed → Type 0
 IsOwn s = s.spot.halved ≡ 0
 
--- the second begins where the first one ends
+-- the second begins where the first ends
 abbrev pub Follows : Placed → Placed → Type 0
 Follows l r = r.spot ≡ after (length l.items) l.spot
 
--- the numbers of a slice, and where they lie, by its words
+-- a slice, from its numbers and words
 abbrev pub placed_by : List ℤ → Ptr → (frees halved : ℕ) → Placed
 placed_by items p frees d = record { items = items; spot = spot_of p frees d }
 
--- the numbers from this one on
+-- the part of a slice from number `n` on
 abbrev pub cut_at : ℕ → Placed → Placed
 cut_at n s = record { items = drop n s.items; spot = after n s.spot }

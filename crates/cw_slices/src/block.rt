@@ -1,4 +1,4 @@
-//! A block of numbers, of which parts are lent out as slices, or shared, and come back.
+//! A block of numbers. Its owner lends parts of it out as slices, or shares them, and takes them back.
 ghost use Rattle.std.specs.Prelude.{◌≡◌, ◌+◌, ◌^◌, ◌<◌, ◌≤◌, ℤ, pos, List, [], length, replicate, Some, slice_get, slice_set, IfOk};
 ghost use Rattle.cw_slices.specs.Placed.{after, shared_after};
 ghost use Rattle.cw_slices.specs.Blocks.{ins, outs, patched, IsIn, Have, AreIn, AreOut, AreHalved, AreAlike, IsShared, AreMerged, IsWhole, CountsMore, CountsLess};
@@ -10,17 +10,15 @@ use std::alloc::{AllocError, Global};
 use std::marker::Model;
 use std::{fmt, mem};
 
-/// A block of numbers, in four words. Its owner reads and writes it where it is, lends parts of it
-/// out as slices, and takes them back; or it shares parts of it, so that others read them while it
-/// reads them itself: in constant time, copying nothing. A number that is lent out can be neither
-/// read nor written through the block, and one of which a share is out can be read; that is known
-/// before the program runs, and no test is made for it. A block made of a share may be read and
-/// shared on.
+/// A block of numbers, in four words. Its owner reads and writes it in place. The owner can lend parts of it as
+/// slices and take them back, or share parts, so that others read them while the owner reads them too. Each of these
+/// operations takes constant time and copies nothing. A number that is lent out can be neither read nor written
+/// through the block; a number that is shared can be read. Contracts state this, so no test is made at run time. A
+/// block made of a share can be read and shared further.
 ///
-/// Dropped, a block with nothing out gives back its memory. **A block of which a part or a share is
-/// out leaves its memory where it is**, and so does a part that never comes back: nobody counts what
-/// is left of a block. So who stops early takes back what is out first, by `give_back` and `merge`,
-/// which take no memory and cannot fail; then nothing is lost.
+/// Dropping a block frees its memory if nothing is lent or shared. **Otherwise the memory is not freed**, and a part
+/// that never comes back is not freed either: nothing counts what is left of a block. To stop early without a leak,
+/// first return what is lent and shared with `give_back` and `merge`, which take no memory and cannot fail.
 pub struct Block {
     kept: Kept,
     frees: usize,
@@ -43,13 +41,13 @@ impl Model for Block {
         × MayFree b.frees b.kept.ptr b.alloc b.title × FreesOwn b.frees b.kept.base };
 }
 
-// So many cells that are shared are counted, one for each share; of more than there is memory for a
-// block is known to be shared for good.
+// The number of shared cells, each counted once for each share, is exact below this bound. A block with more shares
+// than memory has room for counts as shared forever.
 const MANY: usize = 1 << 62;
 
 const STUCK: usize = 1 << 63;
 
-// So many cells more are shared.
+// Returns `out` with `count` more shared cells.
 #[inline(always)]
 fn with_shared(out: usize, count: usize) -> usize
     requires { count < 2 ^ 60 }
@@ -64,7 +62,7 @@ fn with_shared(out: usize, count: usize) -> usize
     }
 }
 
-// So many cells less are shared.
+// Returns `out` with `count` fewer shared cells.
 #[inline(always)]
 fn without_shared(out: usize, count: usize) -> usize
     requires { out < 2 ^ 63 → count ≤ out }
@@ -74,7 +72,7 @@ fn without_shared(out: usize, count: usize) -> usize
 }
 
 impl Block {
-    /// A slice, of its own or shared, as a block that is all in and of which no share is out.
+    /// Makes a block of a slice, owned or shared. All of its numbers are in, and no share of it is out.
     #[inline(always)]
     pub fn of(slice: Slice) -> Block
         ensures cells { result.cells ≡ ins slice.items }
@@ -98,7 +96,7 @@ impl Block {
         }
     }
 
-    /// A block of no numbers, which takes no memory.
+    /// Returns a block without numbers, which takes no memory.
     #[inline(always)]
     pub fn empty(alloc: Global) -> Block
         ensures cells { result.cells ≡ [] }
@@ -108,9 +106,12 @@ impl Block {
         Block::of(Slice::empty(alloc))
     }
 
-    /// So many zeros, all in; for none, no memory is taken. Time in their count, at the speed at
-    /// which memory is filled. The error is that there was no memory for them, and then nothing is
-    /// kept.
+    /// Returns a block of `count` zeros, all in. Takes time linear in `count`, at the speed of filling memory. For 0,
+    /// it takes no memory.
+    ///
+    /// # Errors
+    ///
+    /// An `AllocError` if there is no memory for the numbers; then nothing is kept.
     pub fn zeros(alloc: Global, count: usize) -> Result<Block, AllocError>
         requires { count < 2 ^ 60 }
         ensures { IfOk result (λ b. (b.cells ≡ ins (replicate count (pos 0))) × IsWhole b
@@ -120,7 +121,7 @@ impl Block {
         Ok(Block::of(slice))
     }
 
-    /// The numbers of a block with nothing out, as the slice that it was made of.
+    /// Returns the numbers of a block with nothing out, as the slice that the block was made of.
     #[inline(always)]
     pub fn whole(self) -> Slice
         requires there { (xs : List ℤ) × (self.cells ≡ ins xs) }
@@ -147,8 +148,8 @@ impl Block {
         })
     }
 
-    /// The numbers of a block with nothing out, moved out as the slice that it was made of; a block of
-    /// no numbers and without memory is left in its place.
+    /// Moves out the numbers of a block with nothing out, as the slice that the block was made of, and leaves an
+    /// empty block without memory.
     #[inline(always)]
     pub fn take(&mut self) -> Slice
         requires there { (xs : List ℤ) × (self.old.cells ≡ ins xs) }
@@ -163,7 +164,7 @@ impl Block {
         mem::replace(self, Block::empty(alloc)).whole()
     }
 
-    /// The count of its numbers, of those that are out too.
+    /// Returns the number of its numbers, including those that are out.
     #[inline(always)]
     pub fn len(&self) -> usize
         ensures value { result ≡ length self.now.cells }
@@ -172,7 +173,7 @@ impl Block {
         self.kept.row().len()
     }
 
-    /// A number of it that is in, whether a share of it is out or not.
+    /// Returns number `i`, which must be in; a share of it may be out.
     #[inline(always)]
     #[tactic(auto, using(crate::proofs::Missing::read_at))]
     pub fn get(&self, i: usize) -> i64
@@ -182,8 +183,8 @@ impl Block {
         *self.kept.row().get(i)
     }
 
-    /// Another number in a place of it that is in, and all its own: no share of it is out, and it was
-    /// not made of one.
+    /// Sets number `i` to `x`. The number must be in, no share of it may be out, and the block must not be made of a
+    /// share.
     #[inline(always)]
     pub fn set(&mut self, i: usize, x: i64)
         requires there { IsIn self.old.cells i }
@@ -195,9 +196,8 @@ impl Block {
         self.kept.put(i, x);
     }
 
-    /// So many of its numbers from a place on, all of them in and with no share out, as a slice; they
-    /// are out until they are given back. Nothing is copied, no memory is taken, and it takes the same
-    /// time for all lengths.
+    /// Lends `count` numbers from `from` on as a slice. All of them must be in, and no share of them may be out. They
+    /// are out until `give_back`. Takes constant time and no memory, and copies nothing.
     #[inline(always)]
     pub fn lend(&mut self, from: usize, count: usize) -> Slice
         requires within { from + count ≤ length self.old.cells }
@@ -222,8 +222,8 @@ impl Block {
         })
     }
 
-    /// A slice back at the place that it was lent from, with the numbers that it has now. Nothing
-    /// is copied, no memory is taken, and it takes the same time for all lengths.
+    /// Takes a lent slice back at the place that it was lent from, with its current numbers. Takes constant time and
+    /// no memory, and copies nothing.
     #[inline(always)]
     pub fn give_back(&mut self, from: usize, slice: Slice)
         requires within { from + length slice.items ≤ length self.old.cells }
@@ -247,9 +247,9 @@ impl Block {
         self.out -= len;
     }
 
-    /// A share of so many of its numbers from a place on, all of them in, with half of the right to
-    /// each that the block has: both may be read, and neither may be written, until the share is
-    /// merged. Nothing is copied, no memory is taken, and it takes the same time for all lengths.
+    /// Shares `count` numbers from `from` on, all of them in, and gives the share half of the block's right to each.
+    /// Until the share is merged, both can be read and neither can be written. Takes constant time and no memory, and
+    /// copies nothing.
     #[inline(always)]
     pub fn share(&mut self, from: usize, count: usize) -> Slice
         requires within { from + count ≤ length self.old.cells }
@@ -274,9 +274,8 @@ impl Block {
         })
     }
 
-    /// A share back at the place that it is of, with the numbers that it had: the newest that is out
-    /// of these places first. Nothing is copied, no memory is taken, and it takes the same time for
-    /// all lengths.
+    /// Takes a share back at the place that it was made of, with the numbers that it had. If there are several shares
+    /// of these places, the newest one must come first. Takes constant time and no memory, and copies nothing.
     #[inline(always)]
     pub fn merge(&mut self, from: usize, share: Slice)
         requires within { from + length share.items ≤ length self.old.cells }
@@ -304,8 +303,7 @@ impl Block {
     }
 }
 
-// A block with nothing out is freed if it begins its memory. One of which a part or a share is out
-// leaves the memory where it is.
+// A block with nothing out is freed if it begins its memory. If a part or a share is out, the memory is not freed.
 impl Drop for Block {
     #[tactic(auto, using(crate::proofs::Missing::none_missing))]
     fn drop(self) {
@@ -333,5 +331,5 @@ impl fmt::Debug for Block {
     }
 }
 
-// Nothing else writes its part of the memory while it is there.
+// Nothing else writes the block's part of the memory while the block exists.
 unsafe impl Send for Block {}

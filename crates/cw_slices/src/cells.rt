@@ -1,4 +1,4 @@
-// Cells, or a part of the right to them: the same two words, read by the same code.
+// Cells, or a part of the right to them. Both are the same two words, and the same code reads them.
 ghost use Rattle.std.specs.Prelude.{◌≡◌, ℕ, ℤ, ◌*◌, ◌^◌, ◌<◌, ◌≤◌, Bool, true, List, length, slice_set};
 ghost use Rattle.core.specs.Mem.Slots.{slots_items, slots_filled, slots_ptr, slots_len};
 ghost use denote.Builtin.{i64};
@@ -9,8 +9,8 @@ use crate::memory::Span;
 use core::slots::Slots;
 use std::marker::Model;
 
-// A row of cells, owned, or a part of the right to read it, halved so often. To let it go is to leave the cells where they
-// are.
+// A row of cells, owned, or a part of the right to read it (the right halved `halved` times). Dropping it does not
+// free the cells.
 #[derive(Drop)]
 pub(crate) struct Cells {
     ptr: *mut i64,
@@ -28,11 +28,11 @@ impl Model for Cells {
     ghost also_shares = { λ h _ κ. lent i64 h.ptr h.len h.items h.filled κ };
 }
 
-// What it owns may go to another thread.
+// The memory that it owns may go to another thread.
 unsafe impl Send for Cells {}
 
 impl Cells {
-    // A span, as cells.
+    // Makes cells of a span.
     pub(crate) fn own(ptr: *mut i64, len: usize, span: Span) -> Cells
         requires { (span.at ≡ ptr) × (length span.items ≡ len) }
         ensures { (result.ptr ≡ ptr) × (result.len ≡ len) × (result.items ≡ span.items)
@@ -42,7 +42,7 @@ impl Cells {
         Cells { ptr, len }
     }
 
-    // Cells, as a span.
+    // Makes a span of the cells.
     pub(crate) fn disown(self) -> (*mut i64, Span)
         ensures { (result.0 ≡ self.ptr) × (result.1.at ≡ self.ptr)
             × (result.1.items ≡ self.items) × (result.1.filled ≡ self.filled)
@@ -52,7 +52,7 @@ impl Cells {
         (ptr, Span {})
     }
 
-    // Another number in a place of cells that are owned.
+    // Sets a number of owned cells.
     #[inline(always)]
     pub(crate) fn put(&mut self, place: usize, number: i64)
         requires { (self.old.halved ≡ 0) × (place < self.old.len) }
@@ -63,7 +63,7 @@ impl Cells {
         unsafe { self.ptr.add(place).write(number) }
     }
 
-    // The cells, to be read.
+    // Returns the cells for reading.
     #[inline(always)]
     pub(crate) fn row(&self) -> &Slots<i64>
         ensures { (slots_ptr result.now ≡ self.now.ptr) × (slots_len result.now ≡ self.now.len)

@@ -1,5 +1,4 @@
-// A row of cells of which some are in and the others lent out, and of some of which shares are out. Which ones is ghost
-// state.
+// A row of cells. Some are in, the others are lent out, and some may have shares out. Ghost state records which.
 ghost use Rattle.std.specs.Prelude.{◌≡◌, ℕ, ◌+◌, ◌-◌, ◌*◌, ◌^◌, ◌<◌, ◌≤◌, ℤ, List, length, replicate, Option, Some, slice_get, slice_set};
 ghost use Rattle.std.specs.Coded.{coded_option, coded_ℤ};
 ghost use base.Stored.{coded_list};
@@ -15,8 +14,8 @@ use crate::memory::Span;
 use core::slots::Slots;
 use std::marker::Model;
 
-// A row of cells, of which those that are in are owned, or a part of the right to each. To let it go is to leave the cells
-// where they are.
+// A row of cells that owns the cells that are in, or a part of the right to each. Dropping it does not free the
+// cells.
 #[derive(Drop)]
 pub(crate) struct Kept {
     ptr: *mut i64,
@@ -34,11 +33,11 @@ impl Model for Kept {
     ghost also_shares = { λ k _ κ. lent i64 k.ptr k.len (numbers k.cells) (marks k.cells) κ };
 }
 
-// What it owns may go to another thread.
+// The memory that it owns may go to another thread.
 unsafe impl Send for Kept {}
 
 impl Kept {
-    // A span, all of it in, with no share of it out.
+    // Makes a row of a span, with all cells in and no share out.
     pub(crate) fn keep(ptr: *mut i64, len: usize, span: Span) -> Kept
         requires { IsRun ptr len span }
         ensures words { (result.ptr ≡ ptr) × (result.len ≡ len) × (result.base ≡ span.halved) }
@@ -49,7 +48,7 @@ impl Kept {
         Kept { ptr, len }
     }
 
-    // The span of a row that is all in, with an equal right to each place.
+    // Returns the span of a row that is all in, with an equal right to each place.
     pub(crate) fn unkeep(self) -> (*mut i64, Span)
         requires there { (xs : List ℤ) × (self.cells ≡ ins xs) }
         requires alike { self.rights ≡ replicate (length self.cells) self.base }
@@ -61,7 +60,7 @@ impl Kept {
         (ptr, Span {})
     }
 
-    // So many cells from a place on, out of it.
+    // Takes `count` cells from `from` on out of the row.
     #[inline(always)]
     pub(crate) fn part(&mut self, from: usize, count: usize) -> (*mut i64, Span)
         requires within { from + count ≤ length self.old.cells }
@@ -76,7 +75,7 @@ impl Kept {
         unsafe { (self.ptr.add(from), Span {}) }
     }
 
-    // Cells back at their places.
+    // Puts lent cells back at their places.
     pub(crate) fn meet(&mut self, from: usize, span: Span)
         requires within { from + length span.items ≤ length self.old.cells }
         requires run { IsRun (self.old.ptr +ₚ (from * 8)) (length span.items) span }
@@ -88,7 +87,7 @@ impl Kept {
         let Span {} = span;
     }
 
-    // Half of the right to so many cells from a place on.
+    // Takes half of the right to `count` cells from `from` on.
     #[inline(always)]
     pub(crate) fn halve(&mut self, from: usize, count: usize) -> (*mut i64, Span)
         requires within { from + count ≤ length self.old.cells }
@@ -103,7 +102,7 @@ impl Kept {
         unsafe { (self.ptr.add(from), Span {}) }
     }
 
-    // The other half of that right back.
+    // Puts the other half of that right back.
     pub(crate) fn heal(&mut self, from: usize, span: Span)
         requires within { from + length span.items ≤ length self.old.cells }
         requires run { IsRun (self.old.ptr +ₚ (from * 8)) (length span.items) span }
@@ -118,7 +117,7 @@ impl Kept {
         let Span {} = span;
     }
 
-    // Another number in a place that is in, of which no share is out.
+    // Sets the number of a cell that is in and has no share out.
     #[inline(always)]
     pub(crate) fn put(&mut self, place: usize, number: i64)
         requires there { IsIn self.old.cells place }
@@ -130,7 +129,7 @@ impl Kept {
         unsafe { self.ptr.add(place).write(number) }
     }
 
-    // The cells, to be read where they are in.
+    // Returns the cells for reading; only those that are in may be read.
     #[inline(always)]
     pub(crate) fn row(&self) -> &Slots<i64>
         ensures len { slots_len result.now ≡ length self.now.cells }

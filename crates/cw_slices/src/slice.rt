@@ -1,4 +1,4 @@
-//! A part of a block of numbers: with one owner, or a share of it, to be read by all who have one.
+//! A part of a block of numbers, with one owner, or a share of it that each holder of a share can read.
 ghost use Rattle.std.specs.Prelude.{◌≡◌, ℕ, ◌+◌, ◌*◌, ◌^◌, ◌<◌, ◌≤◌, ℤ, pos, List, [], ◌∷◌, ◌++◌, length, take, drop, replicate, slice_index_or, slice_set, IfOk, true, false};
 ghost use Rattle.core.specs.Mem.Slots.{slots_items, slots_filled, slots_ptr, slots_len, IsFull};
 ghost use Rattle.cw_slices.specs.Placed.{Placed, Spot, after, cut_at, spot_of, Follows, IsOwn};
@@ -11,15 +11,14 @@ use std::alloc::{AllocError, Global};
 use std::marker::Model;
 use std::{fmt, mem};
 
-/// A part of a block of numbers, in three words: where it begins, how many numbers it has, and how
-/// long the block is that it frees. It has one owner, who may read, write, cut and join it; or it is
-/// a share, which may be read, while others read theirs on any threads, and nobody writes.
+/// A part of a block of numbers, in three words: where it begins, how many numbers it has, and the length of the
+/// block that it frees. It has one owner, who can read, write, cut and join it; or it is a share, which its holder
+/// can read while others read their shares on any threads, and which nobody writes.
 ///
-/// Dropped, a slice gives back a block that is all its own. **A part that was cut off and never
-/// joined, or a part or a share of a block that never comes back, leaves the memory where it is**,
-/// on whatever thread it is dropped: nobody counts what is left of a block. So who stops early ends
-/// its open cuts by `join`, which takes no memory and cannot fail, and gives its parts and shares
-/// back; then nothing is lost.
+/// Dropping a slice that is a whole block frees the block. **A part that was cut off and never joined, or a part or a
+/// share of a block that never comes back, is not freed**, on any thread: nothing counts what is left of a block. To
+/// stop early without a leak, end the open cuts with `join`, which takes no memory and cannot fail, and return parts
+/// and shares.
 pub struct Slice {
     cells: Cells,
     frees: usize,
@@ -43,7 +42,7 @@ impl Model for Slice {
         × FreesOwn s.frees s.cells.halved };
 }
 
-// A slice, as its words, its cells or its part of the right to them, and the right to free its block.
+// A slice taken apart: its words, its cells or its part of the right to them, and the right to free its block.
 #[derive(Drop)]
 pub(crate) struct Loose {
     pub(crate) ptr: *mut i64,
@@ -54,7 +53,7 @@ pub(crate) struct Loose {
     pub(crate) alloc: Global,
 }
 
-// No cells.
+// Returns no cells.
 #[inline(always)]
 fn no_cells() -> Cells
     ensures { (result.items ≡ []) × (result.filled ≡ []) × (result.halved ≡ 0) }
@@ -64,7 +63,7 @@ fn no_cells() -> Cells
     Cells::own(ptr, 0, span)
 }
 
-// A row with zero in each place. The loop writes nothing else, so that it becomes a `memset`.
+// Fills each place of a row with zero. The loop writes nothing else, so that it becomes a `memset`.
 #[tactic(auto, using(crate::proofs::Marks::set_same, crate::proofs::Marks::set_next, crate::proofs::Marks::all_set))]
 fn filled_with_zeros(mut row: Slots<i64>, count: usize) -> Slots<i64>
     requires { (slots_len row ≡ count) × (slots_items row ≡ replicate count (pos 0))
@@ -82,7 +81,7 @@ fn filled_with_zeros(mut row: Slots<i64>, count: usize) -> Slots<i64>
 }
 
 impl Slice {
-    /// The count of its numbers.
+    /// Returns the number of its numbers.
     #[inline(always)]
     pub fn len(&self) -> usize
         ensures value { result ≡ length self.now.items }
@@ -91,7 +90,7 @@ impl Slice {
         self.cells.row().len()
     }
 
-    /// A number of it, of its own or shared.
+    /// Returns number `i`, of an owned slice or of a share.
     #[inline(always)]
     pub fn get(&self, i: usize) -> i64
         requires { i < length self.now.items }
@@ -100,7 +99,7 @@ impl Slice {
         *self.cells.row().get(i)
     }
 
-    /// Another number in a place of it.
+    /// Sets number `i` to `x`.
     #[inline(always)]
     #[tactic(auto, using(crate::proofs::Marks::set_same))]
     pub fn set(&mut self, i: usize, x: i64)
@@ -112,9 +111,12 @@ impl Slice {
         self.cells.put(i, x);
     }
 
-    /// So many zeros, in a block of their own; for none, no memory is taken. Time in their count, at
-    /// the speed at which memory is filled. The error is that there was no memory for them, and then
-    /// nothing is kept.
+    /// Returns a slice of `count` zeros, in a block of their own. Takes time linear in `count`, at the speed of
+    /// filling memory. For 0, it takes no memory.
+    ///
+    /// # Errors
+    ///
+    /// An `AllocError` if there is no memory for the numbers; then nothing is kept.
     pub fn zeros(alloc: Global, count: usize) -> Result<Slice, AllocError>
         requires { count < 2 ^ 60 }
         ensures { IfOk result (λ s. (s.items ≡ replicate count (pos 0)) × IsOwn s) }
@@ -132,7 +134,7 @@ impl Slice {
         })
     }
 
-    /// A slice of no numbers, which takes no memory.
+    /// Returns a slice without numbers, which takes no memory.
     #[inline(always)]
     pub fn empty(alloc: Global) -> Slice
         ensures { (result.items ≡ []) × IsOwn result }
@@ -145,7 +147,7 @@ impl Slice {
         }
     }
 
-    /// The slice, moved out; one of no numbers and without memory is left in its place.
+    /// Moves the slice out and leaves an empty slice without memory.
     #[inline(always)]
     pub fn take(&mut self) -> Slice
         ensures value { result ≡ self.old }
@@ -155,8 +157,8 @@ impl Slice {
         mem::replace(self, Slice::empty(alloc))
     }
 
-    /// Its first numbers, and the others. Either may be empty. Nothing is copied, no memory is
-    /// taken, and it takes the same time for all lengths.
+    /// Splits a slice into its first `at` numbers and the others. Either part may be empty. Takes constant time and
+    /// no memory, and copies nothing.
     #[inline(always)]
     pub fn cut(self, at: usize) -> (Slice, Slice)
         requires own { IsOwn self }
@@ -189,7 +191,7 @@ impl Slice {
         (left, right)
     }
 
-    // A slice, taken apart.
+    // Takes a slice apart.
     #[inline(always)]
     pub(crate) fn loosen(self) -> Loose
         ensures run { IsRun result.ptr result.len result.span }
@@ -217,7 +219,7 @@ impl Slice {
         }
     }
 
-    // A slice, put together.
+    // Puts a slice together.
     #[inline(always)]
     pub(crate) fn bound(loose: Loose) -> Slice
         requires run { IsRun loose.ptr loose.len loose.span }
@@ -243,8 +245,8 @@ impl Slice {
         }
     }
 
-    /// Two neighbours, as one: the right one begins where the left one ends, as after a cut. Nothing
-    /// is copied, no memory is taken, and it takes the same time for all lengths.
+    /// Joins two neighbours into one slice: `right` must begin where `left` ends, as after a cut. Takes constant time
+    /// and no memory, and copies nothing.
     #[inline(always)]
     pub fn join(left: Slice, right: Slice) -> Slice
         requires own { IsOwn left }
@@ -277,8 +279,7 @@ impl Slice {
     }
 }
 
-// A block is freed with the slice that is all of it. A part that was never joined, or a share,
-// leaves the block where it is.
+// The slice that is all of a block frees the block. A part that was never joined, or a share, does not free it.
 impl Drop for Slice {
     fn drop(self) {
         let Slice {
@@ -304,5 +305,5 @@ impl fmt::Debug for Slice {
     }
 }
 
-// Nothing else writes its part of the block while it is there.
+// Nothing else writes the slice's part of the block while the slice exists.
 unsafe impl Send for Slice {}

@@ -1,4 +1,4 @@
-//! Tests of slices and blocks, by public calls alone, and on two threads.
+//! Tests of slices and blocks, by public calls only, and on two threads.
 #![tactic(auto)]
 
 #[cfg(test)]

@@ -8,7 +8,8 @@ use cw_slices::{Block, Slice};
 use std::test::Fail;
 use std::thread;
 
-// Whether three zeros are cut at their beginning, at their end, and where nothing is left, and joined again.
+// Returns whether three zeros can be cut at their beginning, at their end, and where nothing is left, and joined
+// again.
 fn is_cut_at_its_ends(mut whole: Slice) -> bool
     requires own { IsOwn whole }
     requires items { whole.items ≡ replicate 3 (pos 0) }
@@ -25,7 +26,7 @@ fn is_cut_at_its_ends(mut whole: Slice) -> bool
     is_none && is_end && whole.len() == 0 && last == 9
 }
 
-// Whether no number is cut into none and none.
+// Returns whether a slice without numbers can be cut into two slices without numbers.
 fn is_cut_into_none(whole: Slice) -> bool
     requires own { IsOwn whole }
     requires items { whole.items ≡ [] }
@@ -53,7 +54,7 @@ fn write_first(mut part: Slice, number: i64) -> Slice
     part
 }
 
-// Cuts one inside the other, whose parts two threads write, joined from the inside.
+// Nested cuts, whose parts two threads write, joined from the inside.
 #[test]
 #[tactic(auto, using(cw_slices::specs::lemmas::Sent::slice_send))]
 fn two_threads_write(rt: HostRuntime) -> Result<(), Fail> {
@@ -96,7 +97,7 @@ fn both_ends(part: Slice) -> (Slice, i64)
     (part, sum)
 }
 
-// A share is shared on, read, and comes back.
+// Shares a share further, reads it, and merges it.
 fn shared_on(part: Slice) -> (Slice, i64)
     ensures items { result.0.items ≡ part.items }
     ensures spot { result.0.spot ≡ part.spot }
@@ -117,7 +118,7 @@ fn read_first(block: Block) -> (Block, i64)
     (block, first)
 }
 
-// Two threads read one block, one of them through a share, which it shares on; and then its owner writes it.
+// Two threads read one block, one of them through a share, which it shares further; then the owner writes the block.
 #[test]
 #[tactic(auto, using(cw_slices::specs::lemmas::Sent::slice_send, cw_slices::specs::lemmas::Sent::block_send))]
 fn two_threads_read(rt: HostRuntime) -> Result<(), Fail> {
@@ -158,7 +159,7 @@ fn write_last(mut block: Block, number: i64) -> Block
     block
 }
 
-// One thread writes a part that is lent, and another the block that it was lent from.
+// One thread writes a part that is lent, and another one the block from which it was lent.
 #[test]
 #[tactic(auto, using(cw_slices::specs::lemmas::Sent::slice_send, cw_slices::specs::lemmas::Sent::block_send))]
 fn a_part_is_lent(rt: HostRuntime) -> Result<(), Fail> {
@@ -188,7 +189,8 @@ fn a_part_is_lent(rt: HostRuntime) -> Result<(), Fail> {
     Ok(())
 }
 
-// Whether none at the end and the last of three numbers are lent and given back, while the first one is out.
+// Returns whether an empty part at the end and the last of three numbers can be lent and given back, while the first
+// number is out.
 fn are_lent_at_the_end(block: &mut Block) -> bool
     requires cells { (x y : ℤ) × (block.old.cells ≡ None ∷ Some x ∷ Some y ∷ []) }
     requires whole { IsWhole block.old }
@@ -204,7 +206,8 @@ fn are_lent_at_the_end(block: &mut Block) -> bool
     is_end
 }
 
-// The same of the first number, which is 4, and of none at the beginning, while the others are lent too.
+// Returns whether the first number, which is 4, and an empty part at the beginning can be lent and given back, while
+// the others are lent too.
 fn are_lent_at_both_ends(block: &mut Block) -> bool
     requires cells { (x y z : ℤ) × (block.old.cells ≡ Some x ∷ Some y ∷ Some z ∷ []) }
     requires whole { IsWhole block.old }
@@ -221,7 +224,7 @@ fn are_lent_at_both_ends(block: &mut Block) -> bool
     is_end && is_none && number == 4
 }
 
-// Whether all is taken out after that.
+// Returns whether the whole block can be taken out after that.
 fn is_taken_whole(mut slice: Slice) -> bool
     requires own { IsOwn slice }
     requires items { slice.items ≡ replicate 3 (pos 0) }
@@ -234,7 +237,7 @@ fn is_taken_whole(mut slice: Slice) -> bool
     are_lent && block.len() == 0 && whole.len() == 3 && first == 4
 }
 
-// Lent at the beginning, at the end, and none at all; then all is taken out.
+// Parts are lent at the beginning and at the end, and empty parts; then the whole block is taken out.
 #[test]
 fn parts_are_lent_at_the_ends(rt: HostRuntime) -> Result<(), Fail> {
     let slice = Slice::zeros(rt.alloc(), 3)?;
@@ -242,7 +245,7 @@ fn parts_are_lent_at_the_ends(rt: HostRuntime) -> Result<(), Fail> {
     Ok(())
 }
 
-// The memory stays where it is, so that the share can be read still.
+// The memory is not freed, so the share can still be read.
 #[test]
 fn dropped_with_a_share_out(rt: HostRuntime) -> Result<(), Fail> {
     let mut slice = Slice::zeros(rt.alloc(), 2)?;
@@ -256,7 +259,7 @@ fn dropped_with_a_share_out(rt: HostRuntime) -> Result<(), Fail> {
     Ok(())
 }
 
-// The memory stays where it is, so that the part can be used still.
+// The memory is not freed, so the part can still be used.
 #[test]
 fn dropped_with_a_part_out(rt: HostRuntime) -> Result<(), Fail> {
     let mut block = Block::zeros(rt.alloc(), 2)?;

@@ -1,4 +1,4 @@
--- What an effect that means a job says of the job's run within each budget.
+-- An effect that means a job determines the job's run within each budget.
 use Rattle.std.proofs.Common.{◌≡◌, ℕ, ◌-◌, ◌<◌, sym, subst, arith}
 use Rattle.cw_code.specs.Code.{Code}
 use Rattle.cw_strand_laws.specs.Jobs.{Came, Arrives, Returns, Falls, Beyond, Lost, Job, job_start, course, Effect, Ended, Joined, TrapIn, OverLimit, Memory, IsOf, JobMeaning, Same, Passed, Short}
@@ -22,7 +22,7 @@ module _ (code : Code) (job : Job) where
       subst (StandsFor code job) (sym over) (λ m le. all m (omega (arith, le)))
   meaning_stands e (Short short) = subst (StandsFor code job) (sym short) tt
 
-  -- before its cost an effect's run has not ended
+  -- the run of an effect has not ended before its cost
   pub stands_short : (e : Effect) → StandsFor code job e → (m : ℕ) → m < cost_of e → course code job m ≡ Beyond
   stands_short (Ended v arrays t cost) h m lt = h.short m lt
   stands_short (Joined frame t cost) h m lt = h.short m lt

@@ -1,4 +1,4 @@
--- The calls on a strand keep that it is a strand of its job.
+-- The operations on a strand preserve that it is a strand of its job.
 use Rattle.std.proofs.Common.{◌≡◌, ◌+◌, ◌≤◌, Bool, true, false, nat_lt, if◌then◌else◌, List, [], ◌∷◌, refl, sym, ap, subst}
 use Rattle.cw_facts.specs.Tests.{lt_of, not_lt_of}
 use Rattle.cw_code.specs.Code.{Code}

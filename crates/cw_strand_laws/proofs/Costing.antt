@@ -1,4 +1,4 @@
--- Each instruction adds one to the work that is shown.
+-- Each instruction adds 1 to the work of the trace.
 use Rattle.std.proofs.Common.{◌≡◌, ℕ, zero, suc, ◌+◌, ℤ, Bool, true, false, Option, Some, None, List, [], ◌∷◌, ◌++◌, refl, sym, ◌∙◌, subst, arith}
 use Rattle.std.specs.Prelude.{slice_get}
 use Rattle.cw_model.specs.declared.syntax.CallKind.{CallKind}
@@ -37,7 +37,7 @@ work_more (Series t ∷ a) b = let e = work_more a b in omega (arith, e)
 work_more (Fork t ∷ a) b = let e = work_more a b in omega (arith, e)
 work_more (Join ∷ a) b = work_more a b
 
--- the work shown in the blocks round this one
+-- the work in the traces of the enclosing blocks
 abbrev outside : List Around → ℕ
 outside [] = 0
 outside (Caller w ∷ around) = work_in w.events + outside around
@@ -97,7 +97,7 @@ act_shows n code s o h =
       returns = λ v. back_shows n s.around v (settled s.arrived s.arrays) (synced s.trace) (omega (arith, join, h));
     }) o
 
--- what a run within a budget has shown when it came to its end
+-- the work in the trace of a run within a budget at its end
 abbrev Paid : (before budget : ℕ) → Came → Type 0
 Paid before budget (Arrives frame t left) = work_in t.events + left ≡ before + budget
 Paid before budget (Returns v arrays t left) = work_in t.events + left ≡ before + budget

@@ -12,7 +12,7 @@ use Rattle.cw_strand_laws.specs.Worlds.{Place, Undecided, Kept, Offered, Runs, M
 use Rattle.cw_strand_laws.specs.Worlds.{Skip, Resume, End, Settle, Give, Want, GiveUp, After, Now, Later, world_of, IsAmong, Falls, OwnersAreSingle}
 use Rattle.cw_strand_laws.proofs.WorldLaws.{one_there}
 
--- which strand handed each number out
+-- the strand that handed out each number
 abbrev IsOpen : Option Place → Type 0
 IsOpen o = o ≢ Some Spent
 
@@ -26,14 +26,14 @@ record Owned (world : World) : Type 0 where
   pub even' : length parents ≡ length world.places
   pub listed : (i worker : ℕ) (job : Job) (strand : Strand) (numbers : List ℕ) → Has world i job (Runs worker strand numbers) → Listed parents world.places i numbers × Falls numbers
 
--- a place that is set is open where the new one is
+-- a place stays open after a write if the new place is open
 open_set : (places : List Place) (k n : ℕ) (new : Place) → new ≢ Spent → IsOpen (slice_get places n) → IsOpen (slice_get (slice_set places k new) n)
 open_set places k n new live h e = elim (set_gives places k n new Spent e) [
   | inl p ↦ live (sym p.1)
   | inr p ↦ h p
 ]
 
--- what a list gives after one entry was set
+-- the elements of a list after a write
 set_cases : (xs : List Place) (i k : ℕ) (x y : Place) → slice_get (slice_set xs i x) k ≡ Some y → (k ≡ i × (y ≡ x)) ⊎ (k ≢ i × (slice_get xs k ≡ Some y))
 set_cases [] i k x y h = cc
 set_cases (z ∷ xs) zero zero x y h = inl (refl, one_there (Some x) y x h refl)
@@ -77,7 +77,7 @@ open_in parents places i n (m ∷ numbers) a h = elim a [
 runs_spent : (w : ℕ) (s : Strand) (ns : List ℕ) → Runs w s ns ≡ Spent → ⊥
 runs_spent w s ns e = cc
 
--- the place of one job becomes another, which is open; where it runs, it has these jobs out
+-- the place of one job changes to an open one; if it runs, it has these jobs out
 module _ (world : World) (owned : Owned world) where
   abbrev Fine : ℕ → Place → Type 0
   Fine i (Runs worker strand numbers) = Listed owned.parents world.places i numbers × Falls numbers
@@ -117,7 +117,7 @@ module _ (world : World) (owned : Owned world) where
       now : Listed owned.parents world.places i (n ∷ numbers) × Falls (n ∷ numbers)
       now = owned.listed i worker job strand (n ∷ numbers) has
 
-      -- what is not this number stays open
+      -- every other number stays open
       still : (m : ℕ) → m ≢ n → IsOpen (slice_get world.places m) → IsOpen (slice_get (slice_set (slice_set world.places n Spent) i (Runs worker new numbers)) m)
       still m other h = open_set (slice_set world.places n Spent) i m (Runs worker new numbers) (λ e. runs_spent worker new numbers e) (subst IsOpen (sym (set_other world.places n m Spent other)) h)
 

@@ -1,4 +1,4 @@
--- What is played can come.
+-- A list of events leads only to possible worlds.
 use Rattle.std.proofs.Common.{◌≡◌, ℕ, List, [], ◌∷◌, Option, Some, None, refl, ap, subst}
 use Rattle.std.specs.Prelude.{slice_get}
 use Rattle.cw_code.specs.Code.{Code}
@@ -13,7 +13,7 @@ use Rattle.cw_strand_laws.specs.Events.{takes_back, gives, with_job, at, happens
 some_world : (a b : World) → Some a ≡ Some b → a ≡ b
 some_world a b e = ap (λ o. elim o [ Some c ↦ c | None ↦ a ]) e
 
--- nothing is no world
+-- no result is not a world
 absurd_none : {A : Type 0} (world : World) → None ≡ Some world → A
 absurd_none world e = cc
 

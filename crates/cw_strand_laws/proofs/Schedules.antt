@@ -1,4 +1,4 @@
--- Whatever the schedule, the answer is that of the serial run.
+-- For every schedule, the answer is the answer of the serial run.
 use Rattle.std.proofs.Common.{◌≡◌, ◌⊎◌, ℕ, zero, suc, ◌-◌, ℤ, Some, None, List, [], ◌∷◌, refl, sym, ap, ◌∙◌, subst, inl, inr, arith}
 use Rattle.std.specs.Prelude.{slice_get, option_map}
 use Rattle.cw_model.specs.Frames.{no_frame}
@@ -50,7 +50,7 @@ module _ (code : Code) where
   pub cut : Cut code
   cut = record { child = child_under; rest = λ y s limit before n none. rest_under code y s limit before n none }
 
-  -- a whole run, told as the code's meaning tells it
+  -- the result of a whole run, in the terms of the code's meaning
   abbrev told : Came → RunOutcome
   told (Arrives frame t left) = None
   told (Returns v arrays t left) = Some (Done (v, no_frame) left t)

@@ -1,4 +1,4 @@
--- The rest of a block stays in the function that it begins in.
+-- The continuation of a block stays in the function in which it begins.
 use Rattle.std.proofs.Common.{◌≡◌, ℕ, zero, suc, ◌-◌, Bool, true, false, ◌&&◌, Some, List, [], ◌∷◌, refl, sym, ap, ◌∙◌, subst}
 use Rattle.std.proofs.lemmas.Bool.{false≢true}
 use Rattle.std.specs.Prelude.{slice_get}
@@ -21,7 +21,7 @@ module _ (code : Code) (fits : Fits code) (steps_well : FitSteps code fits) (sta
   abbrev Here : State → Type 0
   Here s = GoodState code fits (under b s) × IsInside f (outermost s.place (under b s).around)
 
-  -- a run that came somewhere came to a frame in the function
+  -- if a run reaches its join, it is in the function
   abbrev Comes : Came → Type 0
   Comes (Arrives frame t left) = IsInside f (outermost frame.place b.around)
   Comes (Returns v arrays t left) = Unit {0}

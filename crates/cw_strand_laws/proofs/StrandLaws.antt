@@ -1,4 +1,4 @@
--- Each step of a strand keeps what is true of it; so an effect that it ends with means its job.
+-- Each step of a strand preserves its invariant, so its final effect means its job.
 use Rattle.std.proofs.Common.{◌≡◌, ℕ, ◌+◌, ◌-◌, ◌<◌, ◌≤◌, ℤ, Bool, true, false, if◌then◌else◌, Option, Some, None, List, [], ◌∷◌, ◌++◌, refl, sym, ap, ◌∙◌, subst, inl, inr, arith}
 use Rattle.std.proofs.lemmas.Bool.{cases_lt}
 use Rattle.std.specs.Prelude.{slice_get, slice_set}
@@ -21,7 +21,7 @@ use Rattle.cw_strand_laws.specs.lemmas.Budgets.{takes_none, takes_then, takes_st
 use Rattle.cw_strand_laws.proofs.Travels.{travel_under}
 use Rattle.cw_strand_laws.proofs.Budgets.{meaning_stands, stands_short}
 
--- a greater bound does no harm
+-- a larger bound is also a bound
 out_later : (limit b c : ℕ) (w : Waiting) (kind : CallKind) (below below' : List Job → Type 0) (outs : List Job) → b ≤ c
     → ((others : List Job) → below others → below' others) → OutAt limit b w kind below outs → OutAt limit c w kind below' outs
 out_later limit b c w Plain below below' outs le more h = more outs h
@@ -35,7 +35,7 @@ outs_later limit b c (Caller w ∷ around) outs le h =
     out_later limit b c w w.kind (λ others. Outs limit b around others) (λ others. Outs limit c around others) outs le (λ others k. outs_later limit b c around others le k) h
 outs_later limit b c (Block o ∷ around) outs le h = outs_later limit b c around outs le h
 
--- what is out after an instruction, by its turn
+-- the jobs out after an instruction, by its effect on the strand
 abbrev OutsAfter : (limit bound : ℕ) → List Job → State → Turn → Transition → Type 0
 OutsAfter limit bound outs from Goes (On s) = Outs limit bound s.around outs
 OutsAfter limit bound outs from (HandsOut target taken) (On s) = Outs limit bound s.around (spawn_job from target taken limit bound ∷ outs)
@@ -59,7 +59,7 @@ module _ (limit bound : ℕ) (outs : List Job) (from : State) where
   stop_out (HandsOut target taken) trap line lines = tt
   stop_out ComesBack trap line lines = tt
 
-  -- a call in place keeps what is out, and a spawn hands out the rest of its block
+  -- a plain call does not change the jobs out; a spawn hands out the continuation of its block
   enter_out : (e : Entering) → Outs limit bound from.around outs → OutsAfter limit bound outs from (turn_call e.kind e.target e.taken) (On (begun from e))
   enter_out e h = cases e.kind
     where
@@ -67,7 +67,7 @@ module _ (limit bound : ℕ) (outs : List Job) (from : State) where
       cases Plain = h
       cases Spawned = (record { same = refl; low = omega arith; none = refl }, h)
 
-  -- a call comes back to one that made it in place, or spawned it
+  -- a call returns to its caller, which made a plain call or a spawn
   back_out : (around : List Around) (v : Option ℤ) (arrays : Slots (List ℤ)) (t : Trace) → Outs limit bound around outs → OutsAfter limit bound outs from (turn_in around) (back around v arrays t)
   back_out [] v arrays t h = tt
   back_out (Block o ∷ around) v arrays t h = tt
@@ -105,7 +105,7 @@ act_out limit bound outs code s o h = acts_by code s (λ j turn w. OutsAfter lim
 }) o
 
 module _ (code : Code) where
-  -- where a strand waits, the serial run is that of the job out, and then goes on from the join
+  -- while a strand waits, the serial run is the run of the newest job out, then continues from the join
   pub rest_under : (y : Extent) (s : State) (limit before n : ℕ) → s.operands ≡ [] → travel y code n s ≡ onwards code y s (course code (rest_at s limit before) n)
   rest_under y s limit before n none =
       ap (λ ops. travel y code n (record s { operands = ops })) none
@@ -123,7 +123,7 @@ module _ (code : Code) where
   }
 
   module _ (job : Job) where
-    -- A strand begins
+    -- the start of a strand
     pub starts : job.before ≤ job.limit → IsStrandOf code job (Going (job_start job) 0 [])
     starts le = (omega (arith, le), takes_none 0 (course code job) (course code job) refl (λ n. refl), tt)
 
@@ -150,7 +150,7 @@ module _ (code : Code) where
         → job.before + (count + 1) ≤ job.limit → IsStrandOf code job (Halted (TrapIn trap line lines (count + 1)) outs)
     falls s count outs trap line lines h e same le = (le, leads_on s count (Stops trap line lines) h.1 e same)
 
-    -- nothing has ended within so many instructions
+    -- the run does not end within this number of instructions
     over_so : (count : ℕ) (later : ℕ → Came) → job.before ≤ job.limit → Takes count (course code job) later → job.limit < job.before + count
         → (m : ℕ) → job.before + m ≤ job.limit → course code job m ≡ Beyond
     over_so count later le t above m within = t.short m (omega (arith, above, within))

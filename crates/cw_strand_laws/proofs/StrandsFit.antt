@@ -1,4 +1,4 @@
--- In code that fits no strand of any world finds what does not fit.
+-- In well-formed code, no strand of any world gets stuck.
 use Rattle.std.proofs.Common.{◌≡◌, ℕ, zero, suc, ◌+◌, ◌≤◌, ℤ, Bool, true, false, ◌&&◌, nat_lt, if◌then◌else◌, Option, Some, List, [], ◌∷◌, ◌++◌, length, refl, sym, ap, ◌∙◌, subst, inl, inr, arith}
 use Rattle.std.proofs.lemmas.Option.{slice_get_within}
 use Rattle.std.specs.Prelude.{slice_get}
@@ -34,7 +34,7 @@ GoesNowhere (Stops trap line lines) = Unit {0}
 GoesNowhere Stuck = Unit {0}
 
 module _ (code : Code) (fits : Fits code) (steps_well : FitSteps code fits) (settles : FitSettles) (begins : FitBegins code fits) where
-  -- the state of a strand fits, over what its job stands upon
+  -- the state of a strand, placed over the base of its job, is good
   abbrev FitStrand : {x : Extent} → Base x → Strand → Type 0
   FitStrand base (Going s count outs) = GoodState code fits (lifted base s)
   FitStrand base (Waits s count outs) = GoodState code fits (lifted base s)
@@ -56,7 +56,7 @@ module _ (code : Code) (fits : Fits code) (steps_well : FitSteps code fits) (set
     finishes : (outs : List Job) (e : Effect) → outs ≡ [] → FitAdvanced base (finished outs e)
     finishes outs e none = subst (λ os. FitAdvanced base (finished os e)) (sym none) tt
 
-    -- what a move of a strand leads to fits
+    -- the state after a step of a strand is good
     abbrev FitTurn : (from : State) (count : ℕ) → List Job → Turn → Transition → Type 0
     FitTurn from count outs turn w = (to : State) → w ≡ On to → GoodState code fits (lifted base to) → FitAdvanced base (turned turn from to job.limit job.before (count + 1) outs)
 
@@ -181,7 +181,7 @@ module _ (code : Code) (fits : Fits code) (steps_well : FitSteps code fits) (set
     take_back_fits (Waits s count (out ∷ outs)) g = g
     take_back_fits (Halted e outs) g = g
 
-  -- a job fits at its place
+  -- a job is good at its place
   record FitRun (job : Job) (strand : Strand) : Type 0 where
     pub base : Base job.extent
     pub fit : FitStrand base strand

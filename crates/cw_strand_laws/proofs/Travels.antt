@@ -1,4 +1,4 @@
--- The cut: a run over what waits is the run up to the join, and from there on, what waits having gone back into its slots.
+-- The division of a run: up to the join, then from the join after pending results went back into their slots.
 use Rattle.std.proofs.Common.{◌≡◌, ℕ, zero, suc, ℤ, Bool, true, false, ◌&&◌, if◌then◌else◌, Option, Some, List, [], ◌∷◌, ◌++◌, refl, sym, ap, ◌∙◌, subst}
 use Rattle.std.specs.Prelude.{slice_get}
 use Rattle.cw_facts.specs.Tests.{second_false, taken, not_taken}
@@ -16,7 +16,7 @@ use Rattle.cw_strand_laws.specs.Over.{under, transition_under}
 use Rattle.cw_strand_laws.specs.lemmas.Acts.{acts_by}
 use Rattle.cw_strand_laws.specs.lemmas.Under.{HasCaller, IsCall, Allowed, act_under}
 
--- how deep the call is that a run began in
+-- the depth of the call in which a run began
 abbrev pub base_of : ℕ → List Around → ℕ
 base_of depth [] = depth
 base_of depth (Caller w ∷ around) = base_of w.depth around
@@ -49,7 +49,7 @@ module _ (d : ℕ) where
   }) o
 
 module _ (code : Code) where
-  -- a join does the same once what waits has gone back
+  -- a join has the same effect after pending results went back
   join_puts_in : (y : Extent) (n : ℕ) (s : State) → joins (slice_get code.instrs s.place) ≡ true → travel y code n s ≡ travel y code n (put_in s)
   join_puts_in y n s h = cases y n (same (slice_get code.instrs s.place) h)
     where
@@ -68,7 +68,7 @@ module _ (code : Code) where
       cases ToJoin (suc m) e = ap (λ w. if has_come ToJoin code s then Arrives (standing s) s.trace (suc m) else moved w m (λ s'. travel ToJoin code m s')) e
 
   module _ (x y : Extent) (b : State) where
-    -- a run to the join may stand over anything, a whole call over its caller
+    -- a run to the join may be placed over any state, a whole call only over its caller
     abbrev pub MayStand : Extent → Type 0
     MayStand ToJoin = Unit {0}
     MayStand WholeCall = IsCall b
@@ -135,7 +135,7 @@ module _ (code : Code) where
     moves_under (Stops trap line lines) n d more = refl
     moves_under Stuck n d more = refl
 
-    -- the frame rule on whole runs
+    -- the frame rule for whole runs
     pub travel_under : (n : ℕ) (s : State) → MayStand x → Based b.depth s → travel y code n (under b s) ≡ onwards code y b (travel x code n s)
     travel_under zero s may d = cases (has_come x code s) refl
       where

@@ -1,4 +1,4 @@
--- Runs of small code by lists of events.
+-- Runs of small codes by lists of events.
 use Rattle.std.proofs.Common.{refl}
 use Rattle.cw_code.specs.Run.{code_serial}
 use Rattle.cw_strand_laws.specs.Walks.{PrintingWalks, FailingWalks}

@@ -1,4 +1,4 @@
--- Where memory is never wanting, no place has what stopped for want of it.
+-- If memory never runs out, no place has an effect that is out of memory.
 use Rattle.std.proofs.Common.{◌≢◌, zero, suc, [], ◌∷◌, Some, refl, sym, subst, inl, inr, length}
 use Rattle.cw_facts.specs.Lists.{added_gives}
 use Rattle.cw_code.specs.Code.{Code}

@@ -1,4 +1,4 @@
--- Each event keeps what is true of each job's place.
+-- Each event preserves the invariant of each job's place.
 use Rattle.std.proofs.Common.{◌≡◌, ℕ, zero, suc, ◌+◌, ◌≤◌, List, [], ◌∷◌, ◌++◌, Option, Some, None, refl, sym, ap, ◌∙◌, subst, inl, inr, arith, length, length-append}
 use Rattle.std.proofs.lemmas.List.{length-set}
 use Rattle.std.proofs.lemmas.Option.{slice_get_within}
@@ -18,7 +18,7 @@ module _ {A : Type 0} where
   pub one_there : (o : Option A) (x y : A) → o ≡ Some x → o ≡ Some y → x ≡ y
   one_there o x y e f = ap (λ p. elim p [ Some c ↦ c | None ↦ x ]) (sym e ∙ f)
 
--- the jobs that numbers name
+-- the jobs with these numbers
 abbrev pub Named : List Job → List ℕ → List Job → Type 0
 Named jobs [] [] = Unit {0}
 Named jobs [] (out ∷ outs) = ⊥
@@ -31,7 +31,7 @@ named_on jobs job [] (out ∷ outs) h = h
 named_on jobs job (n ∷ numbers) [] h = h
 named_on jobs job (n ∷ numbers) (out ∷ outs) h = (get_before jobs job n out h.0, named_on jobs job numbers outs h.1)
 
--- what is true of a job at its place
+-- the invariant of a job at its place
 abbrev pub PlaceOk : Code → List Job → Job → Place → Type 0
 PlaceOk code jobs job (Runs worker strand numbers) = IsStrandOf code job strand × Named jobs numbers (outs_of strand)
 PlaceOk code jobs job (Made worker e) = JobMeaning code job e
@@ -54,7 +54,7 @@ pub record WorldOk (code : Code) (world : World) : Type 0 where
   pub even : length world.jobs ≡ length world.places
   pub each : (i : ℕ) (job : Job) (place : Place) → Has world i job place → PlaceOk code world.jobs job place
 
--- a strand waits for the first of those that it has out
+-- a strand waits for the first job out
 pub waits_for : (strand : Strand) (out : Job) (outs : List Job) → IsWaiting strand → outs_of strand ≡ out ∷ outs → WaitsFor strand out outs
 waits_for (Going s count os) out outs w same = absurd w
 waits_for (Waits s count os) out outs w same = same
@@ -81,7 +81,7 @@ module _ (code : Code) where
     ];
   }
 
-  -- a place set without regard to what stood there
+  -- a place is set, whatever it was before
   set_ok : (world : World) (i : ℕ) (job : Job) (new : Place) → WorldOk code world → slice_get world.jobs i ≡ Some job → PlaceOk code world.jobs job new → WorldOk code (placed world i new)
   set_ok world i job new ok is h = record {
     even = ok.even ∙ sym (length-set world.places i new);

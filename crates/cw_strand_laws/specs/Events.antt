@@ -1,4 +1,4 @@
--- Lists of events, carried out one after another; what cannot happen leaves nothing.
+-- Lists of events, applied one at a time; an impossible event has no result.
 use Rattle.std.specs.Prelude.{◌≡◌, ℕ, List, [], ◌∷◌, length, Option, Some, None, slice_get}
 use Rattle.cw_model.specs.Answers.{Answer}
 use Rattle.cw_code.specs.Code.{Code}
@@ -9,7 +9,7 @@ use Rattle.cw_strand_laws.specs.Steps.{take_back, out_of_memory}
 use Rattle.cw_strand_laws.specs.Worlds.{Place, Undecided, Kept, Offered, Runs, Made, Settled, Spent, World, effect_in}
 use Rattle.cw_strand_laws.specs.Worlds.{placed, joined_by, After}
 
--- an event, at the job of this number
+-- an event, at the job with this number
 pub data Event : Type 0 where
   Advance : ℕ → Event
   Offer : ℕ → Event
@@ -22,6 +22,7 @@ pub data Event : Type 0 where
   GiveUp : (worker : ℕ) → ℕ → Event
   TakeBack : ℕ → Event
 
+-- the world after an advance of a strand; no world if the strand cannot advance
 abbrev pub advanced : World → (i worker : ℕ) → List ℕ → Advanced → Option World
 advanced world i worker outs (Ran new) = Some (placed world i (Runs worker new outs))
 advanced world i worker outs (Handed out new) =
@@ -30,7 +31,7 @@ advanced world i worker outs AtSync = None
 advanced world i worker outs (Finished e) = Some (placed world i (Made worker e))
 advanced world i worker outs Unfit = None
 
--- the newest job out is skipped, if it has not begun
+-- skips the newest job out, if it has not begun
 abbrev pub skips : World → (i n worker : ℕ) → Strand → List ℕ → Place → Option World
 skips world i n worker (Halted e jobs) outs (Kept w) =
     Some (placed (placed world n Spent) i (Runs worker (skip (Halted e jobs)) outs))
@@ -38,7 +39,7 @@ skips world i n worker (Halted e jobs) outs (Offered w) =
     Some (placed (placed world n Spent) i (Runs worker (skip (Halted e jobs)) outs))
 skips world i n worker strand outs place = None
 
--- the newest job out is given, if its effect was made
+-- gives the newest job out, if its effect was made
 abbrev pub gives : World → (i n worker : ℕ) → Job → Strand → List ℕ → Option Effect → Option World
 gives world i n worker job (Waits s count jobs) outs (Some e) =
     Some (placed (placed world n Spent) i (Runs worker (give job (Waits s count jobs) e) outs))
@@ -46,7 +47,7 @@ gives world i n worker job (Halted e' jobs) outs (Some e) =
     Some (placed (placed world n Spent) i (Runs worker (give job (Halted e' jobs) e) outs))
 gives world i n worker job strand outs found = None
 
--- the newest job out is taken back, if it has not begun
+-- takes the newest job out back, if it has not begun
 abbrev pub takes_back : World → (i n worker : ℕ) → Strand → List ℕ → Place → Option World
 takes_back world i n worker (Waits s count jobs) outs (Kept w) =
     Some (placed (placed world n Spent) i (Runs worker (take_back (Waits s count jobs)) outs))
@@ -54,14 +55,16 @@ takes_back world i n worker (Waits s count jobs) outs (Offered w) =
     Some (placed (placed world n Spent) i (Runs worker (take_back (Waits s count jobs)) outs))
 takes_back world i n worker strand outs place = None
 
--- with a job and its place
+-- with a job and its place, if both exist
 abbrev pub with_job : Option Job → Option Place → (Job → Place → Option World) → Option World
 with_job (Some job) (Some place) go = go job place
 with_job _ _ go = None
 
+-- with the job of a number and its place, if the number exists
 abbrev pub at : World → ℕ → (Job → Place → Option World) → Option World
 at world i go = with_job (slice_get world.jobs i) (slice_get world.places i) go
 
+-- the world after an event at a job with this place; no world if the event is impossible there
 abbrev pub happens : Code → World → Event → Job → Place → Option World
 happens code world (Advance i) job (Runs worker strand outs) = advanced world i worker outs (advance code job strand)
 happens code world (Offer i) job (Undecided worker) = Some (placed world i (Offered worker))
@@ -81,7 +84,7 @@ happens code world (TakeBack i) job (Runs worker strand (n ∷ outs)) =
     at world n (λ out place. takes_back world i n worker strand outs place)
 happens code world event job place = None
 
--- the number that an event is at
+-- the number of the job of an event
 abbrev pub number_of : Event → ℕ
 number_of (Advance i) = i
 number_of (Offer i) = i
@@ -94,33 +97,37 @@ number_of (Want i) = i
 number_of (GiveUp worker i) = i
 number_of (TakeBack i) = i
 
+-- the world after an event; no world if the event is impossible
 abbrev pub apply : Code → World → Event → Option World
 apply code world event = at world (number_of event) (λ job place. happens code world event job place)
 
+-- the world after an event, if there is a world before it
 abbrev pub and_apply : Code → Event → Option World → Option World
 and_apply code event None = None
 and_apply code event (Some world) = apply code world event
 
--- so many events, the last one first in the list
+-- the world after some events; the last event comes first in the list
 abbrev pub play : Code → List Event → World → Option World
 play code [] world = Some world
 play code (event ∷ events) world = and_apply code event (play code events world)
 
--- what is played can come
+-- a list of events leads only to possible worlds
 abbrev pub PlaysCome : Type 0
 PlaysCome =
     (code : Code) (events : List Event) (first world : World) → play code events first ≡ Some world
     → After code first world
 
--- what the root's effect answers
+-- the answer of the root's effect, if it was made
 abbrev pub and_answered : Code → Option Effect → Option Answer
 and_answered code None = None
 and_answered code (Some e) = answered code e
 
+-- the effect at a place, if it was made and not yet given
 abbrev pub effect_at : Option Place → Option Effect
 effect_at None = None
 effect_at (Some place) = effect_in place
 
+-- the answer of the root's effect in a world, if it was made
 abbrev pub outcome : Code → Option World → Option Answer
 outcome code None = None
 outcome code (Some world) = and_answered code (effect_at (slice_get world.places 0))

@@ -1,5 +1,5 @@
--- Jobs: a whole call, or the rest of a sync block up to its join; how a run of one ends, what its effect is, and what
--- an effect must be.
+-- Jobs: a whole call, or the continuation of a sync block up to its join; how its run ends, what its effect is, and
+-- when an effect means it.
 use Rattle.std.specs.Prelude.{◌≡◌, ℕ, zero, suc, ◌-◌, ℤ, Bool, true, false, ◌&&◌, if◌then◌else◌, List, [], ◌∷◌}
 use Rattle.std.specs.Prelude.{Option, Some, None, slice_get}
 use Rattle.cw_model.specs.declared.trap.Trap.{Trap}
@@ -13,28 +13,28 @@ use Rattle.cw_code.specs.Frozen.{is_join}
 use Rattle.cw_code.specs.Run.{Slots, Readers, Around, State, Transition, On, Ends, Stops, Stuck, settled, slots_of}
 use Rattle.cw_code.specs.Run.{arrays_of, fresh, step, reducers_of}
 
--- how far a run goes: to the end of its call, or to before the join of the sync block that it begins in
+-- how far a run goes: to the end of its call, or to just before the join of the sync block in which it begins
 pub data Extent : Type 0 where
   WholeCall : Extent
   ToJoin : Extent
 
--- an instruction that joins its sync block
+-- the instruction joins its sync block
 abbrev pub joins : Option Instr → Bool
 joins None = false
 joins (Some i) = is_join i
 
--- nothing stands round the sync block: it is the one that the run began in
+-- nothing encloses the sync block: the run began in it
 abbrev pub is_first : List Around → Bool
 is_first [] = true
 is_first (a ∷ around) = false
 
--- the run has gone as far as it goes
+-- the run has reached its end
 abbrev pub has_come : Extent → Code → State → Bool
 has_come WholeCall code s = false
 has_come ToJoin code s = is_first s.around && joins (slice_get code.instrs s.place)
 
--- a call as it stands at a join, what its own spawns took being given back, with what it was lent: the value of a return
--- lies on its operands
+-- a call at a join, after all its own spawned calls returned what they took, with the arrays that it was lent; the
+-- value of a return is on its operands
 pub record Standing : Type 0 where
   pub place : ℕ
   pub operands : List ℤ
@@ -42,6 +42,7 @@ pub record Standing : Type 0 where
   pub arrays : Slots (List ℤ)
   pub readers : Readers
 
+-- the call of a state at a join, after its pending results went back into their slots
 abbrev pub standing : State → Standing
 standing s =
     record {
@@ -52,8 +53,8 @@ standing s =
       readers = s.readers;
     }
 
--- where a run comes to within a budget, and what is left of it: to the join, to the end of its call, to a trap, to the
--- end of the budget, or to code that does not fit
+-- the result of a run within a budget, with the rest of the budget: it reaches the join, returns, traps, exceeds the
+-- budget, or gets stuck
 pub data Came : Type 0 where
   Arrives : Standing → Trace → (left : ℕ) → Came
   Returns : Option ℤ → Slots (List ℤ) → Trace → (left : ℕ) → Came
@@ -61,6 +62,7 @@ pub data Came : Type 0 where
   Beyond : Came
   Lost : Came
 
+-- the result of a run after a step: from the next state, or at once if the step ended the run, trapped or is stuck
 abbrev pub moved : Transition → ℕ → (State → Came) → Came
 moved (On s) left next = next s
 moved (Ends v arrays t) left next = Returns v arrays t left
@@ -73,8 +75,8 @@ travel x code zero s = if has_come x code s then Arrives (standing s) s.trace ze
 travel x code (suc n) s =
     if has_come x code s then Arrives (standing s) s.trace (suc n) else moved (step code s) n (λ s'. travel x code n s')
 
--- a job: how far it goes, its place, its slots, in which what a spawn still out took stands empty, what its call was
--- lent, its depth, the limit of the run, and the cost before it
+-- a job: its extent, its place, its slots (empty where a spawned call still has the value), the arrays that its call
+-- was lent, its depth, the limit of the run, and the cost of the run before it
 pub record Job : Type 0 where
   pub extent : Extent
   pub place : ℕ
@@ -85,7 +87,7 @@ pub record Job : Type 0 where
   pub limit : ℕ
   pub before : ℕ
 
--- a job begins with no operand, nothing round it and nothing shown
+-- the start of a job: no operands, no enclosing blocks, an empty trace
 abbrev pub job_start : Job → State
 job_start job = fresh job.place job.depth job.slots job.arrays job.readers
 
@@ -93,7 +95,7 @@ job_start job = fresh job.place job.depth job.slots job.arrays job.readers
 abbrev pub course : Code → Job → ℕ → Came
 course code job n = travel job.extent code n (job_start job)
 
--- the job of a whole run: a function on its arguments, at depth 1, with nothing before it
+-- the job of a whole run: a function on its arguments, at depth 1, with no cost before it
 abbrev pub root_job : Func → List ℤ → (limit : ℕ) → Job
 root_job f args limit =
     record {
@@ -107,8 +109,8 @@ root_job f args limit =
       before = 0;
     }
 
--- what a strand makes of its job: the value of the call, or the call at the join, with what the run has shown and its
--- cost; or a trap with its cost, the limit passed, or memory wanting
+-- the result of a strand for its job: the value of the call, or the call at its join, with the trace and the cost of
+-- the run; or a trap with its cost; or the limit was exceeded; or memory ran out
 pub data Effect : Type 0 where
   Ended : Option ℤ → Slots (List ℤ) → Trace → (cost : ℕ) → Effect
   Joined : Standing → Trace → (cost : ℕ) → Effect
@@ -116,7 +118,7 @@ pub data Effect : Type 0 where
   OverLimit : Effect
   Memory : Effect
 
--- what a run came to within a budget, as an effect; none where the code does not fit
+-- the result of a run within a budget, as an effect; none if the code gets stuck
 abbrev pub IsOf : Came → (budget : ℕ) → Effect → Type 0
 IsOf (Arrives frame t left) n e = e ≡ Joined frame t (n - left)
 IsOf (Returns v arrays t left) n e = e ≡ Ended v arrays t (n - left)
@@ -124,14 +126,14 @@ IsOf (Falls trap line lines left) n e = e ≡ TrapIn trap line lines (n - left)
 IsOf Beyond n e = e ≡ OverLimit
 IsOf Lost n e = ⊥
 
--- the meaning of a job: what its run comes to within the limit; or over, where the run is over within the limit less
--- the cost before; or memory was wanting
+-- the meaning of a job: the result of its run within the limit; or over the limit, if the run exceeds the limit minus
+-- the cost before the job; or out of memory
 pub data JobMeaning (code : Code) (job : Job) (e : Effect) : Type 0 where
   Same : IsOf (course code job job.limit) job.limit e → JobMeaning code job e
   Passed : e ≡ OverLimit → course code job (job.limit - job.before) ≡ Beyond → JobMeaning code job e
   Short : e ≡ Memory → JobMeaning code job e
 
--- what the effect of a whole run answers; nothing for want of memory, and of a rest
+-- the answer of the effect of a whole run; none for out of memory, and for a continuation
 abbrev pub answered : Code → Effect → Option Answer
 answered code (Ended v arrays t cost) = Some (answer_of (reducers_of code) (Done (v, no_frame) 0 t))
 answered code (TrapIn trap line lines cost) = Some (answer_of (reducers_of code) (Trapped trap line lines))

@@ -1,4 +1,4 @@
--- The rest of a block stays in the function that it begins in.
+-- The continuation of a block stays in the function in which it begins.
 use Rattle.std.specs.Prelude.{◌≡◌, ℕ, Some, slice_get}
 use Rattle.cw_model.specs.Outcome.{Trace}
 use Rattle.cw_code.specs.declared.code.Func.{Func}
@@ -10,7 +10,7 @@ use Rattle.cw_code.specs.Staying.{IsInside, outermost}
 use Rattle.cw_strand_laws.specs.Jobs.{ToJoin, Standing, Job, job_start, Joined, JobMeaning}
 use Rattle.cw_strand_laws.specs.Over.{under}
 
--- where the rest of a block has come to its join, it is in the function that it began in
+-- a continuation that reached its join is in the function in which it began
 abbrev pub RestsStayInside : Type 0
 RestsStayInside =
     (code : Code) (fits : Fits code) (job : Job) (b : State) (k : ℕ) (f : Func) (frame : Standing) (t : Trace)

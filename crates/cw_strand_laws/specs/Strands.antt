@@ -1,4 +1,4 @@
--- Strands: what runs a job, hands the rest of a sync block out as a job at a spawn and goes on with the call.
+-- Strands: a strand executes a job; at a spawn it hands out the continuation of the sync block and executes the call.
 use Rattle.std.specs.Prelude.{◌≡◌, ℕ, ◌+◌, ◌≤◌, ◌<◌, ℤ, true, false, List, [], ◌∷◌, ◌++◌, map, Option, Some, None}
 use Rattle.std.specs.Prelude.{slice_get}
 use Rattle.cw_model.specs.declared.trap.Trap.{Trap}
@@ -13,9 +13,9 @@ use Rattle.cw_code.specs.Run.{slot_taken, taken_from, moved_out, passed_by, step
 use Rattle.cw_strand_laws.specs.Jobs.{ToJoin, has_come, Standing, standing, Job, job_start, Effect, Ended, Joined, TrapIn}
 use Rattle.cw_strand_laws.specs.Jobs.{OverLimit, Memory}
 
--- a strand and the jobs that it handed out and was not given back, the newest first: it goes on, from a state of the
--- serial run, so many instructions after its job's start; or a spawned call in it has ended, so that it waits for the
--- rest of the block that spawned it, the newest job out; or it has stopped
+-- a strand, with the jobs that it handed out and that have not come back, the newest first. It is running, at a state
+-- of the serial run, `count` instructions after its job's start; or a spawned call has ended and it waits for the
+-- continuation of the spawning block, the newest job out; or it has stopped
 pub data Strand : Type 0 where
   Going : State → (count : ℕ) → (outs : List Job) → Strand
   Waits : State → (count : ℕ) → (outs : List Job) → Strand
@@ -27,7 +27,7 @@ outs_of (Going s count outs) = outs
 outs_of (Waits s count outs) = outs
 outs_of (Halted e outs) = outs
 
--- the rest of a block that waits for a spawned call, as a job
+-- the continuation of a block that waits for a spawned call, as a job
 abbrev pub rest_of : Waiting → (limit before : ℕ) → Job
 rest_of w limit before =
     record {
@@ -41,7 +41,7 @@ rest_of w limit before =
       before = before;
     }
 
--- the job that is out where a strand waits: the rest of the block that it will go on with
+-- the newest job out of a strand that waits: the continuation of the current block
 abbrev pub rest_at : State → (limit before : ℕ) → Job
 rest_at s limit before =
     record {
@@ -55,25 +55,29 @@ rest_at s limit before =
       before = before;
     }
 
--- what an instruction is to a strand: it hands out the rest of its block, ends a spawned call, or does neither
+-- the effect of an instruction on a strand: it hands out the continuation of its block, ends a spawned call, or
+-- neither
 pub data Turn : Type 0 where
   Goes : Turn
   HandsOut : (target : Option ℕ) → List Taken → Turn
   ComesBack : Turn
 
+-- the end of a spawned call brings the strand back to its spawner
 abbrev pub turn_back : CallKind → Turn
 turn_back Plain = Goes
 turn_back Spawned = ComesBack
 
+-- the effect on the strand of a return, by the enclosing call
 abbrev pub turn_in : List Around → Turn
 turn_in (Caller w ∷ around) = turn_back w.kind
 turn_in _ = Goes
 
--- a spawn hands out the rest of its block
+-- a spawn hands out the continuation of its block
 abbrev pub turn_call : CallKind → Option ℕ → List Taken → Turn
 turn_call Plain target taken = Goes
 turn_call Spawned target taken = HandsOut target taken
 
+-- the effect of an instruction on the strand
 abbrev pub turn_of : Code → Option Instr → List Around → Turn
 turn_of code (Some (instr.Call kind c)) around = turn_call kind c.target (map (λ a. Whole a) (passed_by code c.passed))
 turn_of code (Some (instr.Recur kind c)) around = turn_call kind None (map (λ a. Whole a) (passed_by code c.passed))
@@ -81,11 +85,12 @@ turn_of code (Some instr.ReturnValue) around = turn_in around
 turn_of code (Some instr.Return) around = turn_in around
 turn_of code _ around = Goes
 
+-- the effect on the strand of the instruction at a state
 abbrev pub turn : Code → State → Turn
 turn code s = turn_of code (slice_get code.instrs s.place) s.around
 
--- the job of a spawn: the rest of its block, from the next place, with the slots of the result and of what was taken
--- empty
+-- the job of a spawn: the continuation of its block, from the next place on, with empty slots for the result and for
+-- the arrays that the call took
 abbrev pub spawn_job : State → Option ℕ → List Taken → (limit before : ℕ) → Job
 spawn_job s target taken limit before = record {
   extent = ToJoin;
@@ -105,7 +110,7 @@ goes_on (HandsOut target taken) from to limit before count outs =
     Going to count (spawn_job from target taken limit (before + count) ∷ outs)
 goes_on ComesBack from to limit before count outs = Waits to count outs
 
--- the join: the rest is done, what waits goes back into its slots, and the block goes on from its join
+-- the join: the continuation is done, pending results go back into their slots, and the block continues at its join
 abbrev pub resumed : State → Standing → Trace → State
 resumed s frame t =
     record s {
@@ -119,7 +124,7 @@ resumed s frame t =
       trace = joined s.trace t;
     }
 
--- an effect that stopped
+-- the effect is a trap, over the limit, or out of memory
 abbrev pub HasStopped : Effect → Type 0
 HasStopped (Ended v arrays t cost) = ⊥
 HasStopped (Joined frame t cost) = ⊥
@@ -127,12 +132,12 @@ HasStopped (TrapIn trap line lines cost) = Unit {0}
 HasStopped OverLimit = Unit {0}
 HasStopped Memory = Unit {0}
 
--- a rest that stopped, after what its block and the call before it have shown and counted
+-- the effect of a strand whose continuation stopped, after the trace and cost of the block and the call before it
 abbrev pub stopped_after : State → (count : ℕ) → Effect → Effect
 stopped_after s count (TrapIn trap line lines cost) = TrapIn trap line (s.trace.lines ++ lines) (count + cost)
 stopped_after s count e = e
 
--- what was dropped counts only for want of memory
+-- a dropped effect matters only if memory ran out
 abbrev pub dropped : Effect → Effect → Effect
 dropped e Memory = Memory
 dropped e (Ended v arrays t cost) = e
@@ -140,7 +145,7 @@ dropped e (Joined frame t cost) = e
 dropped e (TrapIn trap line lines cost) = e
 dropped e OverLimit = e
 
--- what an effect has counted
+-- the cost that an effect includes
 abbrev pub cost_of : Effect → ℕ
 cost_of (Ended v arrays t cost) = cost
 cost_of (Joined frame t cost) = cost
@@ -149,7 +154,7 @@ cost_of OverLimit = 0
 cost_of Memory = 0
 
 mutual
-  -- what a strand that runs a job may come to, whatever else happens: one rule for each step
+  -- the reachable states of a strand of a job, for every schedule: one rule for each step
   pub data Reached (code : Code) : (job : Job) → Strand → Type 0 where
     Started : (job : Job) → job.before ≤ job.limit → Reached code job (Going (job_start job) 0 [])
     -- an instruction within the limit
@@ -161,15 +166,15 @@ mutual
         → Reached code job (Going s count outs) → has_come job.extent code s ≡ false
         → step code s ≡ Stops trap line lines → job.before + (count + 1) ≤ job.limit
         → Reached code job (Halted (TrapIn trap line lines (count + 1)) outs)
-    -- the next instruction would pass the limit
+    -- the next instruction would exceed the limit
     TooMuch : (job : Job) (s : State) (count : ℕ) (outs : List Job)
         → Reached code job (Going s count outs) → has_come job.extent code s ≡ false
         → job.limit < job.before + (count + 1)
         → Reached code job (Halted OverLimit outs)
-    -- memory may be wanting at any step
+    -- memory may run out at any step
     NoMemory : (job : Job) (strand : Strand)
         → Reached code job strand → Reached code job (Halted Memory (outs_of strand))
-    -- give: the effect of the newest rest out
+    -- give: the strand receives the effect of its newest job out
     Given : (job out : Job) (s : State) (count : ℕ) (outs : List Job) (frame : Standing) (t : Trace) (cost : ℕ)
         → Reached code job (Waits s count (out ∷ outs)) → Makes code out (Joined frame t cost)
         → job.before + (count + cost) ≤ job.limit
@@ -182,14 +187,14 @@ mutual
         → Reached code job (Waits s count (out ∷ outs)) → Makes code out e → HasStopped e
         → job.before + (count + cost_of e) ≤ job.limit
         → Reached code job (Halted (stopped_after s count e) outs)
-    -- skip: the call stopped, and its rest was got back unrun
+    -- skip: the call stopped, and nobody executed its continuation
     Skipped : (job out : Job) (e : Effect) (outs : List Job)
         → Reached code job (Halted e (out ∷ outs)) → Reached code job (Halted e outs)
-    -- the call stopped, and its rest was run elsewhere
+    -- the call stopped, and its continuation was executed elsewhere
     Dropped : (job out : Job) (e e' : Effect) (outs : List Job)
         → Reached code job (Halted e (out ∷ outs)) → Makes code out e' → Reached code job (Halted (dropped e e') outs)
 
-  -- the effects that strands may make of a job
+  -- the effects that strands may make for a job
   pub data Makes (code : Code) : (job : Job) → Effect → Type 0 where
     Arrived : (job : Job) (s : State) (count : ℕ)
         → Reached code job (Going s count []) → has_come job.extent code s ≡ true
@@ -200,5 +205,5 @@ mutual
         → Makes code job (Ended v arrays t (count + 1))
     Stopped : (job : Job) (e : Effect)
         → Reached code job (Halted e []) → Makes code job e
-    -- a job given up for want of memory, before any strand was made
+    -- a job that was given up because memory ran out before it had a strand
     GivenUp : (job : Job) → Makes code job Memory

@@ -1,4 +1,4 @@
--- Small codes, and lists of events that carry them out in different orders; the last event stands first.
+-- Small codes, and lists of events that execute them in different orders; the last event comes first.
 use Rattle.std.specs.Prelude.{◌≡◌, ℕ, ℤ, pos, true, false, List, [], ◌∷◌, Option, Some, None}
 use Rattle.cw_model.specs.declared.syntax.CallKind.TheVariants.{Spawned}
 use Rattle.cw_model.specs.declared.syntax.Operator.TheVariants.{Divide}
@@ -14,21 +14,21 @@ use Rattle.cw_strand_laws.specs.Jobs.{root_job}
 use Rattle.cw_strand_laws.specs.Worlds.{world_of}
 use Rattle.cw_strand_laws.specs.Events.{Event, Advance, Offer, Inline, Begin, Skip, Settle, Give, TakeBack, play, outcome}
 
--- the first function, called at a site in a line, with its result dropped
+-- a call of the first function at a site in a line; its result is dropped
 abbrev pub to_first : (site line : ℕ) → Callee
 to_first site line = record { function = 0; site = site; line = line; target = None; passed = 0; lent = 0 }
 
--- a spawn of the first function
+-- the site of a spawn of the first function
 abbrev pub spawn_site : (number line : ℕ) → CodeSite
 spawn_site number line =
     record { told = record { number = number; kind = Of Spawned; line = line; callee = [] }; function = 0 }
 
--- main of the first code
+-- `main` of the first code
 abbrev pub prints : Func
 prints =
     record { start = 3; end = 12; gives_int = true; params = 0; slots = 0; array_params = 0; arrays = 0; readers = 0 }
 
--- void p(int v) { print(v); } and main: cilk_spawn p(1); cilk_spawn p(2); print(3); cilk_sync; return 0;
+-- `void p(int v) { print(v); }`, and `main`: `cilk_spawn p(1); cilk_spawn p(2); print(3); cilk_sync; return 0;`
 abbrev pub printing : Code
 printing = record {
   instrs =
@@ -46,42 +46,42 @@ printing = record {
   lent = [];
 }
 
--- what these events make of the first code within a limit
+-- the answer of the first code after these events, within a limit
 abbrev pub printed_by : List Event → (limit : ℕ) → Option Answer
 printed_by events limit = outcome printing (play printing events (world_of (root_job prints [] limit)))
 
--- one worker, each rest kept and run by a strand of its own
+-- one worker; each continuation is kept and executed by its own strand
 abbrev pub kept : List Event
 kept =
     Advance 0 ∷ Advance 0 ∷ Advance 0 ∷ Give 0 ∷ Advance 1 ∷ Give 1 ∷ Advance 2 ∷ Advance 2 ∷ Advance 2 ∷ Begin 0 2
     ∷ Advance 1 ∷ Advance 1 ∷ Advance 1 ∷ Inline 2 ∷ Advance 1 ∷ Advance 1 ∷ Begin 0 1
     ∷ Advance 0 ∷ Advance 0 ∷ Advance 0 ∷ Inline 1 ∷ Advance 0 ∷ Advance 0 ∷ []
 
--- one worker, each rest kept and taken back by the one strand
+-- one worker; each continuation is kept and taken back by the only strand
 abbrev pub taken_back : List Event
 taken_back =
     Advance 0 ∷ Advance 0 ∷ Advance 0 ∷ Advance 0 ∷ Advance 0 ∷ TakeBack 0
     ∷ Advance 0 ∷ Advance 0 ∷ Advance 0 ∷ Inline 2 ∷ Advance 0 ∷ Advance 0 ∷ TakeBack 0
     ∷ Advance 0 ∷ Advance 0 ∷ Advance 0 ∷ Inline 1 ∷ Advance 0 ∷ Advance 0 ∷ []
 
--- two workers, each rest offered, stolen by the other one, and done before the call beside it
+-- two workers; each continuation is offered, stolen by the other worker, and done before its call
 abbrev pub stolen : List Event
 stolen =
     Advance 0 ∷ Advance 0 ∷ Advance 0 ∷ Give 0 ∷ Advance 0 ∷ Advance 0 ∷ Advance 0 ∷ Settle 1 ∷ Advance 1 ∷ Give 1
     ∷ Advance 1 ∷ Advance 1 ∷ Advance 1 ∷ Settle 2 ∷ Advance 2 ∷ Advance 2 ∷ Advance 2 ∷ Begin 0 2
     ∷ Offer 2 ∷ Advance 1 ∷ Advance 1 ∷ Begin 1 1 ∷ Offer 1 ∷ Advance 0 ∷ Advance 0 ∷ []
 
--- the printed lines of an answer
+-- the printed values of an answer
 abbrev pub lines_of : Option Answer → List ℤ
 lines_of (Some (Ended v lines sums tree)) = lines
 lines_of _ = []
 
--- main of the second code
+-- `main` of the second code
 abbrev pub fails : Func
 fails =
     record { start = 4; end = 11; gives_int = true; params = 0; slots = 0; array_params = 0; arrays = 0; readers = 0 }
 
--- int f(int z) { return 1 / z; } in line 1 and main in line 2: cilk_spawn f(0); print(7); cilk_sync; return 0;
+-- `int f(int z) { return 1 / z; }` in line 1, and `main` in line 2: `cilk_spawn f(0); print(7); cilk_sync; return 0;`
 abbrev pub failing : Code
 failing = record {
   instrs =
@@ -99,21 +99,22 @@ failing = record {
   lent = [];
 }
 
--- what these events make of the second code within a limit
+-- the answer of the second code after these events, within a limit
 abbrev pub failed_by : List Event → (limit : ℕ) → Option Answer
 failed_by events limit = outcome failing (play failing events (world_of (root_job fails [] limit)))
 
--- the rest has printed before the call beside it traps, and is dropped
+-- the continuation has printed before its call traps, and is dropped
 abbrev pub dropped_rest : List Event
 dropped_rest =
     Advance 0 ∷ Give 0 ∷ Advance 0 ∷ Advance 0 ∷ Advance 0 ∷ Settle 1 ∷ Advance 1 ∷ Advance 1 ∷ Advance 1 ∷ Begin 1 1
     ∷ Offer 1 ∷ Advance 0 ∷ Advance 0 ∷ []
 
--- the rest was never begun, and is skipped
+-- the continuation was never begun, and is skipped
 abbrev pub skipped_rest : List Event
 skipped_rest = Advance 0 ∷ Skip 0 ∷ Advance 0 ∷ Advance 0 ∷ Advance 0 ∷ Inline 1 ∷ Advance 0 ∷ Advance 0 ∷ []
 
--- the first code prints 1, 2 and 3 and costs 15, and gives the same whether its rests are kept, taken back or stolen
+-- the first code prints 1, 2 and 3, costs 15, and has the same answer whether its continuations are kept, taken back
+-- or stolen
 pub record PrintingWalks : Type 0 where
   pub lines : lines_of (printed_by kept 15) ≡ pos 1 ∷ pos 2 ∷ pos 3 ∷ []
   pub as_kept : printed_by kept 15 ≡ code_serial printing [] 15
@@ -121,8 +122,8 @@ pub record PrintingWalks : Type 0 where
   pub as_stolen : printed_by stolen 15 ≡ code_serial printing [] 15
   pub over : code_serial printing [] 14 ≡ Some OverLimit
 
--- the spawned call of the second code traps as the fifth instruction of the run, whether the rest beside it was run or
--- not
+-- the spawned call of the second code traps in the fifth instruction of the run, whether its continuation was
+-- executed or not
 pub record FailingWalks : Type 0 where
   pub as_dropped : failed_by dropped_rest 5 ≡ Some (TrappedAt trap.DivisionByZero 1 [])
   pub as_skipped : failed_by skipped_rest 5 ≡ Some (TrappedAt trap.DivisionByZero 1 [])

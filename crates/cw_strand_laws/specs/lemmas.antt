@@ -1,4 +1,4 @@
--- Lemmas on runs of jobs, which the proofs of crates above cite.
+-- Lemmas about runs of jobs, for the proofs of the crates above.
 pub mod Acts
 pub mod Under
 pub mod Budgets

@@ -1,4 +1,4 @@
-//! The laws of jobs, strands and worlds: each function has one as its contract, and does nothing.
+//! The laws of jobs, strands and worlds. Each function states a law as its contract, and does nothing.
 
 ghost use Rattle.cw_code.specs.Code.{Code};
 ghost use Rattle.cw_strand_laws.specs.Costs.{CostsAreWork};
@@ -10,55 +10,55 @@ ghost use Rattle.cw_strand_laws.specs.Walks.{FailingWalks, PrintingWalks};
 ghost use Rattle.cw_strand_laws.specs.Wants.{MemoryWasWanting};
 ghost use Rattle.cw_strand_laws.specs.Worlds.{EffectsMean, NoneIsUnfit, OwnersAreSingle, WorldsAreSerial};
 
-/// The serial run from a spawn is the child's run, then that of the rest of the block up to its join from the slots
-/// as they stand, and then what waits goes back into its slots and the block goes on.
+/// States that the serial run from a spawn is the child's run, then the run of the continuation up to its join from
+/// the current slots; then pending results go back into their slots and the block continues.
 #[tactic(auto, using(crate::proofs::Schedules::cut))]
 pub fn serial_run_is_cut_at_a_spawn()
     ensures { (code : Code) → Cut code }
 {}
 
-/// A strand that begins, advances, is given the meaning of its newest job out, skips it, takes it back or finds no
-/// memory stays a strand of its job, and what it ends with means its job.
+/// States that a strand that begins, advances, receives the effect of its newest handed-out job, skips that job,
+/// takes it back or runs out of memory stays a strand of its job, and that its final effect means its job.
 #[tactic(auto, using(crate::proofs::Calls::calls_keep))]
 pub fn calls_on_a_strand_keep_its_job()
     ensures { (code : Code) → CallsKeep code }
 {}
 
-/// Whatever a strand hands out and is given, in whatever order, what is made of a job means it.
+/// States that for all that a strand hands out and is given, in any order, an effect made for a job means the job.
 #[tactic(auto, using(crate::proofs::Schedules::kept))]
 pub fn every_effect_means_its_job()
     ensures { (code : Code) → Kept code }
 {}
 
-/// An effect that means a whole run answers what the code gives.
+/// States that an effect that means a whole run has the answer of the code.
 pub fn the_root_answers_what_the_code_gives()
     ensures { RootsAreSerial }
 {}
 
-/// Whatever the schedule, the answer is that of the serial run.
+/// States that for every schedule, the answer is the answer of the serial run.
 #[tactic(auto, using(crate::proofs::Schedules::schedules_are_serial))]
 pub fn every_schedule_answers_what_the_code_gives()
     ensures { SchedulesAreSerial }
 {}
 
-/// Whatever the events of any number of workers, the answer is that of the serial run.
+/// States that for all events of any number of workers, the answer is the answer of the serial run.
 #[tactic(auto, using(crate::proofs::WorldLaws::worlds_are_serial))]
 pub fn every_world_answers_what_the_code_gives()
     ensures { WorldsAreSerial }
 {}
 
-/// Whatever the events, each effect that was made and not given means its job.
+/// States that after any events, each effect that was made and not yet given means its job.
 #[tactic(auto, using(crate::proofs::WorldLaws::effects_mean))]
 pub fn every_effect_of_a_world_means_its_job()
     ensures { EffectsMean }
 {}
 
-/// Whatever the events, an effect is for want of memory only after memory was wanting.
+/// States that after any events, an effect is out of memory only if memory ran out before.
 pub fn memory_is_answered_only_where_it_was_wanting()
     ensures { MemoryWasWanting }
 {}
 
-/// In code that fits no strand of any world finds what does not fit.
+/// States that in well-formed code, no strand of any world gets stuck.
 pub fn no_strand_of_code_that_fits_gets_stuck()
     ensures { NoneIsUnfit }
 {
@@ -66,7 +66,7 @@ pub fn no_strand_of_code_that_fits_gets_stuck()
     cw_code::laws::results_may_go_back();
 }
 
-/// Where the rest of a block has come to its join, it is in the function that it began in.
+/// States that a continuation that reached its join is in the function in which it began.
 pub fn rests_stay_in_their_functions()
     ensures { RestsStayInside }
 {
@@ -74,32 +74,33 @@ pub fn rests_stay_in_their_functions()
     cw_code::laws::runs_stay_in_their_functions();
 }
 
-/// A job is out at one strand at most, once, and as long as it is neither given nor skipped.
+/// States that a job is out at one strand at most, once, and only as long as it is neither given nor skipped.
 #[tactic(auto, using(crate::proofs::Owners::owners_are_single))]
 pub fn every_job_is_out_once()
     ensures { OwnersAreSingle }
 {}
 
-/// What a list of events leads to can come.
+/// States that a list of events leads only to possible worlds.
 #[tactic(auto, using(crate::proofs::Plays::plays_come))]
 pub fn what_is_played_can_come()
     ensures { PlaysCome }
 {}
 
-/// The cost of an effect that came to the end of its job is the work of its tree.
+/// States that the cost of an effect at the end of its job is the work of its tree.
 #[tactic(auto, using(crate::proofs::Costing::costs_are_work))]
 pub fn cost_is_the_work_that_is_shown()
     ensures { CostsAreWork }
 {}
 
-/// A code that prints 1, 2 and 3 and costs 15 gives the same, whether its rests are kept, taken back or stolen.
+/// States that a code that prints 1, 2 and 3 and costs 15 has the same answer whether its continuations are kept,
+/// taken back or stolen.
 #[tactic(auto, using(crate::proofs::Walks::printing_walks))]
 pub fn printing_gives_the_same_in_each_order()
     ensures { PrintingWalks }
 {}
 
-/// A code whose spawned call traps as its fifth instruction traps there before anything is printed, whether the rest
-/// beside it was run or not, and is over below that.
+/// States that a code whose spawned call traps in its fifth instruction traps there before it prints anything,
+/// whether the continuation was executed or not, and exceeds a limit of 4.
 #[tactic(auto, using(crate::proofs::Walks::failing_walks))]
 pub fn failing_traps_in_each_order()
     ensures { FailingWalks }

@@ -1,4 +1,5 @@
-//! Jobs, the strands that run them, and any number of workers that share them: what each must come to.
+//! Jobs, the strands that execute them, and any number of workers that share them: definitions and laws of their
+//! results.
 #![tactic(auto)]
 
 pub mod laws;

@@ -1,4 +1,4 @@
-//! What a run came to: by hand, with one worker, and by strands.
+//! The outcome of a run: worked out by hand, with one worker, and by strands.
 
 use cw_code::code::Code;
 use cw_jobs::effect::{Effect, Shown};
@@ -17,10 +17,10 @@ pub type Site = (u64, u64, u64, u64, u64);
 /// The work, span and burdened span of a tag.
 pub type Region = (u64, u64, u128);
 
-/// What a run comes to by hand. Where there are no rows, none were worked out.
+/// The outcome of a run, worked out by hand. Empty rows were not worked out.
 #[derive(Clone, Copy)]
 pub enum Told<'a> {
-    /// It ends.
+    /// The run ends.
     Ends {
         value: i64,
         lines: &'a [i64],
@@ -30,7 +30,7 @@ pub enum Told<'a> {
         sites: &'a [Site],
         regions: &'a [Region],
     },
-    /// It traps, by the trap of this number and in this line, and has printed so many lines.
+    /// The run traps with the trap of this number in this line, after it has printed `lines`.
     Traps {
         number: u8,
         line: u32,
@@ -38,7 +38,7 @@ pub enum Told<'a> {
     },
 }
 
-// Whether rows are those that were worked out, if any were.
+// Returns whether rows are the expected ones, or none were worked out.
 fn are_sites(rows: &[SiteRow], hand: &[Site]) -> bool {
     let mut all = hand.is_empty() || rows.len() == hand.len();
     for (row, site) in rows.iter().zip(hand) {
@@ -56,7 +56,7 @@ fn are_regions(rows: &[RegionRow], hand: &[Region]) -> bool {
     all
 }
 
-// Whether a run that ended, with so much work, is the one that was worked out.
+// Returns whether a run that ended with this work is the one that was worked out.
 fn is_end_told(ended: &Ended, told: &Told, cost: u64) -> bool {
     match told {
         Told::Ends {
@@ -84,7 +84,7 @@ fn is_end_told(ended: &Ended, told: &Told, cost: u64) -> bool {
     }
 }
 
-// Whether a trap is the one that was worked out.
+// Returns whether a trap is the one that was worked out.
 fn is_trap_told(code: Trap, line: u32, output: &[i64], told: &Told) -> bool {
     match told {
         Told::Ends { .. } => false,
@@ -96,7 +96,7 @@ fn is_trap_told(code: Trap, line: u32, output: &[i64], told: &Told) -> bool {
     }
 }
 
-/// Whether a run with one worker came to what was worked out, at this cost.
+/// Returns whether a run with one worker has the outcome that was worked out, at this cost.
 pub fn is_told(alone: &Result<Ended, Fault>, told: &Told, cost: u64) -> bool {
     match alone {
         Ok(ended) => is_end_told(ended, told, cost),
@@ -109,7 +109,8 @@ pub fn is_told(alone: &Result<Ended, Fault>, told: &Told, cost: u64) -> bool {
     }
 }
 
-// Whether a whole call that ended with this value has shown what a run with one worker has. The error is want of memory.
+// Returns whether a whole call that ended with this value printed and counted the same as a run with one worker. The
+// error is `Memory`.
 fn is_same_end(
     alloc: Global,
     code: &Code,
@@ -135,7 +136,7 @@ fn is_same_end(
     )
 }
 
-// Whether a run with one worker trapped so.
+// Returns whether a run with one worker trapped in this way.
 fn is_same_trap(alone: &Result<Ended, Fault>, trap: Trap, at: u32, lines: &[i64]) -> bool {
     match alone {
         Ok(_) => false,
@@ -148,7 +149,7 @@ fn is_same_trap(alone: &Result<Ended, Fault>, trap: Trap, at: u32, lines: &[i64]
     }
 }
 
-// Whether a run with one worker passed its limit.
+// Returns whether a run with one worker exceeded its limit.
 fn is_over(alone: &Result<Ended, Fault>) -> bool {
     match alone {
         Ok(_) => false,
@@ -159,8 +160,12 @@ fn is_over(alone: &Result<Ended, Fault>) -> bool {
     }
 }
 
-/// Whether the effect of a whole run's job is what a run with one worker came to: value, lines, totals, measures and
-/// rows; trap, line, lines and cost; or over the limit. The error is want of memory.
+/// Returns whether the effect of a whole run's job is the outcome of a run with one worker: value, lines, totals,
+/// measures and rows; trap, line, lines and cost; or over the limit.
+///
+/// # Errors
+///
+/// `Fault::Memory` if there is not enough memory.
 pub fn is_same(
     alloc: Global,
     code: &Code,

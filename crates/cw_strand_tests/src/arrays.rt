@@ -1,4 +1,4 @@
-//! Programs with arrays, each as the code of the source beside it, on whose lines its traps are told.
+//! Programs with arrays, each as the code of the source above it. Traps report the lines of that source.
 
 use crate::programs::{Part, Program};
 use cw_code::code::{BlockKind, Callee, Halves, Inner, Instr};

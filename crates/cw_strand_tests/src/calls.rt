@@ -1,4 +1,4 @@
-//! Programs that call, each as the code of the source beside it, on whose lines its traps are told.
+//! Programs with calls, each as the code of the source above it. Traps report the lines of that source.
 
 use crate::programs::{Part, Program};
 use cw_code::code::{BlockKind, Callee, Instr};
@@ -141,7 +141,7 @@ const BAD: Part<'static> = Part {
     ],
 };
 
-// A call of the first function without arrays and without a result, at this site.
+// A call of the first function without arrays and without a result, at site 1.
 const FIRST: Callee = Callee {
     function: 0,
     site: 1,

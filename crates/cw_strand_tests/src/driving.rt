@@ -1,4 +1,4 @@
-//! A job run on one thread. What becomes of each rest that a strand hands out is told beforehand.
+//! Executes a job on one thread. A list decides what happens to each continuation that a strand hands out.
 
 ghost use Rattle.std.specs.Prelude.{◌≡◌, ◌∷◌, List, None, IfOk, IfSome};
 ghost use Rattle.cw_jobs.specs.declared.job.Job as jobs;
@@ -13,77 +13,78 @@ use cw_strand::strand::{Advance, Event, Spawns, Step, Strand};
 use std::alloc::Global;
 use std::snapshot::Snapshot;
 
-/// What becomes of a rest.
+/// The treatment of a continuation.
 #[derive(Clone, Copy)]
 pub enum Fate {
-    /// It lies unrun up to its join, and is taken back.
+    /// The continuation is not executed before its join, and is taken back.
     TakenBack,
-    /// It is run by a strand of its own before the call beside it goes on.
+    /// Another strand executes the continuation before the spawned call continues.
     ApartAtOnce,
-    /// It is run by a strand of its own when the call beside it has ended.
+    /// Another strand executes the continuation after the spawned call has ended.
     ApartAtJoin,
 }
 
-/// No whole run in sight: too deep, or too many events.
+/// The run did not finish: it was too deep, or had too many events.
 #[derive(Clone, Copy)]
 pub struct Lost;
 
-/// How a strand goes on.
+/// How a strand continues.
 #[derive(Clone, Copy)]
 pub enum Pace {
     /// To its next event.
     ToEvents,
     /// By one instruction at a time.
     ByOne,
-    /// By at most so many instructions with its spawns in place, and then to its next event.
+    /// By at most this number of instructions with its spawns in place, and then to its next event.
     InPlace(u64),
 }
 
-/// What is told beforehand of a run.
+/// The decisions for a run.
 #[derive(Clone, Copy)]
 pub struct Way<'a> {
-    /// What becomes of its rests, in the order in which they are handed out, over and over.
+    /// The fates of its continuations, in the order in which they are handed out, repeated.
     pub fates: &'a [Fate],
-    /// Whether a strand is asked for its end before it goes on.
+    /// Whether a strand is asked for its end before it continues.
     pub asks_ends: bool,
-    /// How a strand goes on.
+    /// How a strand continues.
     pub pace: Pace,
 }
 
-/// Where a run is broken off.
+/// The moment at which a run is interrupted.
 #[derive(Clone, Copy)]
 pub struct Break {
-    /// The strand that hands out the rest of this number, counted from 1, stops then; none does at 0.
+    /// The strand that hands out the continuation of this number stops then. The numbers begin at 1; 0 stops no
+    /// strand.
     pub rest: u64,
-    /// Whether it is given up; else memory is wanting in it.
+    /// Whether the strand is given up; otherwise it runs out of memory.
     pub is_given_up: bool,
 }
 
-/// None is.
+/// No strand stops.
 pub const WHOLE: Break = Break {
     rest: 0,
     is_given_up: false,
 };
 
-// A run under way.
+// A run in progress.
 #[derive(Drop)]
 struct Guide<'a> {
-    // What its strands take their memory from.
+    // The allocator of its strands.
     alloc: Global,
-    // What was told of it.
+    // The decisions for it.
     way: Way<'a>,
-    // The place of the next rest's fate.
+    // The index of the next continuation's fate.
     turn: usize,
-    // Where it is broken off, counted from the next rest.
+    // The moment at which it is interrupted, counted from the next continuation.
     broken: Break,
 }
 
-// As deep as strands are run inside one another, and as many events as a strand has between two of its spawns.
+// The maximum depth of nested strands, and the maximum number of events of a strand between two of its spawns.
 const MOST_DEPTH: u32 = 64;
 
 const MOST_EVENTS: u32 = 1000;
 
-// The fate of the next rest.
+// Returns the fate of the next continuation.
 fn next_fate(guide: &mut Guide) -> Fate {
     let fate = guide.way.fates.get(guide.turn).copied();
     guide.turn = guide.turn.wrapping_add(1);
@@ -93,13 +94,13 @@ fn next_fate(guide: &mut Guide) -> Fate {
     fate.unwrap_or(Fate::TakenBack)
 }
 
-// Whether the strand that has just handed out a rest stops.
+// Returns whether the strand that has just handed out a continuation stops.
 fn stops_now(guide: &mut Guide) -> bool {
     guide.broken.rest = guide.broken.rest.wrapping_sub(1);
     guide.broken.rest == 0
 }
 
-// A strand stops.
+// Stops a strand.
 fn break_off(strand: &mut Strand, is_given_up: bool)
     requires running { IsRunning strand.old }
     ensures of { strand.new.of ≡ strand.old.of }
@@ -113,7 +114,7 @@ fn break_off(strand: &mut Strand, is_given_up: bool)
     }
 }
 
-/// A rest that nobody ran comes back to its join.
+/// Returns a continuation that was not executed to its join.
 pub fn come_back(strand: &mut Strand, job: Job)
     requires running { IsRunning strand.old }
     requires at_sync { IsAtSync strand.old }
@@ -129,7 +130,7 @@ pub fn come_back(strand: &mut Strand, job: Job)
     }
 }
 
-// What a rest came to that ran apart comes to its join.
+// Gives the effect of a continuation that another strand executed to its join.
 fn come_in(strand: &mut Strand, job: Snapshot<Job>, effect: Effect)
     requires running { IsRunning strand.old }
     requires at_sync { IsAtSync strand.old }
@@ -142,7 +143,7 @@ fn come_in(strand: &mut Strand, job: Snapshot<Job>, effect: Effect)
     strand.give(effect);
 }
 
-// Goes on with a strand by one instruction, which may be none.
+// Continues a strand by one instruction at most.
 fn one_on(strand: &mut Strand) -> Option<Step>
     requires running { IsRunning strand.old }
     ensures of { strand.new.of ≡ strand.old.of }
@@ -155,7 +156,7 @@ fn one_on(strand: &mut Strand) -> Option<Step>
     }
 }
 
-// Goes on with a strand by so many instructions, with its spawns in place.
+// Continues a strand by at most `most` instructions, with its spawns in place.
 fn in_place(strand: &mut Strand, most: u64) -> Option<Step>
     requires running { IsRunning strand.old }
     ensures of { strand.new.of ≡ strand.old.of }
@@ -170,7 +171,7 @@ fn in_place(strand: &mut Strand, most: u64) -> Option<Step>
     }
 }
 
-// Goes on with a strand so, which may come to no event.
+// Continues a strand at this pace, which may reach no event.
 fn step(strand: &mut Strand, pace: Pace) -> Option<Step>
     requires running { IsRunning strand.old }
     ensures of { strand.new.of ≡ strand.old.of }
@@ -187,7 +188,7 @@ fn step(strand: &mut Strand, pace: Pace) -> Option<Step>
     }
 }
 
-// Runs a job by a strand of its own.
+// Executes a job by another strand.
 #[cycle(driving)]
 fn run_apart(guide: &mut Guide, depth: u32, job: Job) -> Result<Effect, Lost>
     ensures { IfOk result (λ effect. IsMeaningOf job effect) }
@@ -204,7 +205,7 @@ fn run_apart(guide: &mut Guide, depth: u32, job: Job) -> Result<Effect, Lost>
     }
 }
 
-// Goes on with a strand up to the join of the newest rest out, or to its end.
+// Continues a strand to the join of the newest continuation that is out, or to its end.
 #[cycle(driving)]
 fn go_on(guide: &mut Guide, depth: u32, strand: &mut Strand) -> Result<Option<Effect>, Lost>
     requires running { IsRunning strand.old }
@@ -236,7 +237,7 @@ fn go_on(guide: &mut Guide, depth: u32, strand: &mut Strand) -> Result<Option<Ef
     Err(Lost)
 }
 
-// Goes on with a strand up to the join of the rest that it has just handed out.
+// Continues a strand to the join of the continuation that it has just handed out.
 #[cycle(driving)]
 fn go_to_join(guide: &mut Guide, depth: u32, strand: &mut Strand) -> Result<(), Lost>
     requires running { IsRunning strand.old }
@@ -251,7 +252,7 @@ fn go_to_join(guide: &mut Guide, depth: u32, strand: &mut Strand) -> Result<(), 
     }
 }
 
-// Sees to a rest that was handed out, up to where it is out no more.
+// Treats a continuation that was handed out according to its fate, until it is no longer out.
 #[cycle(driving)]
 fn see_to(guide: &mut Guide, depth: u32, strand: &mut Strand, job: Job) -> Result<(), Lost>
     requires running { IsRunning strand.old }
@@ -284,7 +285,11 @@ fn see_to(guide: &mut Guide, depth: u32, strand: &mut Strand, job: Job) -> Resul
     Ok(())
 }
 
-/// The effect of a job, run so on one thread, and broken off there.
+/// Returns the effect of a job that is executed on one thread with these decisions, and interrupted at `broken`.
+///
+/// # Errors
+///
+/// `Lost` if the run was too deep or had too many events.
 pub fn run_so(alloc: Global, job: Job, way: &Way, broken: Break) -> Result<Effect, Lost>
     ensures { IfOk result (λ effect. IsMeaningOf job effect) }
 {

@@ -1,4 +1,4 @@
-//! Tests of strands, by public calls alone: programs whose rests are taken back, or run apart by strands of their own,
+//! Tests of strands, by public calls only: programs whose continuations are taken back or executed by other strands,
 //! all on one thread.
 #![tactic(auto)]
 

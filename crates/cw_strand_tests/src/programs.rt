@@ -8,8 +8,8 @@ use cw_verify::verify::verify;
 use std::alloc::{AllocError, Global};
 use std::sync::Arc;
 
-/// A function of code: whether it gives a value, its integer parameters and slots, its array parameters and slots, the
-/// count of the arrays that it reads, and its instructions.
+/// A function of code: whether it returns a value, its integer parameters and slots, its array parameters and slots,
+/// the number of arrays that it reads, and its instructions.
 #[derive(Clone, Copy)]
 pub struct Part<'a> {
     pub gives_int: bool,
@@ -21,8 +21,8 @@ pub struct Part<'a> {
     pub body: &'a [Instr],
 }
 
-/// A program: its functions, main the last one; the kind and the function of its call statements, its reducers and tags,
-/// and the lists of the array slots that its calls take, and of what they are lent.
+/// A program: its functions (`main` is the last one), the kind and the function of its call statements, its reducers
+/// and tags, the lists of array slots that its calls take, and the lists of what is lent to them.
 #[derive(Clone, Copy)]
 pub struct Program<'a> {
     pub parts: &'a [Part<'a>],
@@ -33,7 +33,7 @@ pub struct Program<'a> {
     pub lent: &'a [&'a [Loan]],
 }
 
-// These functions, one after another.
+// Appends functions.
 fn place_parts(code: &mut Code, parts: &[Part]) -> Result<(), AllocError> {
     for part in parts {
         let start = code.instrs.len();
@@ -52,7 +52,7 @@ fn place_parts(code: &mut Code, parts: &[Part]) -> Result<(), AllocError> {
     Ok(())
 }
 
-// These call statements, numbered from 1 on.
+// Appends call statements, numbered from 1.
 fn place_sites(
     alloc: Global,
     code: &mut Code,
@@ -72,7 +72,7 @@ fn place_sites(
     Ok(())
 }
 
-// These tags.
+// Appends tags.
 fn place_tags(alloc: Global, code: &mut Code, texts: &[&str]) -> Result<(), AllocError> {
     for text in texts {
         code.tags.push(Name::new(alloc, text.as_bytes())?)?;
@@ -80,7 +80,7 @@ fn place_tags(alloc: Global, code: &mut Code, texts: &[&str]) -> Result<(), Allo
     Ok(())
 }
 
-// These reducers.
+// Appends reducers.
 fn place_reducers(
     alloc: Global,
     code: &mut Code,
@@ -95,7 +95,7 @@ fn place_reducers(
     Ok(())
 }
 
-// These lists of the array slots that are passed.
+// Appends lists of array slots that calls take.
 fn place_passed(alloc: Global, code: &mut Code, lists: &[&[u32]]) -> Result<(), AllocError> {
     for list in lists {
         code.passed.push(Vec::from_slice(alloc, list)?)?;
@@ -103,7 +103,7 @@ fn place_passed(alloc: Global, code: &mut Code, lists: &[&[u32]]) -> Result<(), 
     Ok(())
 }
 
-// These lists of what is lent.
+// Appends lists of loans.
 fn place_lent(alloc: Global, code: &mut Code, lists: &[&[Loan]]) -> Result<(), AllocError> {
     for list in lists {
         code.lent.push(Vec::from_slice(alloc, list)?)?;
@@ -111,7 +111,7 @@ fn place_lent(alloc: Global, code: &mut Code, lists: &[&[Loan]]) -> Result<(), A
     Ok(())
 }
 
-// Code with nothing in it but the index of main.
+// Returns code that has only the index of `main`.
 fn empty_code(alloc: Global, main: u32) -> Code {
     Code {
         instrs: Vec::new(alloc),
@@ -126,7 +126,7 @@ fn empty_code(alloc: Global, main: u32) -> Code {
     }
 }
 
-// All of a program.
+// Appends all of a program.
 fn place_all(alloc: Global, code: &mut Code, program: &Program) -> Result<(), AllocError> {
     place_parts(code, program.parts)?;
     place_sites(alloc, code, program.sites)?;
@@ -136,7 +136,11 @@ fn place_all(alloc: Global, code: &mut Code, program: &Program) -> Result<(), Al
     place_lent(alloc, code, program.lent)
 }
 
-/// The code of a program, which the verifier must let through.
+/// Returns the code of a program, which the verifier must accept.
+///
+/// # Errors
+///
+/// `Fault::Code` if the verifier rejects the code, `Fault::Memory` if there is not enough memory.
 pub fn code_of(alloc: Global, program: &Program) -> Result<Arc<Verified>, Fault> {
     let main = u32::try_from(program.parts.len().saturating_sub(1)).unwrap_or(0);
     let mut code = empty_code(alloc, main);

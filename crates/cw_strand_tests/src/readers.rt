@@ -1,4 +1,4 @@
-//! A program whose calls lend arrays, as the code of the source beside it.
+//! A program whose calls lend arrays, as the code of the source above it.
 
 use crate::programs::{Part, Program};
 use cw_code::code::{Callee, Instr, Loan};
@@ -164,7 +164,7 @@ const MAIN_BODY: [Instr; 32] = [
 ///   a[0] = x;
 ///   return a[0] + y;
 /// }
-/// all in one line, as its code
+/// The code has all of this in line 1.
 pub const TOTAL: Program<'static> = Program {
     parts: &[
         Part {

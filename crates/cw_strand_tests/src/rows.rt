@@ -1,5 +1,5 @@
-//! Small programs come to what was worked out by hand, whatever becomes of the rests: what a run with one worker comes to,
-//! within each limit.
+//! Small programs have the outcome that was worked out by hand, independently of what happens to their continuations;
+//! and they have the outcome of a run with one worker within each limit.
 
 use crate::answers::{Told, is_same, is_told};
 use crate::arrays::{CUT, MADE, SQUARES};
@@ -21,8 +21,8 @@ use std::alloc::Global;
 use std::sync::Arc;
 use std::test::Fail;
 
-// A program on its arguments, with what each charged edge of a spawn costs, and what it comes to at this cost, having
-// spawned so many calls.
+// A test case: a program on its arguments, the charge of each charged edge of a spawn, and the outcome, the cost and
+// the number of spawned calls of its run.
 #[derive(Clone, Copy)]
 struct Row<'a> {
     name: &'a str,
@@ -36,7 +36,7 @@ struct Row<'a> {
 }
 
 impl Row<'_> {
-    // What each spawn of its run is charged.
+    // Returns the burden of each spawn.
     fn burden(&self) -> Burden {
         Burden {
             charge: self.charge,
@@ -45,8 +45,8 @@ impl Row<'_> {
     }
 }
 
-// What becomes of rests: all the same; or in turn; twice by one instruction at a time, where each strand is
-// asked for its end before each.
+// The treatment of continuations: always the same, or alternating. Two ways continue by one instruction at a time,
+// and ask each strand for its end before each instruction.
 const WAYS: [Way<'static>; 7] = [
     Way {
         fates: &[Fate::TakenBack],
@@ -85,7 +85,7 @@ const WAYS: [Way<'static>; 7] = [
     },
 ];
 
-// The same where some spawns are done in place, within few instructions and within many.
+// Ways in which some spawns are in place, within a few instructions and within many.
 const MIXED: [Way<'static>; 3] = [
     Way {
         fates: &[Fate::TakenBack, Fate::ApartAtJoin],
@@ -104,7 +104,7 @@ const MIXED: [Way<'static>; 3] = [
     },
 ];
 
-// The tables by functions, so that a proof has each of them before it once.
+// The tables are returned by functions so that a proof reads each of them once.
 fn ways() -> [Way<'static>; 7] {
     WAYS
 }
@@ -121,7 +121,7 @@ fn trapping() -> [Row<'static>; 6] {
     TRAPPING
 }
 
-// A run with one worker. The error is want of memory.
+// Returns the outcome of a run with one worker. The error is `Memory`.
 fn alone(
     alloc: Global,
     code: &Arc<Verified>,
@@ -137,7 +137,7 @@ fn alone(
     }
 }
 
-// The effect of the same run by strands, one of which fails at the rest of this number.
+// Returns the effect of the same run by strands, one of which stops at `broken`.
 fn apart(
     alloc: Global,
     code: &Arc<Verified>,
@@ -153,7 +153,7 @@ fn apart(
     }
 }
 
-// Whether a row holds within a limit, one way. The error is want of memory.
+// Returns whether a case holds within a limit in one way. The error is `Memory`.
 fn holds(
     alloc: Global,
     code: &Arc<Verified>,
@@ -166,7 +166,7 @@ fn holds(
     is_same(alloc, &code.code, &alone, effect, row.cost)
 }
 
-// Whether a row holds within a limit, all ways.
+// Returns whether a case holds within a limit in all ways.
 fn holds_within(alloc: Global, code: &Arc<Verified>, row: &Row, limit: u64) -> Result<bool, Fault> {
     let mut all = true;
     for way in &ways() {
@@ -178,7 +178,7 @@ fn holds_within(alloc: Global, code: &Arc<Verified>, row: &Row, limit: u64) -> R
     Ok(all)
 }
 
-// Whether a row holds at its cost all ways, and with one worker is what was worked out.
+// Returns whether a case holds at its cost in all ways, and has the outcome that was worked out with one worker.
 fn holds_all_ways(alloc: Global, row: &Row) -> Result<bool, Fault> {
     let code = code_of(alloc, &row.program)?;
     let first = alone(alloc, &code, row, row.cost)?;
@@ -186,7 +186,7 @@ fn holds_all_ways(alloc: Global, row: &Row) -> Result<bool, Fault> {
     Ok(holds_within(alloc, &code, row, row.cost)? && all)
 }
 
-// Whether a row holds within each limit up to one above its cost, all ways.
+// Returns whether a case holds within each limit up to one above its cost, in all ways.
 fn holds_within_limits(alloc: Global, row: &Row) -> Result<bool, Fault> {
     let code = code_of(alloc, &row.program)?;
     let mut all = true;
@@ -196,12 +196,13 @@ fn holds_within_limits(alloc: Global, row: &Row) -> Result<bool, Fault> {
     Ok(all)
 }
 
-// Whether none of these is an array.
+// Returns whether none of these slices has a number.
 fn are_empty(slices: &[Slice]) -> bool {
     slices.iter().all(|slice| slice.len() == 0)
 }
 
-// Whether an effect says that memory was wanting, or that the run was given up, where no slot of main has an array yet.
+// Returns whether an effect says that there was not enough memory, or that the run was given up while no slot of
+// `main` has an array.
 fn is_broken(effect: &Effect, is_given_up: bool) -> bool {
     match effect {
         Effect::Memory { back: _ } => !is_given_up,
@@ -210,7 +211,8 @@ fn is_broken(effect: &Effect, is_given_up: bool) -> bool {
     }
 }
 
-// Whether one strand that fails or is given up, at this rest, takes the whole run with it, all ways.
+// Returns whether one strand that runs out of memory or is given up at this continuation ends the whole run in the
+// same way, in all ways.
 fn breaks_whole(
     alloc: Global,
     code: &Arc<Verified>,
@@ -225,7 +227,7 @@ fn breaks_whole(
     Ok(all)
 }
 
-// The same at whichever rest.
+// Returns whether this holds at every continuation.
 fn fails_whole(alloc: Global, row: &Row) -> Result<bool, Fault> {
     let code = code_of(alloc, &row.program)?;
     let mut all = true;
@@ -240,8 +242,8 @@ fn fails_whole(alloc: Global, row: &Row) -> Result<bool, Fault> {
 
 // Programs that end.
 const ENDING: [Row<'static>; 12] = [
-    // 18, then a sum of three elements, at most 68 in a row, beside 5; then 9: only the rests of calls that neither lend
-    // nor read are handed out
+    // the longest path: 18, then a sum of three elements with 68, parallel to 5, then 9; only the continuations of
+    // calls that neither lend nor read are handed out
     Row {
         name: "a sum of what is read",
         program: TOTAL,
@@ -355,7 +357,7 @@ const ENDING: [Row<'static>; 12] = [
             regions: &[],
         },
     },
-    // 1, a rest, and in it 1 and a child of 3, with both edges of its own; then 3
+    // the longest path: 1, a continuation with 1 and a child of 3, charged on both of its edges, then 3
     Row {
         name: "a great sum",
         program: SUMMED,
@@ -374,7 +376,8 @@ const ENDING: [Row<'static>; 12] = [
             regions: &[],
         },
     },
-    // a turn is 22 with a child of 11, and 8 are around them; the chain goes through three rests, and the last child
+    // an iteration is 22 with a child of 11, and 8 are outside; the longest path goes through three continuations and
+    // the last child
     Row {
         name: "the greatest in turns",
         program: GREATEST_IN_TURNS,
@@ -398,7 +401,8 @@ const ENDING: [Row<'static>; 12] = [
             regions: &[],
         },
     },
-    // q is 15 and two children of 5; it goes by its rest, and there by the second child
+    // q is 15 and two children of 5; the longest path goes through its continuation, and there through the second
+    // child
     Row {
         name: "regions",
         program: NESTED,
@@ -459,7 +463,8 @@ const ENDING: [Row<'static>; 12] = [
             regions: &[],
         },
     },
-    // leaves of 50, 32 and 50, nodes of 26, and 8 of main: each node goes by its rest
+    // leaves of 50, 32 and 50, nodes of 26, and 8 of main; the longest path goes through the continuation of each
+    // node
     Row {
         name: "a loop by halves",
         program: SQUARES,
@@ -480,7 +485,7 @@ const ENDING: [Row<'static>; 12] = [
     },
 ];
 
-// Programs that trap: in a spawned call whose rest is out, or in a rest.
+// Programs that trap, in a spawned call whose continuation is out, or in a continuation.
 const TRAPPING: [Row<'static>; 6] = [
     Row {
         name: "a division by 0 beside a print",

@@ -1,5 +1,5 @@
-//! Runs of the language with arrays: elements, lengths, calls that take arrays, cuts, and their traps. The limits are
-//! exact: one instruction less is over.
+//! Runs of programs with arrays: elements, lengths, calls that take arrays, cuts, and their traps. The limits are
+//! exact: with one instruction less the run exceeds its limit.
 
 use crate::program::{Row, all_hold_by_all};
 use crate::tables::SUMMED;
@@ -17,7 +17,7 @@ const FILL: &str = "int fill(int a[], int v) { a[0] = v; return len(a); } int ma
 int x = 0; int y = 0; cut a at 2 as l, r { x = cilk_spawn fill(l, 5); y = fill(r, 7); } \
 return a[0] * 10 + a[2]; }";
 
-// one part is cut again, and both of its parts are given away before the first end
+// one part is cut again, and both of its parts are taken by calls before the first end
 const CUT_TWICE: &str = "void set(int a[], int v) { a[len(a) - 1] = v; }
 int main() {
   int a[5];
@@ -47,7 +47,7 @@ int main() {
 }
 ";
 
-// an array of each turn begins with zeros
+// the array of each iteration begins with zeros
 const FRESH: &str = "int main() {
   int i = 0;
   int total = 0;
@@ -56,7 +56,7 @@ const FRESH: &str = "int main() {
 }
 ";
 
-// the numbers below n that no smaller one but 1 divides, by striking out
+// the number of primes below `n`, by a sieve
 const SIEVE: &str = "int main(int n) {
   int struck[n];
   int count = 0;
@@ -153,7 +153,7 @@ const OUTSIDE: &[Row] = &[
         "",
         "trap 3 line 3\n",
     ),
-    // the index, and then the value, whose trap comes first
+    // the index is computed first, then the value, whose trap comes before the trap of the element
     (
         "run f",
         "int main() {\nint a[2];\nprint(5);\na[2] = 1 / 0;\nreturn 0; }",
@@ -193,7 +193,7 @@ reducer sum down;
 reducer sum unused;
 ";
 
-// what was added before a trap is not told
+// values that were added before a trap are not reported
 const ADDED_BEFORE_A_TRAP: &str =
     "reducer sum s; int main(int z) { s += 3; print(4); s += 1 / z; return 0; }";
 

@@ -1,4 +1,5 @@
-//! The code of a program with a parallel loop, each instruction of it replaced by each other kind: it is refused, or it runs.
+//! The code of a program with a parallel loop, with each instruction replaced by one of each kind: the verifier
+//! rejects it, or it runs.
 
 use cw_code::code::{BlockKind, Callee, Code, Func, Halves, Inner, Instr, UnaryOperator};
 use cw_machine::alone::run_alone;
@@ -26,7 +27,7 @@ const MAIN: [Instr; 10] = [
     Instr::ReturnValue,
 ];
 
-// The function of its loop: a leaf of at most two turns, or a cut in the middle and a call on each half.
+// The function of its loop: a leaf of at most two iterations, or a cut in the middle and a call for each half.
 const LOOP: [Instr; 44] = [
     Instr::Load(1),
     Instr::Load(0),
@@ -121,7 +122,7 @@ const HALVES: Halves = Halves {
     right: 0,
 };
 
-// One of each kind, with 0 for each number that it has.
+// One instruction of each kind, with 0 for each of its numbers.
 const KINDS: [Instr; 32] = [
     Instr::Push(0),
     Instr::Load(0),
@@ -180,10 +181,10 @@ const FUNCS: [Func; 2] = [
     },
 ];
 
-// The lists of array slots: those of no call, of main, and of the loop's function.
+// The lists of array slots: the empty ones that no call names, one for `main`, and two for the loop's function.
 const LISTS: [&[u32]; 7] = [&[], &[], &[], &[], &[0], &[1], &[2]];
 
-// The instructions, with this one at this place.
+// Returns the instructions with `instr` at `place`.
 fn instrs_with(alloc: Global, place: usize, instr: Instr) -> Result<Vec<Instr>, AllocError> {
     let mut instrs = Vec::new(alloc);
     instrs.extend_from_slice(&MAIN)?;
@@ -211,7 +212,7 @@ fn copies(alloc: Global, lists: &[&[u32]]) -> Result<Vec<Vec<u32>>, AllocError> 
     Ok(copies)
 }
 
-// The code of the program with these instructions.
+// Returns the code of the program with these instructions.
 fn code(alloc: Global, instrs: Vec<Instr>) -> Result<Code, AllocError> {
     Ok(Code {
         instrs,
@@ -231,20 +232,20 @@ const NO_BURDEN: Burden = Burden {
     edges: Edges::Spawn,
 };
 
-// What came of a code.
+// The outcome of a code.
 #[derive(Clone, Copy, PartialEq, Eq)]
 enum Came {
-    // It does not fit.
+    // The verifier rejects it.
     Refused,
-    // It ran to its end, with this value.
+    // The code ran to its end and returned this value.
     Ended(i64),
-    // It ran and trapped, or passed its limit.
+    // The code ran and trapped, or exceeded its limit.
     Stopped,
-    // Want of memory, or something that no run answers.
+    // There was not enough memory, or the run failed in a way that no run may.
     Failed,
 }
 
-// What a code that fits comes to.
+// Returns the outcome of verified code.
 fn run_of(alloc: Global, verified: Verified, limit: u64) -> Result<Came, AllocError> {
     let verified = Arc::new(alloc, verified)?;
     match run_alone(alloc, verified, &[], limit, NO_BURDEN) {
@@ -254,7 +255,7 @@ fn run_of(alloc: Global, verified: Verified, limit: u64) -> Result<Came, AllocEr
     }
 }
 
-// What the code comes to with this instruction at this place, within this limit.
+// Returns the outcome of the code with `instr` at `place`, within this limit.
 fn run_with(alloc: Global, place: usize, instr: Instr, limit: u64) -> Result<Came, AllocError> {
     let code = code(alloc, instrs_with(alloc, place, instr)?)?;
     match verify(alloc, code) {
@@ -264,7 +265,7 @@ fn run_with(alloc: Global, place: usize, instr: Instr, limit: u64) -> Result<Cam
     }
 }
 
-// The code as it stands costs 136, and not one less.
+// The unchanged code costs 136 instructions, and not one less.
 #[test]
 fn the_code_runs(rt: HostRuntime) -> Result<(), Fail> {
     let within = run_with(rt.alloc(), 0, Instr::Push(4), 136)?;
@@ -273,7 +274,8 @@ fn the_code_runs(rt: HostRuntime) -> Result<(), Fail> {
     Ok(())
 }
 
-// In place of the instruction that prints: the element and the 9 are left at the return, which gives the 0 above them.
+// A push replaces the instruction that prints. The element and the 9 remain at the return, which returns the 0 above
+// them.
 #[test]
 fn operands_may_be_left_at_a_return(rt: HostRuntime) -> Result<(), Fail> {
     let left = run_with(rt.alloc(), 7, Instr::Push(9), 136)?;
@@ -281,7 +283,7 @@ fn operands_may_be_left_at_a_return(rt: HostRuntime) -> Result<(), Fail> {
     Ok(())
 }
 
-// How many of these are refused at this place; each is refused or runs.
+// Returns how many of these the verifier rejects at this place. Each of the others must run.
 fn refused_at<R: Abort>(rt: &R, alloc: Global, place: usize, kinds: &[Instr]) -> Result<u32, Fail> {
     let mut refused: u32 = 0;
     for kind in kinds {
@@ -294,7 +296,7 @@ fn refused_at<R: Abort>(rt: &R, alloc: Global, place: usize, kinds: &[Instr]) ->
     Ok(refused)
 }
 
-// How many of these are refused at all places.
+// Returns how many of these the verifier rejects, over all places.
 fn refused_anywhere<R: Abort>(rt: &R, alloc: Global, kinds: &[Instr]) -> Result<u32, Fail> {
     let mut refused: u32 = 0;
     for place in 0..57usize {
@@ -303,7 +305,8 @@ fn refused_anywhere<R: Abort>(rt: &R, alloc: Global, kinds: &[Instr]) -> Result<
     Ok(refused)
 }
 
-// A jump past the end, a call at no site, a join with an operand, the end of a call in a block: most do not fit.
+// A jump past the end, a call without a site, a join with an operand, a return inside a block: most are not
+// well-formed.
 #[test]
 fn each_instruction_replaced_is_refused_or_runs(rt: HostRuntime) -> Result<(), Fail> {
     let refused = refused_anywhere(&rt, rt.alloc(), &KINDS)?;
@@ -311,7 +314,7 @@ fn each_instruction_replaced_is_refused_or_runs(rt: HostRuntime) -> Result<(), F
     Ok(())
 }
 
-// A function that is not there, a list of another function, no list.
+// A function that does not exist, a list for another function, and a list that does not exist.
 const NO_FUNCTION: Inner = Inner {
     function: 2,
     passed: 4,
@@ -327,9 +330,9 @@ const NO_LIST: Inner = Inner {
     passed: 7,
 };
 
-// Places, and instructions that do not fit there.
+// Places, and instructions that are not well-formed there.
 const UNFIT: [(usize, Instr); 10] = [
-    // an operand too few, an operand left over at a join, a block that is not closed, a cut that is not ended
+    // a missing operand, an operand left at a join, a block that is not closed, a cut that is not ended
     (2, Instr::Sync),
     (7, Instr::Sync),
     (30, Instr::Load(0)),
@@ -339,7 +342,7 @@ const UNFIT: [(usize, Instr); 10] = [
     (4, Instr::Start(NO_LIST, 1)),
     // the right part is given to the left half and used again
     (51, Instr::Recur(CallKind::Spawned, RIGHT)),
-    // a jump one past the end, and one into the other function
+    // a jump one past the end, and a jump into the other function
     (36, Instr::Skip(20)),
     (35, Instr::GoBack(26)),
 ];

@@ -1,4 +1,4 @@
-//! Runs by a crew, of which another worker does a part, and crews that are too large.
+//! Runs by a crew in which another worker executes a part, and crews that are too large.
 
 use crate::program::{asked, told_by};
 use cw_cli::{analyse, crew_of};
@@ -16,22 +16,22 @@ use std::sync::{Arc, Wait};
 use std::test::Fail;
 use std::thread::Threads;
 
-// A hold takes at most so many turns.
+// The maximum number of iterations for which worker 0 is held.
 const MOST_TURNS: u64 = 100_000_000;
 
-// Holds worker 0 at its offer, until another worker has settled that job.
+// Holds worker 0 at its offer until another worker has settled that job.
 #[derive(Drop)]
 struct Helped {
     settled: AtomicU64,
 }
 
 impl Helped {
-    // What the others have settled.
+    // Returns the number of jobs that the other workers have settled.
     fn settled(&self) -> u64 {
         self.settled.load(Ordering::SeqCst)
     }
 
-    // Waits until something was settled.
+    // Waits until a job was settled.
     fn hold(&self) {
         for _turn in 0..MOST_TURNS {
             if self.settled() > 0 {
@@ -59,11 +59,11 @@ impl Gate for Helped {
     }
 }
 
-// Prints 1 in the call that is spawned and 2 in the rest beside it.
+// Prints 1 in the spawned call and 2 in the continuation.
 const PRINTS: &[u8] =
     b"void f() { print(1); } int main(int n) { cilk_spawn f(); print(2); cilk_sync; return n; }";
 
-// How to run it in this mode.
+// Returns the options of a run in this mode.
 fn options_of(mode: Mode) -> Options {
     Options {
         mode,
@@ -75,7 +75,7 @@ fn options_of(mode: Mode) -> Options {
     }
 }
 
-// What two workers write on the argument 42, and what the second has settled of it.
+// Returns what two workers write for the argument 42, and how many jobs the second worker has settled.
 fn by_two<R: AllocGlobal + Threads + Wait + Copy + Drop + Send + 'static>(
     rt: R,
     mode: Mode,
@@ -103,8 +103,8 @@ fn by_two<R: AllocGlobal + Threads + Wait + Copy + Drop + Send + 'static>(
     Ok((out.into_inner(), told.settled()))
 }
 
-// While worker 0 is held at its one offer, the other worker runs the rest: what it prints stands behind what the call
-// prints.
+// While worker 0 is held at its only offer, the other worker executes the continuation. The output of the
+// continuation still follows the output of the spawned call.
 #[test]
 fn a_rest_is_run_by_the_other_worker(rt: HostRuntime) -> Result<(), Fail> {
     let (out, settled) = by_two(rt, Mode::Run)?;
@@ -113,7 +113,7 @@ fn a_rest_is_run_by_the_other_worker(rt: HostRuntime) -> Result<(), Fail> {
     Ok(())
 }
 
-// So is it where the run is measured.
+// The other worker also executes the continuation of a measured run.
 #[test]
 fn a_rest_is_measured_by_the_other_worker(rt: HostRuntime) -> Result<(), Fail> {
     let (_, settled) = by_two(rt, Mode::Scale)?;
@@ -131,7 +131,7 @@ const MODES: &[Mode] = &[
     Mode::Greedy(1),
 ];
 
-// A crew of one body more than a run may have.
+// Returns a crew with one body more than a run may have.
 fn crowd<R: AllocGlobal + Wait + Copy + Drop>(rt: R) -> Result<Vec<Serving<R>>, AllocError> {
     let mut crew = Vec::new(rt.alloc());
     for _body in 0..=MOST_BODIES {
@@ -140,7 +140,7 @@ fn crowd<R: AllocGlobal + Wait + Copy + Drop>(rt: R) -> Result<Vec<Serving<R>>, 
     Ok(crew)
 }
 
-// Whether such a crew is refused in this mode, and nothing is written.
+// Returns whether such a crew is rejected in this mode, and nothing is written.
 fn is_refused<R: AllocGlobal + Threads + Wait + Copy + Drop + Send + 'static>(
     rt: R,
     mode: Mode,
@@ -162,7 +162,7 @@ fn is_refused<R: AllocGlobal + Threads + Wait + Copy + Drop + Send + 'static>(
     Ok(answered == Err(Fault::Arguments) && out.into_inner().is_empty())
 }
 
-// In each mode, whether it runs the program or not.
+// The crew is rejected in each mode, also in a mode that does not run the program.
 #[test]
 fn a_crew_that_is_too_large_is_refused(rt: HostRuntime) -> Result<(), Fail> {
     for mode in MODES {
@@ -171,7 +171,7 @@ fn a_crew_that_is_too_large_is_refused(rt: HostRuntime) -> Result<(), Fail> {
     Ok(())
 }
 
-// The program says so on standard error.
+// The program reports the error on standard error.
 #[test]
 fn a_crew_that_is_too_large_is_told(rt: HostRuntime) -> Result<(), Fail> {
     let asked = asked(rt.alloc(), "run f 42")?;

@@ -1,6 +1,6 @@
-//! The programs of examples/, each in all modes against the files beside it. What `run` prints is what the comments of a
-//! program derive or another program gave; the reports come from the other implementation in bench/reference, whose
-//! `examples.py` wrote the modules below this one.
+//! The programs of examples/, each in all modes, compared with their expected reports. The comments of a program
+//! derive what `run` prints, or another program computed it. The reports come from the independent implementation in
+//! bench/reference, whose `examples.py` wrote the modules below this one.
 
 mod collatz;
 mod dot;
@@ -41,7 +41,7 @@ pub struct Example {
     pub greedy: &'static str,
 }
 
-// Whether the program writes this of the example, with these words in front of its own.
+// Returns whether the program prints `wanted` for the example in this mode.
 fn writes<R: AllocGlobal + Threads + Wait + Copy + Drop + Send + 'static>(
     rt: R,
     mode: &str,
@@ -54,7 +54,7 @@ fn writes<R: AllocGlobal + Threads + Wait + Copy + Drop + Send + 'static>(
     answers(rt, words.as_str(), source, 0, wanted, "")
 }
 
-// The program writes this of the example, as above.
+// Checks that the program prints `wanted` for the example in this mode.
 fn reports<R: Abort + AllocGlobal + Threads + Wait + Copy + Drop + Send + 'static>(
     rt: R,
     mode: &str,
@@ -66,7 +66,7 @@ fn reports<R: Abort + AllocGlobal + Threads + Wait + Copy + Drop + Send + 'stati
     Ok(())
 }
 
-// The example is accepted.
+// Checks that the example is accepted.
 fn is_accepted<R: Abort + AllocGlobal + Threads + Wait + Copy + Drop + Send + 'static>(
     rt: R,
     example: &Example,
@@ -77,7 +77,7 @@ fn is_accepted<R: Abort + AllocGlobal + Threads + Wait + Copy + Drop + Send + 's
     Ok(())
 }
 
-/// The example is accepted, and each report is what stands beside it.
+/// Checks that the example is accepted, and that each report is the expected one.
 pub fn holds<R: Abort + AllocGlobal + Threads + Wait + Copy + Drop + Send + 'static>(
     rt: R,
     example: &Example,

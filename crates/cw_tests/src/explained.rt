@@ -1,9 +1,9 @@
-//! What standard error has behind the line of a fault, where the words ask for it.
+//! The text that follows the line of a fault on standard error, if the words ask for it.
 
 use crate::program::{Row, all_hold};
 use std::test::Fail;
 
-// Words with `--explain`; the last of them without it, where standard error has the line of the fault alone.
+// Words with `--explain`. The last case is without it: standard error has only the line of the fault.
 const EXPLAINED: &[Row] = &[
     (
         "check --explain f",
@@ -49,7 +49,7 @@ const EXPLAINED: &[Row] = &[
     ),
 ];
 
-// Words that are no numbers or out of range, each with its range; the last of them without `--explain`.
+// Words that are malformed numbers or out of range, each with its range. The last case is without `--explain`.
 const MISUSED: &[Row] = &[
     (
         "run f --limit 0 --explain",
@@ -123,7 +123,7 @@ int main() {
   return r;
 }";
 
-// the sixth turn of eight, in a call that each turn makes
+// the sixth of eight iterations, in a call that each iteration makes
 const IN_TURNS: &str = "reducer sum s;
 void add(int i) {
   s += 6 / (i - 5);
@@ -144,7 +144,7 @@ const BEHIND: &str = "int main(int n) {
   return 0;
 }";
 
-// A trap of each kind with its values, and the calls and loops round it.
+// A trap of each kind with its values, and the calls and loops around it.
 const TRAPPED: &[Row] = &[
     (
         "run f 1 --explain",

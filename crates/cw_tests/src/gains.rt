@@ -1,5 +1,5 @@
-//! What functions would bring, from the words to the exit status. The rows were worked out by hand (`ExampleGains`), those of
-//! fib by the other implementation.
+//! The gain table, from the words to the exit status. The rows were worked out by hand (`ExampleGains`); the rows of
+//! fib come from the independent implementation.
 
 use crate::program::{Row, all_hold, all_hold_by_all};
 use crate::tables::{DIVIDED, FIB};
@@ -8,7 +8,7 @@ use std::test::Fail;
 const HEADER: &str =
     "function,line,calls,own_work,own_span,span_if_free,parallelism_if_free,burdened_span_if_free\n";
 
-// A call of nine instructions beside one of five.
+// A call of nine instructions parallel to one of five.
 const NEAR_TIE: &str =
     "void f() { print(1); print(2); print(3); print(4); } void g() { print(1); print(2); } \
 int main() { cilk_spawn f(); g(); return 0; }";
@@ -18,17 +18,17 @@ void h(int n) { if (0 < n) { cilk_spawn h(n - 1); h(n - 1); } }
 int main(int n) { h(n); return 0; }
 ";
 
-// The turns are of `main`.
+// The iterations belong to `main`.
 const LOOP_IN_REGION: &str =
     "void p() { } int main() { region t { cilk_for (int i = 0; i < 2; i++) grain 1 { p(); } } return 0; }";
 
-// Two functions that bring the same.
+// Two functions with the same gain.
 const ALIKE: &str =
     "void f() { print(1); } void g() { print(2); } int main() { g(); f(); return 0; }";
 
 const NOTHING: &str = "int main() { return 0; }";
 
-// Each has what follows the head.
+// Each case has what follows the header.
 const GAINS: &[Row] = &[
     (
         "gain f --burden 10",
@@ -79,7 +79,7 @@ fn writes_gains(rt: HostRuntime) -> Result<(), Fail> {
     all_hold_by_all(rt, HEADER, GAINS)
 }
 
-// Of fewer functions than would have a line, and within a limit that is the work.
+// Tables with fewer rows than functions, within a limit that is exactly the work.
 const FEWER: &[Row] = &[
     (
         "gain f --burden 0 --top 2 --limit 10",
@@ -109,7 +109,7 @@ fn writes_gains_of_so_many(rt: HostRuntime) -> Result<(), Fail> {
     all_hold_by_all(rt, HEADER, FEWER)
 }
 
-// Words and runs without gains.
+// Words and runs without a gain table.
 const NO_GAINS: &[Row] = &[
     ("gain f 4 --top 0", FIB, 5, "", "arguments\n"),
     ("gain f 4 --top 65", FIB, 5, "", "arguments\n"),

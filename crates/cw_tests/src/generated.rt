@@ -5,7 +5,7 @@ use cw_compile::compile;
 use cw_model::syntax::{CallKind, Operator};
 use std::alloc::Global;
 
-// Whether a source has this code.
+// Returns whether a source has this code.
 fn has_instrs(alloc: Global, source: &[u8], instrs: &[Instr]) -> bool {
     match compile(alloc, source) {
         Ok(verified) => verified.code.instrs.as_slice() == instrs,
@@ -13,7 +13,7 @@ fn has_instrs(alloc: Global, source: &[u8], instrs: &[Instr]) -> bool {
     }
 }
 
-// Operands stand from left to right.
+// Operands are evaluated from left to right.
 const OPERANDS: &[u8] = b"int main(int x, int y) {
 return -y - !7; }";
 
@@ -31,7 +31,7 @@ fn operands_stand_from_left_to_right(rt: HostRuntime) {
     assert!(rt; has_instrs(rt.alloc(), OPERANDS, OPERANDS_CODE));
 }
 
-// A branch that returns has a jump of no distance.
+// A branch that returns has a jump of distance 0.
 const RETURNS: &[u8] = b"int main(int x, int y) {
 if (x) {
 return 1; } else {
@@ -55,7 +55,7 @@ fn a_branch_that_returns_has_a_jump_of_no_distance(rt: HostRuntime) {
     assert!(rt; has_instrs(rt.alloc(), RETURNS, RETURNS_CODE));
 }
 
-// A branch that goes on jumps over the other.
+// A branch that does not return jumps over the other branch.
 const BRANCHES: &[u8] = b"void f(int x) {
 if (x) {
 print(1); } else {
@@ -81,7 +81,7 @@ fn a_branch_that_goes_on_jumps_over_the_other(rt: HostRuntime) {
     assert!(rt; has_instrs(rt.alloc(), BRANCHES, BRANCHES_CODE));
 }
 
-// A while goes back to its test.
+// A `while` jumps back to its test.
 const WHILE: &[u8] = b"int main(int x, int y) {
 while (x) {
 print(y); }
@@ -140,7 +140,7 @@ fn a_sync_block_is_opened_and_closed(rt: HostRuntime) {
     assert!(rt; has_instrs(rt.alloc(), BLOCKS, BLOCKS_CODE));
 }
 
-// A loop in line 2 that takes along the integer in slot 0, over the array in slot 0.
+// A loop in line 2 that captures the integer in slot 0, over the array in slot 0.
 const LOOP: &[u8] = b"int main(int n) { int a[8];
 cilk_for (int i = 0; i < n; i++) grain 2 over (a) {
 a[i] = n; }
@@ -177,7 +177,7 @@ const LOOP_CODE: &[Instr] = &[
     Instr::Push(0),
     Instr::Element(0, 4),
     Instr::ReturnValue,
-    // a range of at most two turns is a leaf
+    // a range of at most two iterations is a leaf
     Instr::Load(1),
     Instr::Load(0),
     Instr::Binary(Operator::Minus, 2),
@@ -203,7 +203,7 @@ const LOOP_CODE: &[Instr] = &[
     Instr::Store(3),
     Instr::GoBack(15),
     Instr::Skip(21),
-    // any other is halved
+    // any other range is halved
     Instr::Load(0),
     Instr::Load(1),
     Instr::Load(0),
@@ -233,7 +233,7 @@ fn a_loop_halves_its_range(rt: HostRuntime) {
     assert!(rt; has_instrs(rt.alloc(), LOOP, LOOP_CODE));
 }
 
-// Of main, and of the turns.
+// The functions of `main` and of the loop.
 const LOOP_FUNCS: &[Func] = &[
     Func {
         start: 0,
@@ -257,10 +257,10 @@ const LOOP_FUNCS: &[Func] = &[
     },
 ];
 
-// The array slots that are passed: by no call, by main, and by the function of the loop.
+// The lists of array slots: the empty ones that no call names, one for `main`, and two for the loop's function.
 const LOOP_LISTS: &[&[u32]] = &[&[], &[], &[], &[], &[0], &[1], &[2]];
 
-// Whether these are the lists.
+// Returns whether these are the lists.
 fn are(found: &[Vec<u32>], lists: &[&[u32]]) -> bool {
     found.len() == lists.len()
         && found
@@ -269,7 +269,7 @@ fn are(found: &[Vec<u32>], lists: &[&[u32]]) -> bool {
             .all(|(one, other)| one.as_slice() == *other)
 }
 
-// Whether a code has these functions, and these lists.
+// Returns whether a code has these functions and these lists.
 fn has_funcs(code: &Code, funcs: &[Func], lists: &[&[u32]]) -> bool {
     code.funcs.as_slice() == funcs && are(code.passed.as_slice(), lists)
 }

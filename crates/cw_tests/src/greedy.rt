@@ -6,21 +6,21 @@ use std::test::Fail;
 
 const HEADER: &str = "processors,work,span,greedy\n";
 
-// 1,000,000 strands, as many as are kept, and a turn more, which brings three more.
+// 1,000,000 strands, the maximum number that is recorded, and one more iteration, which adds three strands.
 const MOST: &str = "int main() { cilk_for (int i = 0; i < 333334; i++) grain 1 { } return 0; }";
 
 const MORE: &str = "int main() { cilk_for (int i = 0; i < 333335; i++) grain 1 { } return 0; }";
 
-// Each has what follows the head.
+// Each case has what follows the header.
 const SCHEDULES: &[Row] = &[
     ("greedy 1 f 4", FIB, 0, "1,120,67,120\n", ""),
     ("greedy 2 f 4", FIB, 0, "2,120,67,76\n", ""),
     ("greedy 1000000 f 4", FIB, 0, "1000000,120,67,67\n", ""),
-    // the limit is the work
+    // the limit is exactly the work
     ("greedy 002 --limit=120 f 4", FIB, 0, "2,120,67,76\n", ""),
     ("greedy 2 f", PRINTED, 0, "2,15,10,10\n", ""),
     ("greedy 1 f", PRINTED, 0, "1,15,10,15\n", ""),
-    // by whichever workers
+    // by any number of workers
     ("greedy 2 f 4 --workers 1", FIB, 0, "2,120,67,76\n", ""),
     ("greedy 2 f 4 --workers 4", FIB, 0, "2,120,67,76\n", ""),
     ("greedy 2 f 4 --workers 64", FIB, 0, "2,120,67,76\n", ""),
@@ -80,7 +80,7 @@ fn writes_no_schedule(rt: HostRuntime) -> Result<(), Fail> {
     all_hold(rt, NO_SCHEDULES)
 }
 
-// As many strands as are kept, behind the head.
+// The maximum number of strands.
 const KEPT: &[Row] = &[
     (
         "greedy 1 f --workers 1",
@@ -103,15 +103,15 @@ fn schedules_a_million_strands(rt: HostRuntime) -> Result<(), Fail> {
     all_hold_with(rt, "", HEADER, KEPT)
 }
 
-// In each turn a call, which brings two strands more: 1,999,998 with 400,000 calls, and 399,999 spawns and joins.
+// A call in each iteration adds two strands: 1,999,998 strands with 400,000 calls, and 399,999 spawns and joins.
 const MORE_CALLS: &str =
     "void f() { } int main() { cilk_for (int i = 0; i < 400000; i++) grain 1 { f(); } return 0; }";
 
-// More than are kept.
+// More strands than are recorded.
 const TOO_MANY: &[Row] = &[
     ("greedy 1 f --workers 1", MORE, 4, "", "too many strands\n"),
     ("greedy 1 f --workers 4", MORE, 4, "", "too many strands\n"),
-    // a limit that the run passes is told first
+    // exceeding the limit is reported first
     ("greedy 1 f --limit 15333347", MORE, 4, "", "over limit\n"),
 ];
 
@@ -120,7 +120,7 @@ fn schedules_no_more_strands(rt: HostRuntime) -> Result<(), Fail> {
     all_hold(rt, TOO_MANY)
 }
 
-// How many these are: 1, and 2 for each call and spawn and 1 for each join.
+// The number of strands: 1, plus 2 for each call and spawn and 1 for each join.
 const COUNTED: &[Row] = &[
     (
         "greedy 1 f --explain --workers 1",

@@ -1,5 +1,5 @@
-//! Runs of the language of integers: control flow, recursion, traps, printed values and sync blocks. The limits are exact:
-//! one instruction less is over.
+//! Runs of programs with integers: control flow, recursion, traps, printed values and sync blocks. The limits are
+//! exact: with one instruction less the run exceeds its limit.
 
 use crate::program::{Row, all_hold, answers};
 use crate::tables::{DIVIDED, FIB, PRINTED, TAGGED};
@@ -9,7 +9,7 @@ use std::sync::Wait;
 use std::test::Fail;
 use std::thread::Threads;
 
-// a division in a spawned call, beside a loop without an end
+// a division in a spawned call, parallel to an endless loop
 const DIVISION_BESIDE_A_LOOP: &str = "int bad(int z) { int q = 0; q = 1 / z; return q; }
 int main(int z) { cilk_spawn bad(z); while (1) { } cilk_sync; return 0; }
 ";
@@ -138,7 +138,7 @@ int main(int n) {
 
 // A recursion with spawns.
 const RECURSION: &[Row] = &[
-    // fib pays 21 above its base case, where it pays 6, and main pays 6
+    // fib costs 21 above its base case, which costs 6, and main costs 6
     ("run f 0 --limit 12", FIB, 0, "return 0\n", ""),
     ("run f 0 --limit 11", FIB, 4, "", "over limit\n"),
     ("run f 4 --limit 120", FIB, 0, "return 3\n", ""),
@@ -156,11 +156,11 @@ fn runs_recursion(rt: HostRuntime) -> Result<(), Fail> {
 const CONTROL: &[Row] = &[
     ("run f --limit 39", BRANCHES, 0, "7\n8\nreturn 2\n", ""),
     ("run f --limit 38", BRANCHES, 4, "", "over limit\n"),
-    // each call of f that spawns pays 14 and what the next one pays, the last one 6, and main 6
+    // each call of f that spawns costs 14 plus the next call, the last call 6, and main 6
     ("run f 9998 --limit 149982", CHAIN, 0, "return 9998\n", ""),
     ("run f 9998 --limit 149981", CHAIN, 4, "", "over limit\n"),
     ("run f 9999", CHAIN, 3, "", "trap 6 line 1\n"),
-    // main pays 4, and each of 9,999 calls of f pays 6
+    // main costs 4, and each of 9,999 calls of f costs 6
     ("run f", ENDLESS, 3, "", "trap 6 line 1\n"),
     ("run f --limit 59998", ENDLESS, 3, "", "trap 6 line 1\n"),
     ("run f --limit 59997", ENDLESS, 4, "", "over limit\n"),
@@ -178,7 +178,7 @@ fn runs_control_flow(rt: HostRuntime) -> Result<(), Fail> {
     all_hold(rt, CONTROL)
 }
 
-// Divisions, and what is printed before one traps.
+// Divisions, and what is printed before a trap.
 const DIVISIONS: &[Row] = &[
     ("run f 1 --limit 15", DIVIDED, 0, "7\nreturn 0\n", ""),
     ("run f 1 --limit 14", DIVIDED, 4, "", "over limit\n"),
@@ -213,7 +213,7 @@ fn runs_divisions(rt: HostRuntime) -> Result<(), Fail> {
     all_hold(rt, DIVISIONS)
 }
 
-// Sums that pass the greatest number, and each operator.
+// Sums that exceed the maximum, and each operator.
 const OPERATIONS: &[Row] = &[
     (
         "run f",
@@ -243,7 +243,7 @@ fn runs_operators(rt: HostRuntime) -> Result<(), Fail> {
     all_hold(rt, OPERATIONS)
 }
 
-// What spawned calls print, and where their values may be used.
+// The lines that spawned calls print, and the places where their values may be used.
 const BLOCKS: &[Row] = &[
     ("run f --limit 15", PRINTED, 0, "1\n2\n3\nreturn 0\n", ""),
     ("run f --limit 14", PRINTED, 4, "", "over limit\n"),
@@ -261,7 +261,8 @@ fn runs_sync_blocks(rt: HostRuntime) -> Result<(), Fail> {
     all_hold(rt, BLOCKS)
 }
 
-// The words, what opens an operand, the operand, what closes it, and how often; and as of other rows what they lead to.
+// The words, what opens an operand, the operand, what closes it, the number of repetitions, and the expected status
+// and output.
 type Deep = (
     &'static str,
     &'static str,
@@ -297,7 +298,7 @@ fn add_often(text: &mut String, part: &str, count: usize) -> Result<(), AllocErr
     Ok(())
 }
 
-// A program whose main returns the operand in so many signs or parentheses.
+// Returns a program whose `main` returns the operand in this number of signs or parentheses.
 fn nested(alloc: Global, deep: &Deep) -> Result<String, AllocError> {
     let mut text = String::from_str(alloc, "int main() { return ")?;
     add_often(&mut text, deep.1, deep.4)?;
@@ -307,7 +308,7 @@ fn nested(alloc: Global, deep: &Deep) -> Result<String, AllocError> {
     Ok(text)
 }
 
-// Whether the program with the operand answers so.
+// Returns whether the program with the operand has the expected status and output.
 fn is_so_deep<R: AllocGlobal + Threads + Wait + Copy + Drop + Send + 'static>(
     rt: R,
     deep: &Deep,

@@ -1,5 +1,6 @@
-//! Parallel loops: values, costs to the instruction, traps and the limit on loops. The costs are those of docs/LANGUAGE.md: a
-//! leaf of `t` turns takes 14 and 11 for each turn beside its body, an inner node 21 + 5 q + 2 k.
+//! Parallel loops: values, exact costs, traps and the limit on loops. The costs are stated in docs/LANGUAGE.md: a
+//! leaf of `t` iterations costs 14, and 11 for each iteration in addition to its body; an inner node costs 21 + 5 q +
+//! 2 k.
 
 use crate::program::{Row, all_hold, all_hold_by_all, all_hold_with, answers};
 use crate::tables::{GREATEST, SCALE};
@@ -59,7 +60,7 @@ int main() {
 }
 ";
 
-// a turn is a sync block: the spawn of a turn is joined at its end
+// an iteration is a sync block: its spawn is joined at its end
 const SPAWNING: &str = "reducer sum s;
 void add(int v) { s += v; }
 int f(int v) { cilk_spawn add(v); return v * v; }
@@ -79,7 +80,7 @@ int main() {
 const GREATEST_OF_NONE: &str = "reducer max m; \
 int main() { cilk_for (int i = 5; i < 3; i++) grain 2 { m max= i * (3 - i); } return 0; }";
 
-// a sum between two that keep the greatest, and numbers below 0
+// a sum between two maxima, and negative numbers
 const BOTH_KINDS: &str = "reducer max top; reducer sum s; reducer max none;
 int main() {
   cilk_for (int i = 1; i < 8; i++) grain 1 { top max= 0 - i * i; s += i; }
@@ -98,11 +99,11 @@ const DIVIDED: &str = "int main(int z) {
 }
 ";
 
-// What loops cost, and one less.
+// Loops with a limit equal to their cost, and with a limit that is one instruction less.
 const LIMITS: &[Row] = &[
     ("run f --limit 134", SQUARES, 0, "return 9\n", ""),
     ("run f --limit 133", SQUARES, 4, "", "over limit\n"),
-    // leaves of 2, 1 and 2 turns
+    // leaves of 2, 1 and 2 iterations
     ("run f --limit 192", FIVE_SQUARES, 0, "return 16\n", ""),
     ("run f --limit 191", FIVE_SQUARES, 4, "", "over limit\n"),
     ("run f --limit 22", NO_TURN, 0, "return 0\n", ""),
@@ -117,7 +118,7 @@ fn parallel_loops_cost_what_their_turns_do(rt: HostRuntime) -> Result<(), Fail> 
     all_hold_by_all(rt, "", LIMITS)
 }
 
-// What loops come to.
+// The results of loops.
 const VALUES: &[Row] = &[
     ("run f", TWO_ARRAYS, 0, "return 19030\n", ""),
     (
@@ -136,7 +137,7 @@ fn runs_parallel_loops(rt: HostRuntime) -> Result<(), Fail> {
     all_hold_by_all(rt, "", VALUES)
 }
 
-// Loops with reducers that keep the greatest.
+// Loops with reducers of kind `max`.
 const GREATESTS: &[Row] = &[
     (
         "run f --limit 122",
@@ -161,7 +162,7 @@ fn parallel_loops_keep_the_greatest(rt: HostRuntime) -> Result<(), Fail> {
     all_hold_by_all(rt, "", GREATESTS)
 }
 
-// Loops that trap, or pass their limit before.
+// Loops that trap, or exceed their limit before they trap.
 const TRAPS: &[Row] = &[
     ("run f", ONE_TURN_MORE, 3, "", "trap 3 line 1\n"),
     ("run f", BELOW_ITS_ARRAY, 3, "", "trap 3 line 3\n"),
@@ -184,7 +185,7 @@ int main() { cilk_for (int i = 0; i < 4; i++) grain 2 { s += i; } return 0; }";
 const PRINTED: &str = "int main() { int a[4]; \
 cilk_for (int i = 0; i < 4; i++) grain 2 over (a) { a[i] = i * i; } print(a[3]); return 0; }";
 
-// What these two print, and their tables.
+// The lines that these two programs print, and their tables.
 const PRINTS: &[Row] = &[
     ("run f", ADDED, 0, "sum s = 6\nreturn 0\n", ""),
     ("run f", PRINTED, 0, "9\nreturn 0\n", ""),
@@ -207,7 +208,7 @@ fn parallel_loops_are_measured(rt: HostRuntime) -> Result<(), Fail> {
     all_hold_with(rt, "", SCALE, MEASURED)
 }
 
-// Of a loop over each count of turns from 0 to 40 whose body costs 4, in a `main` that returns 0: what it costs, with grains
+// The costs of a loop with 0 to 40 iterations whose body costs 4, in a `main` that returns 0: a row for each grain
 // from 1 to 9.
 const COSTS: [[u32; 41]; 9] = [
     [
@@ -257,7 +258,8 @@ const COSTS: [[u32; 41]; 9] = [
     ],
 ];
 
-// Whether so many turns end within this limit, and sum the squares of their numbers to this.
+// Returns whether this number of iterations finishes within this limit and sums the squares of their numbers to
+// `sum`.
 fn ends<R: AllocGlobal + Threads + Wait + Copy + Drop + Send + 'static>(
     rt: R,
     source: &str,
@@ -277,7 +279,7 @@ fn ends<R: AllocGlobal + Threads + Wait + Copy + Drop + Send + 'static>(
     )
 }
 
-// Whether so many turns pass this limit.
+// Returns whether this number of iterations exceeds this limit.
 fn is_over<R: AllocGlobal + Threads + Wait + Copy + Drop + Send + 'static>(
     rt: R,
     source: &str,
@@ -288,14 +290,15 @@ fn is_over<R: AllocGlobal + Threads + Wait + Copy + Drop + Send + 'static>(
     answers(rt, words.as_str(), source.as_bytes(), 4, "", "over limit\n")
 }
 
-// A loop that sums squares, with this grain.
+// Returns a loop that sums squares, with this grain.
 fn squares(alloc: Global, grain: u32) -> Result<String, AllocError> {
     format!(in alloc;
         "reducer sum s; int main(int n) {{ cilk_for (int i = 0; i < n; i++) grain {grain} {{ s += i * i; }} return 0; }}"
     )
 }
 
-// The loop of this grain costs this with 0, 1, 2, .. turns: it ends within it, and not within one less.
+// Checks the costs of the loop of this grain with 0, 1, 2, .. iterations: it finishes within the cost, and exceeds a
+// limit of one less.
 fn all_cost<R: Abort + AllocGlobal + Threads + Wait + Copy + Drop + Send + 'static>(
     rt: R,
     grain: u32,
@@ -314,7 +317,7 @@ fn all_cost<R: Abort + AllocGlobal + Threads + Wait + Copy + Drop + Send + 'stat
     Ok(())
 }
 
-// The loops of the grains 1, 2, 3, .. have these costs.
+// Checks that the loops of the grains 1, 2, 3, .. have these costs.
 fn all_grains_cost<R: Abort + AllocGlobal + Threads + Wait + Copy + Drop + Send + 'static>(
     rt: R,
     grains: &[[u32; 41]],
@@ -334,7 +337,7 @@ fn every_short_range_costs_what_its_halves_do(rt: HostRuntime) -> Result<(), Fai
 
 const LOOP: &str = "cilk_for (int i = 0; i < 0; i++) { }\n";
 
-// Adds a function of 256 loops.
+// Appends a function of 256 loops.
 fn add_function(alloc: Global, text: &mut String, number: u32) -> Result<(), AllocError> {
     let head = format!(in alloc; "void f{number}() {{\n")?;
     text.push_str(head.as_str())?;
@@ -344,7 +347,7 @@ fn add_function(alloc: Global, text: &mut String, number: u32) -> Result<(), All
     text.push_str("}\n")
 }
 
-// Calls of the 16 functions.
+// Returns calls of the 16 functions.
 fn calls(alloc: Global) -> Result<String, AllocError> {
     let mut text = String::new(alloc);
     for number in 0..16u32 {
@@ -354,7 +357,7 @@ fn calls(alloc: Global) -> Result<String, AllocError> {
     Ok(text)
 }
 
-// A program of 16 functions of 256 loops each, which a main with these loops of its own calls.
+// Returns a program of 16 functions of 256 loops each; its `main` has these loops and calls the functions.
 fn loops(alloc: Global, own: &str) -> Result<String, AllocError> {
     let calls = calls(alloc)?;
     let mut text = String::new(alloc);
@@ -368,16 +371,16 @@ fn loops(alloc: Global, own: &str) -> Result<String, AllocError> {
     Ok(text)
 }
 
-// The same as of other rows, but that the source is the loops of main.
+// Test cases in which the source is the loops of `main`.
 const MANY: &[Row] = &[
     // a call 1, each loop 3 and an empty leaf of 14, the end of a function 1; return 2
     ("run f --limit 69666", "", 0, "return 0\n", ""),
     ("run f --limit 69665", "", 4, "", "over limit\n"),
-    // the 4,097th by place, behind 16 functions of 258 lines and the head of main
+    // the 4,097th loop, after 16 functions of 258 lines and the head of `main`
     ("check f", LOOP, 2, "", "refused 5 line 4130\n"),
 ];
 
-// Whether a row holds of a program with many loops.
+// Returns whether a test case holds for a program with many loops.
 fn holds_of_many<R: AllocGlobal + Threads + Wait + Copy + Drop + Send + 'static>(
     rt: R,
     row: &Row,
@@ -386,7 +389,7 @@ fn holds_of_many<R: AllocGlobal + Threads + Wait + Copy + Drop + Send + 'static>
     answers(rt, row.0, source.as_bytes(), row.2, row.3, row.4)
 }
 
-// Each of these rows holds of a program with many loops.
+// Checks that each of these test cases holds for a program with many loops.
 fn all_hold_of_many<R: Abort + AllocGlobal + Threads + Wait + Copy + Drop + Send + 'static>(
     rt: R,
     rows: &[Row],

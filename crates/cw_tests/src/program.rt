@@ -1,4 +1,4 @@
-//! The program as a whole, over memory.
+//! The whole program, in memory.
 
 use cw_cli::{crew_of, say, say_why, tool};
 use cw_pool::crew::Serving;
@@ -11,7 +11,7 @@ use std::sync::{Arc, Wait};
 use std::test::Fail;
 use std::thread::Threads;
 
-/// The words, the source, and what they lead to: the exit status, standard output and standard error.
+/// A test case: the words, the source, and the expected exit status, standard output and standard error.
 pub type Row = (&'static str, &'static str, u8, &'static str, &'static str);
 
 /// The exit status, standard output and standard error.
@@ -23,7 +23,8 @@ pub struct Told {
 }
 
 impl Told {
-    /// Whether it is this status, this head and this text behind it on standard output, and this on standard error.
+    /// Returns whether the status is `status`, standard output is `head` followed by `out`, and standard error is
+    /// `err`.
     pub fn is(&self, status: u8, head: &str, out: &str, err: &str) -> bool {
         let rest = self.out.as_slice().strip_prefix(head.as_bytes());
         self.status == status
@@ -32,7 +33,7 @@ impl Told {
     }
 }
 
-// The words of a line.
+// Returns the words of a line.
 fn words_of(alloc: Global, line: &str) -> Result<Vec<String>, AllocError> {
     let mut words = Vec::new(alloc);
     for word in line.split_whitespace() {
@@ -41,13 +42,14 @@ fn words_of(alloc: Global, line: &str) -> Result<Vec<String>, AllocError> {
     Ok(words)
 }
 
-/// What the words of a line ask for.
+/// Returns the request that the words of a line make.
 pub fn asked(alloc: Global, line: &str) -> Result<Request, Fail> {
     let words = words_of(alloc, line)?;
     request(alloc, words.as_slice()).map_err(|_| Fail::from("the words make no request"))
 }
 
-// What is said in place of running, and of a fault of these words why, where that is asked for.
+// Returns what the program prints instead of running, with an explanation of a fault of these words if `explain`
+// holds.
 fn said(alloc: Global, said: &Said, words: &[String], explain: bool) -> Told {
     let mut out = Counted::new(Vec::new(alloc));
     let mut err = Counted::new(Vec::new(alloc));
@@ -63,7 +65,7 @@ fn said(alloc: Global, said: &Said, words: &[String], explain: bool) -> Told {
     }
 }
 
-// What is told of a request over this source.
+// Returns the outcome of a request on this source.
 fn told_of<R: AllocGlobal + Threads + Wait + Copy + Drop + Send + 'static>(
     rt: R,
     asked: &Request,
@@ -73,7 +75,7 @@ fn told_of<R: AllocGlobal + Threads + Wait + Copy + Drop + Send + 'static>(
     told_by(rt, asked, source, crew)
 }
 
-/// What is told of a request over this source by this crew.
+/// Returns the outcome of a request on this source by this crew.
 pub fn told_by<R: AllocGlobal + Threads + Wait + Copy + Drop + Send + 'static>(
     rt: R,
     asked: &Request,
@@ -102,7 +104,7 @@ pub fn told_by<R: AllocGlobal + Threads + Wait + Copy + Drop + Send + 'static>(
     })
 }
 
-/// What the program answers to these words, where the file that they name is this source.
+/// Returns the outcome of the program for these words, if the file that they name is this source.
 pub fn answer<R: AllocGlobal + Threads + Wait + Copy + Drop + Send + 'static>(
     rt: R,
     line: &str,
@@ -123,7 +125,7 @@ pub fn answer<R: AllocGlobal + Threads + Wait + Copy + Drop + Send + 'static>(
     }
 }
 
-/// Whether the program answers so: this status, this text on standard output, and this on standard error.
+/// Returns whether the program has this status and prints these texts to standard output and standard error.
 pub fn answers<R: AllocGlobal + Threads + Wait + Copy + Drop + Send + 'static>(
     rt: R,
     words: &str,
@@ -136,7 +138,8 @@ pub fn answers<R: AllocGlobal + Threads + Wait + Copy + Drop + Send + 'static>(
     Ok(told.is(status, "", out, err))
 }
 
-// Whether a row holds with these words behind its own, and with this head in front of its standard output.
+// Returns whether a test case holds with these words appended to its own, and with this head before its standard
+// output.
 fn holds<R: AllocGlobal + Threads + Wait + Copy + Drop + Send + 'static>(
     rt: R,
     more: &str,
@@ -149,7 +152,8 @@ fn holds<R: AllocGlobal + Threads + Wait + Copy + Drop + Send + 'static>(
     Ok(told.is(row.2, head, row.3, row.4))
 }
 
-/// Each of these rows holds with these words behind its own, and with this head in front of its standard output.
+/// Checks that each of these test cases holds with these words appended to its own, and with this head before its
+/// standard output.
 pub fn all_hold_with<R: Abort + AllocGlobal + Threads + Wait + Copy + Drop + Send + 'static>(
     rt: R,
     more: &str,
@@ -163,7 +167,7 @@ pub fn all_hold_with<R: Abort + AllocGlobal + Threads + Wait + Copy + Drop + Sen
     Ok(())
 }
 
-/// Each of these rows holds.
+/// Checks that each of these test cases holds.
 pub fn all_hold<R: Abort + AllocGlobal + Threads + Wait + Copy + Drop + Send + 'static>(
     rt: R,
     rows: &[Row],
@@ -171,11 +175,11 @@ pub fn all_hold<R: Abort + AllocGlobal + Threads + Wait + Copy + Drop + Send + '
     all_hold_with(rt, "", "", rows)
 }
 
-// Those that are tried beside the two that run a program where the words ask for no number.
+// The numbers of workers to try in addition to the default, which is two.
 const WORKERS: [&str; 4] = ["", " --workers 1", " --workers 4", " --workers 64"];
 
-/// Each of these rows of words that run a program holds, with this head in front of its standard output, by two workers, and by
-/// 1, 4 and 64.
+/// Checks that each of these test cases, whose words run a program, holds with this head before its standard output,
+/// by two workers, and by 1, 4 and 64.
 pub fn all_hold_by_all<R: Abort + AllocGlobal + Threads + Wait + Copy + Drop + Send + 'static>(
     rt: R,
     head: &str,

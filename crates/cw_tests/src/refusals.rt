@@ -1,4 +1,4 @@
-//! Refusals at every stage, each with its line.
+//! Rejected sources at every stage, each with its line.
 
 use crate::program::answers;
 use std::alloc::{AllocError, Global};
@@ -10,7 +10,7 @@ use std::thread::Threads;
 // A source, and its line on standard error.
 type Refusal = (&'static str, &'static str);
 
-// Whether the source is refused with this line; the arguments and the limit do not suit any of them.
+// Returns whether the source is rejected with this line. The arguments and the limit fit none of the sources.
 fn is_refused<R: AllocGlobal + Threads + Wait + Copy + Drop + Send + 'static>(
     rt: R,
     source: &[u8],
@@ -43,7 +43,7 @@ const NO_TOKENS: &[Refusal] = &[
         "int\nn0123456789012345678901234567890123456789012345678901234567890123\n() {}",
         "refused 5 line 2\n",
     ),
-    // a name of 65 bytes in a whole program, and a number with zeros in front, which is three numbers
+    // a name of 65 bytes in a whole program, and a number with leading zeros, which is three numbers
     (
         "int main() { int n0123456789012345678901234567890123456789012345678901234567890123 = 0; return 0; }",
         "refused 5 line 1\n",
@@ -63,7 +63,7 @@ const NO_SOURCES: &[Refusal] = &[
     ("int main() { return 0;\n", "refused 2 line 2\n"),
     ("int main() {\n  return 0\n}\n", "refused 2 line 3\n"),
     ("int main() { return 0; }\n;", "refused 2 line 2\n"),
-    // 65 brackets, whatever the grammar says of them
+    // 65 brackets: the limit is checked before the grammar
     (
         "int\n((((((((((((((((((((((((((((((((((((((((((((((((((((((((((((((((\n(",
         "refused 5 line 3\n",
@@ -87,7 +87,7 @@ const NO_NAMES: &[Refusal] = &[
         "int main() { int x = 0;\nx = g(1); return x; }",
         "refused 3 line 2\n",
     ),
-    // a statement that its reducer does not fit
+    // a statement that its reducer does not allow
     (
         "reducer sum s;\nint main() {\ns max= 1; return 0; }",
         "refused 3 line 3\n",
@@ -137,7 +137,7 @@ const NO_OWNERS: &[Refusal] = &[
         "int f(int v) { return v; }\nint main() {\n  int x = 0;\n  x = cilk_spawn f(1);\n  return x;\n}",
         "refused 4 line 5\n",
     ),
-    // a turn of a loop meets what the turn before it took
+    // an iteration of a loop uses what the iteration before it took
     (
         "int f(int v) { return v; } int main() { int x = 0; while (x < 1) { x = cilk_spawn f(1); } cilk_sync; return 0; }",
         "refused 4 line 1\n",
@@ -153,7 +153,7 @@ fn refuses_uses_of_results(rt: HostRuntime) -> Result<(), Fail> {
     all_are_refused(rt, NO_OWNERS)
 }
 
-// Ownership of arrays, and what comes before it.
+// Ownership of arrays, and what is checked before it.
 const NO_ARRAYS: &[Refusal] = &[
     // one array twice, an array that is cut, and an integer from outside a parallel loop
     (
@@ -177,7 +177,7 @@ const NO_ARRAYS: &[Refusal] = &[
         "void g(int a[]) { }\nint main() {\nint a[1];\ncilk_spawn g(a);\nprint(a[0]);\ncilk_sync;\nreturn 0; }",
         "refused 4 line 5\n",
     ),
-    // types before ownership, though further down
+    // types are checked before ownership, even in a later line
     (
         "int f(int v) { return v; }\nint main() {\n  int x = 0;\n  x = cilk_spawn f(x);\n  x = f(x);\n  return y;\n}",
         "refused 3 line 6\n",
@@ -189,7 +189,7 @@ fn refuses_uses_of_arrays(rt: HostRuntime) -> Result<(), Fail> {
     all_are_refused(rt, NO_ARRAYS)
 }
 
-// A program of so many call statements.
+// Returns a program with this number of call statements.
 fn calls(alloc: Global, count: usize) -> Result<String, AllocError> {
     let mut text = String::from_str(alloc, "int f(){return 0;} int main(){int x=0;")?;
     for _ in 0..count {
@@ -215,7 +215,7 @@ fn refuses_too_many_call_statements(rt: HostRuntime) -> Result<(), Fail> {
     Ok(())
 }
 
-// One byte, so often.
+// Returns `count` copies of a byte.
 fn repeated(alloc: Global, byte: u8, count: usize) -> Result<Vec<u8>, AllocError> {
     let mut bytes = Vec::new(alloc);
     for _ in 0..count {
@@ -224,14 +224,14 @@ fn repeated(alloc: Global, byte: u8, count: usize) -> Result<Vec<u8>, AllocError
     Ok(bytes)
 }
 
-// A byte, how often it stands, and the line.
+// A byte, its number of copies, and the line.
 type Repeated = (u8, usize, &'static str);
 
 const LONG: &[Repeated] = &[
     (b' ', 1_048_576, "refused 2 line 1\n"),
     (b' ', 1_048_577, "refused 5 line 1\n"),
     (255, 2_097_152, "refused 5 line 1\n"),
-    // long rows, and deep brackets
+    // long lists, and deep brackets
     (b'x', 1, "refused 2 line 1\n"),
     (b',', 256, "refused 2 line 1\n"),
     (b',', 257, "refused 5 line 1\n"),
@@ -240,7 +240,7 @@ const LONG: &[Repeated] = &[
     (b'(', 1_048_576, "refused 5 line 1\n"),
 ];
 
-// Whether a source of one byte is refused so.
+// Returns whether a source of copies of one byte is rejected with its line.
 fn is_refused_long<R: AllocGlobal + Threads + Wait + Copy + Drop + Send + 'static>(
     rt: R,
     long: &Repeated,

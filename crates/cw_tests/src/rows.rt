@@ -19,7 +19,7 @@ int c(int v, int w) { int x = 0; int y = 0; x = cilk_spawn b(w); y = b(v); cilk_
 int main(int n) { int r = 7; r = c(n, 5); return r; }
 ";
 
-// the two programs of examples/, and the first one with a use of a taken name in line 13
+// two programs of examples/, and the first one with a use of a taken name in line 13
 const SPAWNED: &str = "// A spawned call may run beside what follows it, up to the sync.
 // cilkwork run spawned.cilk
 
@@ -80,14 +80,14 @@ int main() {
 
 const GREATEST: &str = "return 9223372036854775807\n";
 
-// Runs of main without an argument, and what they cost.
+// Runs of a `main` without parameters, and what they cost.
 const WITHOUT: &[Row] = &[
     ("run f", SPAWN, 0, "return 1\n", ""),
-    // main pays 2 to declare, 2 to spawn, 1 to join and 2 to return; f pays 2
+    // main costs 2 to declare, 2 to spawn, 1 to join and 2 to return; f costs 2
     ("run f --limit 9", SPAWN, 0, "return 1\n", ""),
     ("run f --limit 8", SPAWN, 4, "", "over limit\n"),
     ("run f --limit 1", SPAWN, 4, "", "over limit\n"),
-    // the burden changes nothing of a run
+    // the burden does not change a run
     ("run f --limit 9 --burden 0", SPAWN, 0, "return 1\n", ""),
     // a name of 64 bytes, and a comment that ends with the source
     ("run f", LONG_NAME, 0, "return 1\n", ""),
@@ -99,17 +99,17 @@ fn runs(rt: HostRuntime) -> Result<(), Fail> {
     all_hold_by_all(rt, "", WITHOUT)
 }
 
-// Runs of main with an argument.
+// Runs of a `main` with a parameter.
 const WITH: &[Row] = &[
     ("run f 9223372036854775807", ECHO, 0, GREATEST, ""),
     ("run f 9223372036854775807 --limit 2", ECHO, 0, GREATEST, ""),
     ("run f 0 --limit 1", ECHO, 4, "", "over limit\n"),
-    // the count of arguments is told before the run
+    // a wrong number of arguments is reported before the run
     ("run f", ECHO, 5, "", "arguments\n"),
     ("run f --limit 1", ECHO, 5, "", "arguments\n"),
     ("run f 1 2", ECHO, 5, "", "arguments\n"),
     ("run f 9223372036854775808", ECHO, 5, "", "arguments\n"),
-    // a pays 2, b 6 and what a pays, c 11 and twice what b pays, main 7 and what c pays
+    // a costs 2, b costs 6 plus a, c costs 11 plus twice b, main costs 7 plus c
     ("run f 3 --limit 34", CHAIN, 0, "return 5\n", ""),
     ("run f 3 --limit 33", CHAIN, 4, "", "over limit\n"),
 ];
@@ -140,7 +140,7 @@ fn checks(rt: HostRuntime) -> Result<(), Fail> {
     all_hold(rt, CHECKED)
 }
 
-// A byte that is none of a text.
+// A byte that is not ASCII.
 #[test]
 fn checks_bytes(rt: HostRuntime) -> Result<(), Fail> {
     let is_refused = answers(rt, "check f", b"\n\xff", 2, "", "refused 1 line 2\n")?;

@@ -1,4 +1,4 @@
-//! Runs that write nothing, on a sink that takes nothing.
+//! Runs that write nothing, on a sink that accepts nothing.
 
 use cw_cli::analyse_alone;
 use cw_model::burden::{Burden, Edges};
@@ -10,7 +10,7 @@ use std::io::Write;
 use std::process::Abort;
 use std::test::Fail;
 
-// Fails at each write.
+// A sink that fails at each write.
 #[derive(Drop)]
 struct Shut;
 
@@ -24,8 +24,8 @@ impl Write for Shut {
     }
 }
 
-// A run on one argument within a limit, in a mode, with the number of its fault: 7 over the limit, 8 a trap, 10 a write
-// that failed; and how many writes failed.
+// A test case: a run on one argument within a limit, in a mode; the number of its fault (7 over the limit, 8 a trap,
+// 10 a failed write); and the number of failed writes.
 #[derive(Clone, Copy)]
 struct Row {
     source: &'static str,
@@ -39,7 +39,7 @@ struct Row {
 // Prints its argument, and then divides by it.
 const DIVIDES: &str = "int main(int n) { print(n); int x = 100 / n; return x; }";
 
-// Prints for ever.
+// Prints forever.
 const FOREVER: &str = "int main(int n) { while (1) { print(n); } return n; }";
 
 static ROWS: [Row; 9] = [
@@ -117,7 +117,7 @@ static ROWS: [Row; 9] = [
     },
 ];
 
-// Whether a row fails so.
+// Returns whether a test case fails as expected.
 fn fails_so(alloc: Global, row: &Row) -> bool {
     let mut out = Counted::new(Shut);
     let options = Options {
@@ -134,8 +134,8 @@ fn fails_so(alloc: Global, row: &Row) -> bool {
     }
 }
 
-// Where a run passes its limit, and where it traps after it has printed in a mode that tells no values, nothing is written;
-// what a run prints before its trap is, and so is a schedule.
+// A run that exceeds its limit writes nothing, and neither does one that traps in a mode that prints no values. The
+// output of a run before its trap is written, and so is a schedule.
 #[test]
 fn a_shut_sink_is_told_only_where_something_is_written(rt: HostRuntime) -> Result<(), Fail> {
     for row in &ROWS {

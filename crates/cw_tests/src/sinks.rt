@@ -14,7 +14,7 @@ use std::sync::{Arc, Wait};
 use std::test::Fail;
 use std::thread::Threads;
 
-// Takes `room` bytes, and then fails or takes none.
+// A sink that takes `room` bytes, and then fails or takes none.
 #[derive(Drop)]
 struct Narrow {
     taken: Vec<u8>,
@@ -40,7 +40,7 @@ impl Write for Narrow {
     }
 }
 
-// Fails at the first read.
+// A source that fails at the first read.
 #[derive(Drop)]
 struct Broken {
     kind: io::ErrorKind,
@@ -52,7 +52,7 @@ impl Read for Broken {
     }
 }
 
-// What the program answers by as many workers as are asked for.
+// Returns the status of the program with the requested number of workers.
 fn tool_by_crew<
     R: AllocGlobal + Threads + Wait + Copy + Drop + Send + 'static,
     D: Input,
@@ -68,7 +68,7 @@ fn tool_by_crew<
     Ok(tool(&rt, alloc, asked, source, crew, gate, out, err))
 }
 
-// What came of a report to a narrow sink.
+// The outcome of a report to a narrow sink.
 #[derive(Drop)]
 struct Told {
     status: u8,
@@ -104,7 +104,7 @@ fn report<R: AllocGlobal + Threads + Wait + Copy + Drop + Send + 'static>(
 }
 
 impl Told {
-    // Whether it is this.
+    // Returns whether the outcome is this one.
     fn is(&self, status: u8, failures: u64, out: &[u8], err: &str) -> bool {
         self.status == status
             && self.failures == failures
@@ -113,7 +113,7 @@ impl Told {
     }
 }
 
-// Whether all of this is taken by a sink with this room.
+// Returns whether a sink with this room takes the whole report.
 fn is_taken<R: AllocGlobal + Threads + Wait + Copy + Drop + Send + 'static>(
     rt: R,
     words: &str,
@@ -125,7 +125,7 @@ fn is_taken<R: AllocGlobal + Threads + Wait + Copy + Drop + Send + 'static>(
     Ok(told.is(0, 0, text.as_bytes(), ""))
 }
 
-// Whether these first bytes of a report are taken by a sink with room for so many, and the failure is told.
+// Returns whether a sink with room for these bytes takes exactly them, and the failure is reported.
 fn is_cut<R: AllocGlobal + Threads + Wait + Copy + Drop + Send + 'static>(
     rt: R,
     words: &str,
@@ -136,7 +136,7 @@ fn is_cut<R: AllocGlobal + Threads + Wait + Copy + Drop + Send + 'static>(
     Ok(told.is(7, 1, first, "write failed\n"))
 }
 
-// Rooms that are enough, and whether the sink fails where they are used up.
+// Rooms that are sufficient, and whether the sink fails after they are used up.
 const ENOUGH: [(usize, bool); 4] = [(10, true), (10, false), (11, true), (11, false)];
 
 fn all_is_taken<R: Abort + AllocGlobal + Threads + Wait + Copy + Drop + Send + 'static>(
@@ -157,7 +157,7 @@ fn reports_where_there_is_room(rt: HostRuntime) -> Result<(), Fail> {
     all_is_taken(rt, "run f 42 --workers 4", &ENOUGH)
 }
 
-// Each room that is not enough.
+// Checks each room that is not sufficient.
 fn each_is_cut<R: Abort + AllocGlobal + Threads + Wait + Copy + Drop + Send + 'static>(
     rt: R,
     words: &str,
@@ -179,8 +179,8 @@ fn reports_to_narrow_sinks(rt: HostRuntime) -> Result<(), Fail> {
     each_is_cut(rt, "check f", "ok\n")
 }
 
-// What is told of a source that fails so at its first read: the status, the reads that failed, and standard error; nothing
-// stands on standard output.
+// Returns whether a source that fails in this way at its first read has this status, this number of failed reads and
+// this line on standard error, and nothing on standard output.
 fn is_told_of<R: AllocGlobal + Threads + Wait + Copy + Drop + Send + 'static>(
     rt: R,
     kind: io::ErrorKind,
@@ -216,7 +216,7 @@ fn tells_of_want_of_memory(rt: HostRuntime) -> Result<(), Fail> {
     Ok(())
 }
 
-// The status, and what standard error takes of its line with room for 9 bytes, of a source without a byte.
+// Returns the status for an empty source, and what standard error takes of its line with room for 9 bytes.
 fn refused_narrowly<R: AllocGlobal + Threads + Wait + Copy + Drop + Send + 'static>(
     rt: R,
 ) -> Result<Told, Fail> {

@@ -46,7 +46,7 @@ const NEVER: &str = "int f() { region b { print(1); } return 0; }
 int main() { if (0) { region a { int x = 0; x = f(); } } region c { print(2); } return 0; }
 ";
 
-// Of whole runs. Each has what follows the head.
+// Tables of whole runs. Each case has what follows the header.
 const RUNS: &[Row] = &[
     ("scale f 0", FIB, 0, ",12,12,1.000,12,1.000\n", ""),
     (
@@ -56,7 +56,7 @@ const RUNS: &[Row] = &[
         ",120,67,1.791,254,0.472\n",
         "",
     ),
-    // each of the three spawns that the longest path runs through is charged, on whichever side
+    // each of the three spawns on the longest path is charged, on either side
     (
         "scale f 4 --burden 100 --edges both",
         FIB,
@@ -64,7 +64,7 @@ const RUNS: &[Row] = &[
         ",120,67,1.791,367,0.326\n",
         "",
     ),
-    // the limit is the work
+    // the limit is exactly the work
     (
         "scale f 4 --burden 100 --limit 120",
         FIB,
@@ -94,7 +94,7 @@ fn writes_tables_of_runs(rt: HostRuntime) -> Result<(), Fail> {
     all_hold_by_all(rt, SCALE, RUNS)
 }
 
-// Of runs with reducers and with tags.
+// Runs with reducers and with tags.
 const TAGS: &[Row] = &[
     (
         "scale f --burden 0",
@@ -118,7 +118,7 @@ const TAGS: &[Row] = &[
         "",
     ),
     ("scale f --burden=0", SUMMED, 0, ",11,8,1.375,8,1.375\n", ""),
-    // tags that never ran, by their first place; a test, a print, a region and a return cost 2 each
+    // tags that never ran, in source order; a test, a print, a region and a return cost 2 each
     (
         "scale f",
         NEVER,
@@ -142,7 +142,7 @@ const CALLS: &[Row] = &[
          2,call,6,fib,4,39,6,45,39\n3,call,12,fib,1,21,17,114,61\n",
         "",
     ),
-    // the burden changes nothing of the sites
+    // the burden does not change the sites
     (
         "sites f --burden 1000000000",
         TIED,

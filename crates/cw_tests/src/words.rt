@@ -1,4 +1,4 @@
-//! The words of the program.
+//! The words of the command line.
 
 use crate::program::{Row, all_hold, answer, asked};
 use cw_model::burden::{Burden, Edges};
@@ -9,7 +9,8 @@ use std::sync::Wait;
 use std::test::Fail;
 use std::thread::Threads;
 
-// Words that name the file f.cilk, and what they ask for: the mode, the arguments, the limit, and what is charged on which edges.
+// Words that name the file f.cilk, and what they request: the mode, the arguments, the limit, the charge and the
+// edges.
 type Reading = (&'static str, Mode, &'static [i64], u64, u64, Edges);
 
 const REQUESTS: &[Reading] = &[
@@ -151,7 +152,7 @@ const REQUESTS: &[Reading] = &[
     ),
 ];
 
-// Whether the words ask for this.
+// Returns whether the words make this request.
 fn asks(alloc: Global, row: &Reading) -> Result<bool, Fail> {
     let asked = asked(alloc, row.0)?;
     let options = Options {
@@ -182,7 +183,7 @@ fn reads_requests(rt: HostRuntime) -> Result<(), Fail> {
     all_ask(&rt, rt.alloc(), REQUESTS)
 }
 
-// Whether the words are refused with this beginning.
+// Returns whether the words are rejected with a message that begins like this.
 fn is_misuse<R: AllocGlobal + Threads + Wait + Copy + Drop + Send + 'static>(
     rt: R,
     words: &str,
@@ -203,10 +204,10 @@ fn all_are_misuse<R: Abort + AllocGlobal + Threads + Wait + Copy + Drop + Send +
     Ok(())
 }
 
-// Words that are no request, and the beginning of what stands on standard error.
+// Words that make no request, and the beginning of standard error.
 type Misuse = (&'static str, &'static str);
 
-// Numbers.
+// Malformed numbers.
 const NO_NUMBERS: &[Misuse] = &[
     ("run f 9223372036854775808", "arguments\n"),
     ("run f +1", "arguments\n"),
@@ -231,7 +232,7 @@ fn refuses_numbers(rt: HostRuntime) -> Result<(), Fail> {
     all_are_misuse(rt, NO_NUMBERS)
 }
 
-// Words of `check` and `run`, one too many or one too few.
+// Words of `check` and `run`, with one too many or one missing.
 const NO_WORDS: &[Misuse] = &[
     ("run f -1", "error: unexpected argument '-1' found\n"),
     (
@@ -327,13 +328,13 @@ const NO_COMMANDS: &[Misuse] = &[
     ("scales f", "error: unrecognized subcommand 'scales'\n"),
     ("walk f", "error: unrecognized subcommand 'walk'\n"),
     ("f", "error: unrecognized subcommand 'f'\n"),
-    // the version is told of no command
+    // `--version` is not an option of a command
     (
         "run f --version",
         "error: unexpected argument '--version' found\n",
     ),
     ("run f -V", "error: unexpected argument '-V' found\n"),
-    // behind '--' the word is an argument of main
+    // after `--` the word is an argument of main
     ("run f -- --explain", "arguments\n"),
 ];
 
@@ -342,7 +343,7 @@ fn refuses_other_words(rt: HostRuntime) -> Result<(), Fail> {
     all_are_misuse(rt, NO_COMMANDS)
 }
 
-// Words that ask for help, its beginning, and some things that it says.
+// Words that request help, the beginning of the help, and some texts that it contains.
 type Help = (&'static str, &'static str, &'static [&'static str]);
 
 // The help of the program.
@@ -367,7 +368,7 @@ const PROGRAM: &[Help] = &[(
     ],
 )];
 
-// That of its commands.
+// The help of its commands.
 const COMMANDS: &[Help] = &[
     (
         "check --help",
@@ -414,7 +415,7 @@ const COMMANDS: &[Help] = &[
     ),
 ];
 
-// The help that these words ask for.
+// Returns the help that these words request.
 fn help_of<R: AllocGlobal + Threads + Wait + Copy + Drop + Send + 'static>(
     rt: R,
     words: &str,
@@ -426,17 +427,17 @@ fn help_of<R: AllocGlobal + Threads + Wait + Copy + Drop + Send + 'static>(
     String::from_utf8(told.out).map_err(|_| Fail::from("no text"))
 }
 
-// Whether no line has more than 80 bytes.
+// Returns whether no line has more than 80 bytes.
 fn is_narrow(help: &str) -> bool {
     help.lines().all(|line| line.len() <= 80)
 }
 
-// Whether it says each of these.
+// Returns whether the help contains each of these texts.
 fn says_all(help: &str, parts: &[&str]) -> bool {
     parts.iter().all(|part| help.contains(part))
 }
 
-// Whether the help begins so, says all of this and is narrow.
+// Returns whether the help begins as expected, contains all of these texts and is narrow.
 fn helps<R: AllocGlobal + Threads + Wait + Copy + Drop + Send + 'static>(
     rt: R,
     row: &Help,
@@ -467,7 +468,7 @@ fn gives_help_of_commands(rt: HostRuntime) -> Result<(), Fail> {
     all_help(rt, COMMANDS)
 }
 
-// The help of these commands does not tell what the one table of exit statuses does, which stands in the help of the program.
+// The help of these commands does not contain the table of exit statuses, which only the help of the program has.
 const STATUSLESS: &[&str] = &[
     "check --help",
     "run --help",

@@ -1,11 +1,11 @@
--- What a fault is called: its number, its exit status and its line of text.
+-- The representations of a fault: its number, its exit status and its line of text.
 use Rattle.std.specs.Prelude.{ℕ, List, ◌++◌, codes, decimal}
 use Rattle.cw_text.specs.declared.fault.Place.{Place}
 use Rattle.cw_model.specs.Ints.{trap_number}
 use Rattle.cw_text.specs.declared.fault.Fault.{Fault}
 use Rattle.cw_text.specs.declared.fault.Fault.TheVariants as fault
 
--- the number of a fault, a different one for each kind
+-- the number of a fault; no two kinds have the same number
 abbrev pub fault_number : Fault → ℕ
 fault_number (fault.Lexical p) = 1
 fault_number (fault.Syntax p) = 2
@@ -35,11 +35,11 @@ fault_status fault.Memory = 6
 fault_status fault.Write = 7
 fault_status (fault.Strands n) = 4
 
--- how a place is written
+-- the text of a place
 abbrev pub place_text : Place → List ℕ
 place_text p = codes "line " ++ decimal p.line
 
--- the line for standard error, without its LF
+-- the line that standard error gets for a fault, without its LF
 abbrev pub fault_text : Fault → List ℕ
 fault_text (fault.Lexical p) = codes "refused 1 " ++ place_text p
 fault_text (fault.Syntax p) = codes "refused 2 " ++ place_text p

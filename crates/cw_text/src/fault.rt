@@ -1,4 +1,4 @@
-//! Why a source is refused, or a run ends with no report.
+//! The faults: why a source is rejected, or why a run ends without a report.
 
 ghost use Rattle.std.specs.Prelude.{◌≡◌, Some};
 ghost use Rattle.cw_text.specs.declared.fault.Fault.TheVariants.{Memory};
@@ -8,7 +8,7 @@ use std::alloc::{AllocError, AllocFailed};
 use std::fmt;
 use thiserror::Error;
 
-/// A line of a source, counted from 1.
+/// Represents a line of a source, counted from 1.
 #[derive(Clone, Copy, Debug, PartialEq, Eq)]
 pub struct Place {
     pub line: u32,
@@ -25,43 +25,44 @@ impl fmt::Display for Place {
     }
 }
 
-/// Why a source is refused, or a run ends with no report.
+/// Represents the reason why a source is rejected, or why a run ends without a report.
 #[derive(Debug, Drop, PartialEq, Eq, Error)]
 pub enum Fault {
-    /// A byte that starts no token, a byte above 127, or a number that is too great.
+    /// A byte that starts no token, a byte above 127, or a number that is too large.
     Lexical(Place),
-    /// A token that can continue no source, or a source that ends too early.
+    /// A token that continues no source, or a source that ends too early.
     Syntax(Place),
     /// A broken rule of names and types.
     Types(Place),
     /// A broken rule of ownership.
     Ownership(Place),
-    /// A limit that is passed.
+    /// An exceeded limit of the language.
     Size(Place),
-    /// Code that the verifier refuses.
+    /// Code that the verifier rejects.
     Code,
-    /// A run that costs more than it was given.
+    /// A run that costs more than its limit.
     OverLimit,
-    /// A run that was stopped by the statement that begins in `line`, having printed `output`.
+    /// A run that trapped in the statement that begins in `line`, after it printed `output`.
     Trap {
         code: Trap,
         line: u32,
         output: Vec<i64>,
     },
-    /// No memory was left where some was asked for.
+    /// Out of memory.
     Memory,
     /// A write that failed.
     Write,
-    /// Arguments, or a limit or a burden, that are not those that were asked for.
+    /// Arguments, a limit or a burden that are not as required.
     Arguments,
-    /// A run that ended with so many strands, more than are kept for a schedule; 2^64 - 1 where they are as many or more.
+    /// A run with this number of strands, more than the limit for a schedule; 2^64 - 1 if the number is that or
+    /// larger.
     Strands(u64),
 }
 
 impl Fault {
     ghost use Rattle.cw_text.specs.Faults.{fault_number, fault_status};
 
-    /// The number of the fault, from 1 to 12.
+    /// Returns the number of the fault, from 1 to 12.
     pub fn number(&self) -> u8
         ensures { result ≡ fault_number self.now }
     {
@@ -81,9 +82,9 @@ impl Fault {
         }
     }
 
-    /// The exit status of a program that ends with this fault: 2 for what is refused, 3 for a
-    /// trap, 4 over the limit and for too many strands, 5 for arguments, 6 for memory, and 7 for a
-    /// failed write.
+    /// Returns the exit status of a program that ends with this fault: 2 for a rejected source, 3 for a trap, 4 for a
+    /// run over its limit or with too many strands, 5 for invalid arguments, 6 for out of memory, and 7 for a failed
+    /// write.
     pub fn status(&self) -> u8
         ensures { result ≡ fault_status self.now }
     {

@@ -1,24 +1,24 @@
-//! The least line of those that break a rule.
+//! The least line that breaks a rule.
 
 ghost use Rattle.std.specs.Prelude.{◌≡◌, ◌∷◌, [], None};
 ghost use Rattle.cw_model.specs.Lines.{lowest, unless};
 ghost use Rattle.cw_text.specs.Noted.{TakesRoom};
 
-/// The least line so far, if there is one.
+/// Holds the least line recorded so far, if there is one.
 #[derive(Clone, Copy, Debug, PartialEq, Eq)]
 pub struct LeastLine {
     pub line: Option<u32>,
 }
 
 impl LeastLine {
-    /// No line so far.
+    /// Returns a value without a recorded line.
     pub fn new() -> LeastLine
         ensures { result.line ≡ None }
     {
         LeastLine { line: None }
     }
 
-    /// One line more, unless the rule is kept.
+    /// Records `line`, unless `kept` says that the line keeps the rule.
     pub fn note(&mut self, kept: bool, line: u32)
         ensures { self.new.line ≡ lowest self.old.line (unless kept line) }
     {
@@ -34,8 +34,8 @@ impl LeastLine {
             }
         }
     }
-    /// One line more of what a limit counts, of which there may be so many more: it breaks the limit where there is no
-    /// room left for it. Gives what room is left then.
+    /// Records one entry in `line` of what a limit counts; the limit leaves room for `room` more entries. Without
+    /// room the entry exceeds the limit, and its line is recorded. Returns the room that is left after it.
     pub fn note_past(&mut self, room: usize, line: u32) -> usize
         ensures { TakesRoom room result (line ∷ []) self.old self.new }
     {

@@ -1,4 +1,4 @@
-//! Sources, places in them, and the faults that every stage answers with.
+//! Sources, places in them, and the faults that every stage returns.
 #![tactic(auto)]
 
 pub mod fault;

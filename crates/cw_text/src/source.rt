@@ -9,7 +9,7 @@ use cw_model::limits::MOST_SOURCE_BYTES;
 use std::alloc::Global;
 use std::marker::Model;
 
-/// The text of a program: ASCII bytes, at most `MOST_SOURCE_BYTES` of them.
+/// Holds the text of a program: at most `MOST_SOURCE_BYTES` bytes of ASCII.
 #[derive(Drop, Debug)]
 pub struct Source {
     bytes: Vec<u8>,
@@ -27,10 +27,12 @@ impl Model for Source {
 }
 
 impl Source {
-    /// The source with this text.
+    /// Returns the source with this text, which it copies.
     ///
-    /// Answers `Size` at line 1 where the text is too long, else `Lexical` at the line of the
-    /// first byte above 127, and `Memory` where there is none for a copy of the text.
+    /// # Errors
+    ///
+    /// Returns `Size` at line 1 if the text is too long, otherwise `Lexical` at the line of the first byte above 127,
+    /// and `Memory` if it is out of memory.
     pub fn read(alloc: Global, bytes: &[u8]) -> Result<Source, Fault>
         ensures { MatchResult result (λ s. s ≡ bytes.now) (IsNoSource bytes.now) }
     {
@@ -51,7 +53,7 @@ impl Source {
         })
     }
 
-    /// The text, in full.
+    /// Returns the complete text.
     pub fn bytes(&self) -> &[u8]
         ensures value { result.now ≡ self.now }
         ensures valid { IsSourceText self.now }
@@ -59,7 +61,7 @@ impl Source {
         self.bytes.as_slice()
     }
 
-    /// The line of the text's end: 1 and its LF bytes.
+    /// Returns the line in which the text ends: 1 plus the number of its LF bytes.
     pub fn end_line(&self) -> u32
         ensures { result ≡ end_line self.now }
     {

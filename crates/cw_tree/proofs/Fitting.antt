@@ -1,4 +1,5 @@
--- In a resolved program that keeps the limits and the rules of names and types, each slot and each index fits.
+-- If a program keeps the limits and the rules of names and types, each slot and each index of its resolved tree is
+-- below its count.
 use Rattle.std.proofs.Common.{◌≡◌, ℕ, suc, ◌<◌, ◌≤◌, max, nat_lt, nat_le, Bool, true, false, not, ◌&&◌, ◌||◌, if◌then◌else◌, List, [], ◌∷◌, ◌++◌, length}
 use Rattle.std.proofs.Common.{drop, map, filter, flat_map, Option, Some, None, option_map, refl, sym, ap, ◌∙◌, arith, true≢false}
 use Rattle.std.specs.List.{list_all}
@@ -30,7 +31,7 @@ use Rattle.cw_model.specs.declared.syntax.NameKind.{NameKind}
 use Rattle.cw_model.specs.Syntax.{is_array_kind}
 use Rattle.cw_model.specs.lemmas.Fits.{fits_kind, fit_kinds, writable_array, writable_arrays, arguments_fit}
 
--- a name that is there has a place there
+-- the slot of a name among names is below their number
 placed : (x : Name) (names : List Name) → is_among x names ≡ true → spec.slot_of x names < length names
 placed x [] h = cc
 placed x (y ∷ names) h = first (same_name x y) h (placed x names)
@@ -43,7 +44,7 @@ placed x (y ∷ names) h = first (same_name x y) h (placed x names)
 slot_below : (x : Name) (names : List Name) (n : ℕ) → is_among x names ≡ true → length names ≤ n → nat_lt (spec.slot_of x names) n ≡ true
 slot_below x names n h few = let p = placed x names h in below (spec.slot_of x names) n (omega (arith, p, few))
 
--- names that are there stay there
+-- a name among names remains among them after one is appended
 among_last : (x y : Name) (names : List Name) → same_name x y ≡ true → is_among x (names ++ y ∷ []) ≡ true
 among_last x y [] h = ap (λ b. if b then true else false) h
 among_last x y (z ∷ names) h = first (same_name x z) (among_last x y names h)
@@ -52,7 +53,7 @@ among_last x y (z ∷ names) h = first (same_name x z) (among_last x y names h)
     first true more = refl
     first false more = more
 
--- what is known as an integer is among the integers, and what is known as an array among the arrays
+-- every known integer is among the integers, and every known array is among the arrays
 record Agree (known : Known) (l : spec.Locals) : Type 0 where
   pub ints : (x : Name) → is_int known x ≡ true → is_among x l.ints ≡ true
   pub arrays : (x : Name) → is_array known x ≡ true → is_among x l.arrays ≡ true
@@ -99,7 +100,7 @@ agree_after known l (model.Region tag b) a = a
 agree_after known l (model.Print e) a = a
 agree_after known l (model.Return e) a = a
 
--- a name is known by the last one only where no other is spelled so
+-- if only the last entry makes a name known, that entry has this name and this kind
 last_known : (x : Name) (such : NameKind → Bool) (ks : Known) (y : Name) (c : NameKind) → is_known x such (ks ++ (y, c) ∷ []) ≡ true → is_known x such ks ≡ false →
     (same_name x y ≡ true) × (such c ≡ true)
 last_known x such [] y c h none = first (same_name x y) refl h
@@ -167,7 +168,7 @@ array_param x (p ∷ ps) h = first (is_array (known_of ps) x) refl (array_param 
 agree_params : (ps : List Param) → Agree (known_of ps) (spec.locals_of ps)
 agree_params ps = record { ints = λ x h. int_param x ps h; arrays = λ x h. array_param x ps h }
 
--- there is a slot for each local that is known
+-- there is a slot for each known local
 record Room (n : Counts) (l : spec.Locals) : Type 0 where
   pub ints : length l.ints ≤ n.ints
   pub arrays : length l.arrays ≤ n.arrays
@@ -239,7 +240,7 @@ fit_return n known l a r WithInt (Some e) h = fit_expr n known l a r e h
 fit_return n known l a r Alone (Some e) h = cc
 fit_return n known l a r Nowhere (Some e) h = cc
 
--- the function that a call names is there
+-- the function that a call names exists
 record IsCalled (known : Known) (target : Option Name) (f : Name) (es : List model.Expr) (fs : List model.Function) : Type 0 where
   pub callee : model.Function
   pub there : is_among f (spec.function_names fs) ≡ true
@@ -270,7 +271,7 @@ is_called known target f es (g ∷ gs) h = first (same_name f g.name) refl h (is
           given = rest.given;
         }
 
--- what a loop captures has slots of integers that are known before it
+-- the integers that a loop captures have slots that are known before the loop
 fit_first : (k n : ℕ) → k ≤ n → (found us : List spec.Use) → list_all (is_below n) found ≡ true → list_all (is_below n) (spec.first_uses k found us) ≡ true
 fit_first k n few found [] h = h
 fit_first k n few found (u ∷ us) h = fit_first k n few (spec.with_first k found u) us (first (nat_lt u.slot k) refl (not (spec.is_slot_in u.slot (map (λ (w : spec.Use). w.slot) found))))
@@ -320,7 +321,7 @@ fit_parts program n known l a r x e left right new h =
     both (both (both (slot_below x l.arrays n.arrays (a.arrays x (writable_array known x (first_true i f two))) r.arrays) (fit_expr n known l a r e (second_true i f two)))
     (below (length l.arrays) n.arrays (omega (arith, new, one)))) (below (length (l.arrays ++ left ∷ [])) n.arrays new)
 
--- there are no fewer slots after a statement
+-- a statement does not decrease the number of slots
 mutual
   more_ints : (n : ℕ) (s : spec.Stmt) → n ≤ spec.ints_in n s
   more_ints n (spec.Declare u e) = omega arith
@@ -375,7 +376,7 @@ mutual
       let p = more_arrays n s in
       let q = more_arrays_in (spec.arrays_in n s) b in omega (arith, p, q)
 
--- the locals after a statement have their slots among those that it needs
+-- the locals after a statement fit in the slots that it needs
 ints_grown : (lists : spec.Lists) (l : spec.Locals) (n : ℕ) (s : model.Stmt) → length l.ints ≤ n → length (spec.locals_after l s).ints ≤ spec.ints_in n (spec.resolved_stmt lists l s)
 ints_grown lists l n (model.Declare x e) h = let one = length_push l.ints x in omega (arith, one)
 ints_grown lists l n (model.DeclareArray x e) h = h
@@ -447,7 +448,7 @@ tags_rear tags ds rest h = λ x e. h x (among_rear x ds rest e)
 same_among : (x y : Name) (names : List Name) → same_name x y ≡ true → is_among y names ≡ is_among x names
 same_among x y names h = ap (λ z. is_among z names) (sym ((bytes_eq-Decides x y).0 h))
 
--- each tag stands among the first places
+-- the first occurrences contain each tag
 first_placed : (ds : List (Name × ℕ)) (known : List Name) (x : Name) → is_among x (map (λ (d : Name × ℕ). d.0) ds) ≡ true → is_among x known ≡ false →
     is_among x (map (λ (d : Name × ℕ). d.0) (first_places ds known)) ≡ true
 first_placed [] known x h new = cc
@@ -472,12 +473,12 @@ record Tables (program : Program) (n : Counts) : Type 0 where
   pub reducers : length (spec.reducer_names program.reducers) ≤ n.reducers
   pub tags : length (spec.tags_of program) ≤ n.tags
 
--- where a walk stands, there are so many slots at least
+-- at this point of the traversal there are at least this many slots
 record Stands (l : spec.Locals) (i j : ℕ) : Type 0 where
   pub ints : length l.ints ≤ i
   pub arrays : length l.arrays ≤ j
 
--- and no more than these are needed
+-- a statement needs no more slots than the counts
 abbrev Needs : Counts → (i j : ℕ) → spec.Stmt → Type 0
 Needs n i j s = (spec.ints_in i s ≤ n.ints) × (spec.arrays_in j s ≤ n.arrays)
 
@@ -621,7 +622,7 @@ module _ (program : Program) (n : Counts) (tables : Tables program n) where
         (record { ints = ints_grown (spec.lists_of program) l i s stands.ints; arrays = arrays_grown (spec.lists_of program) l j s stands.arrays }) b needs
         (tags_rear (spec.tags_of program) (regions_in line s) (regions_in_block b) tagged) (right_none last after (right_none here (last ++ after) h)))
 
--- how many slots and indices there are in a function of a resolved program
+-- the counts for a function of a resolved program
 abbrev counts_in : Program → model.Function → Counts
 counts_in program f = counts_of (spec.resolved program) (spec.resolved_function (spec.lists_of program) f)
 
@@ -661,7 +662,7 @@ fit_functions program (f ∷ fs) few tagged h =
     (fit_functions program fs (right_none (function_limits f) (flat_map function_limits fs) few) (tags_rear (spec.tags_of program) here rest tagged)
     (right_none (faults_of program f) (flat_map (faults_of program) fs) h))
 
--- each slot and each index of a resolved program fits
+-- each slot and each index of a resolved program is below its count
 pub resolved_fits : (program : Program) → limit_faults program ≡ [] → type_faults program ≡ [] → is_fitting (spec.resolved program) ≡ true
 resolved_fits program few h =
     let main = is_among main_name (spec.function_names program.functions) in

@@ -149,7 +149,7 @@ function_faults program h =
     right_none (repeated_names program) (flat_map (faults_of program) program.functions)
     (right_none (unless (is_among main_name (map (λ (f : model.Function). f.name) program.functions)) 1) _ h)
 
--- the program of its resolved tree
+-- the program without slots of a resolved tree is the program itself
 pub plain_of_resolved : (program : Program) → type_faults program ≡ [] → Resolved.plain (Resolved.resolved program) ≡ program
 plain_of_resolved program h =
     ap (λ fs. let p : Program = record { reducers = program.reducers; functions = fs } in p)

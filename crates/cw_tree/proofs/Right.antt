@@ -1,4 +1,4 @@
--- A resolved program passes the test of slots.
+-- The resolved tree of a program passes the test of slots.
 use Rattle.std.proofs.Common.{◌≡◌, ℕ, ◌==◌, Bool, true, false, not, ◌&&◌, if◌then◌else◌, bytes_eq, List, [], ◌∷◌, ◌++◌, length, drop, map, Option, Some, None, option_map, refl, ap, ◌∙◌}
 use Rattle.std.specs.List.{list_all}
 use Rattle.std.specs.Cmp.{unsigned_Decides}
@@ -143,7 +143,7 @@ right_functions lists (f ∷ fs) =
     let body = spec.resolved_block lists l f.body in
     both (both (both (equal (spec.ints_in_block (length l.ints) body)) (equal (spec.arrays_in_block (length l.arrays) body))) (right_block lists l f.body)) (right_functions lists fs)
 
--- the test against a program
+-- the test of slots with the lists of this program
 abbrev right_for : Program → spec.Resolved → Bool
 right_for program tree =
     let lists = spec.lists_of program in

@@ -1,5 +1,5 @@
--- How great slots and indices are: each slot is below the count of its kind in its function, which is at most the most
--- names of a function, and each index is below the length of its table.
+-- Bounds of slots and indices: each slot is below the count of its kind in its function, which is at most the maximum
+-- number of names of a function, and each index is below the length of its table.
 use Rattle.std.specs.Prelude.{ℕ, Bool, true, ◌&&◌, nat_lt, nat_le, length, Option, Some, None}
 use Rattle.std.specs.List.{list_all}
 use Rattle.cw_model.specs.declared.limits.TheConstants.{MOST_DECLARED}
@@ -8,7 +8,7 @@ use Rattle.cw_tree.specs.Resolved.{Array, Shared, Head, Parts, Stmt, Declare, De
 use Rattle.cw_tree.specs.Resolved.{Call, Sync, If, IfElse, While, For, Scope, Cut, Region, Print, Return, Block, End}
 use Rattle.cw_tree.specs.Resolved.{Then, Function, Resolved}
 
--- how many there are: slots of integers and of arrays, functions, reducers and tags
+-- the numbers of slots for integers and for arrays, of functions, of reducers and of tags
 pub record Counts : Type 0 where
   pub ints : ℕ
   pub arrays : ℕ
@@ -16,11 +16,11 @@ pub record Counts : Type 0 where
   pub reducers : ℕ
   pub tags : ℕ
 
--- the slot of a use is below a count
+-- the slot of a use is below `n`
 abbrev pub is_below : ℕ → Use → Bool
 is_below n u = nat_lt u.slot n
 
--- an expression fits
+-- all slots of an expression are below the counts
 abbrev pub fits_expr : Counts → Expr → Bool
 fits_expr n (Number v) = true
 fits_expr n (Variable u) = is_below n.ints u
@@ -30,34 +30,34 @@ fits_expr n (Negative e) = fits_expr n e
 fits_expr n (Not e) = fits_expr n e
 fits_expr n (Binary operator d e) = fits_expr n d && fits_expr n e
 
--- an argument fits
+-- all slots of an argument are below the counts
 abbrev pub fits_argument : Counts → Argument → Bool
 fits_argument n (Int e) = fits_expr n e
 fits_argument n (Array u) = is_below n.arrays u
 fits_argument n (Shared u) = is_below n.arrays u
 
--- what a result goes to fits, if it goes anywhere
+-- the slot that receives a result, if there is one, is below the count
 abbrev pub fits_target : Counts → Option Use → Bool
 fits_target n None = true
 fits_target n (Some u) = is_below n.ints u
 
--- what is returned fits, if anything is
+-- all slots of a returned expression, if there is one, are below the counts
 abbrev pub fits_return : Counts → Option Expr → Bool
 fits_return n None = true
 fits_return n (Some e) = fits_expr n e
 
--- the head of a loop fits
+-- all slots in the head of a loop are below the counts
 abbrev pub fits_head : Counts → Head → Bool
 fits_head n h =
     is_below n.ints h.variable && fits_expr n h.from && fits_expr n h.to && list_all (is_below n.ints) h.captured
     && list_all (is_below n.arrays) h.over
 
--- a cut fits
+-- all slots of a cut are below the counts
 abbrev pub fits_parts : Counts → Parts → Bool
 fits_parts n c = is_below n.arrays c.array && fits_expr n c.at && is_below n.arrays c.left && is_below n.arrays c.right
 
 abbrev mutual
-  -- a statement fits
+  -- all slots and indices of a statement are below the counts
   pub fits_stmt : Counts → Stmt → Bool
   fits_stmt n (Declare u e) = is_below n.ints u && fits_expr n e
   fits_stmt n (DeclareArray u e) = is_below n.arrays u && fits_expr n e
@@ -77,12 +77,12 @@ abbrev mutual
   fits_stmt n (Print e) = fits_expr n e
   fits_stmt n (Return e) = fits_return n e
 
-  -- a block fits
+  -- all slots and indices of a block are below the counts
   pub fits_block : Counts → Block → Bool
   fits_block n End = true
   fits_block n (Then line s b) = fits_stmt n s && fits_block n b
 
--- how many there are of each where a function of a program is
+-- the counts for a function of a program
 abbrev pub counts_of : Resolved → Function → Counts
 counts_of tree f = record {
   ints = f.ints;
@@ -92,11 +92,11 @@ counts_of tree f = record {
   tags = length tree.tags;
 }
 
--- a function has few enough slots, and its body fits
+-- the numbers of slots of a function keep the limit, and the slots and indices of its body are below the counts
 abbrev pub fits_function : Resolved → Function → Bool
 fits_function tree f =
     nat_le f.ints MOST_DECLARED && nat_le f.arrays MOST_DECLARED && fits_block (counts_of tree f) f.body
 
--- a program fits, and has a main
+-- all slots and indices of a program are below their counts, and the index of main exists
 abbrev pub is_fitting : Resolved → Bool
 is_fitting tree = list_all (fits_function tree) tree.functions && nat_lt tree.main (length tree.functions)

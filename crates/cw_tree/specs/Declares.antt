@@ -1,10 +1,10 @@
--- How many names a block declares.
+-- The number of names that a block declares.
 use Rattle.std.specs.Prelude.{ℕ, ◌+◌, Bool, true, false}
 use Rattle.cw_model.specs.Syntax.{Stmt, Declare, DeclareArray, If, IfElse, While, For, Scope, Cut, Region, Block, End}
 use Rattle.cw_model.specs.Syntax.{Then}
 
 abbrev mutual
-  -- how many names a statement declares, its blocks included
+  -- the number of names that a statement declares, including its blocks
   pub declares_in : Stmt → ℕ
   declares_in (Declare x e) = 1
   declares_in (DeclareArray a e) = 1
@@ -17,12 +17,12 @@ abbrev mutual
   declares_in (Region tag b) = declares_in_block b
   declares_in _ = 0
 
-  -- the same of a block
+  -- the number of names that a block declares
   pub declares_in_block : Block → ℕ
   declares_in_block End = 0
   declares_in_block (Then line s b) = declares_in s + declares_in_block b
 
--- the statement has no block in it
+-- the statement contains no block
 abbrev pub is_plain : Stmt → Bool
 is_plain (If e b) = false
 is_plain (IfElse e b c) = false

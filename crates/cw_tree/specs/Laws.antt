@@ -1,4 +1,4 @@
--- Statements of laws of resolved trees.
+-- The statements of the laws of resolved trees.
 use Rattle.std.specs.Prelude.{◌≡◌, ◌≤◌, ◌+◌, ℕ, max, true, [], length}
 use Rattle.cw_model.specs.Sizes.{limit_faults}
 use Rattle.cw_model.specs.Syntax.{Program, Block}
@@ -8,26 +8,26 @@ use Rattle.cw_tree.specs.Declares.{declares_in_block}
 use Rattle.cw_tree.specs.Resolved.{Lists, Locals, resolved, plain, resolved_block, ints_in_block, arrays_in_block}
 use Rattle.cw_tree.specs.Slots.{is_resolved}
 
--- a program that keeps the rules is its resolved tree without the slots
+-- if a program keeps the rules, it is its resolved tree without the slots
 abbrev pub PlainOfResolved : Type 0
 PlainOfResolved = (program : Program) → type_faults program ≡ [] → plain (resolved program) ≡ program
 
--- its resolved tree has each slot, each index and each count right
+-- if a program keeps the rules, its resolved tree has correct slots, indices and counts
 abbrev pub ResolvedIsRight : Type 0
 ResolvedIsRight = (program : Program) → type_faults program ≡ [] → is_resolved (resolved program) ≡ true
 
--- where it also keeps the limits, its resolved tree fits
+-- if a program keeps the limits and the rules, all slots and indices of its resolved tree are below their counts
 abbrev pub ResolvedFits : Type 0
 ResolvedFits =
     (program : Program) → limit_faults program ≡ [] → type_faults program ≡ [] → is_fitting (resolved program) ≡ true
 
--- the integers of a block take no more slots than there are names
+-- the number of slots that the integers of a block need is at most the number of names
 abbrev pub FewInts : Type 0
 FewInts =
     (lists : Lists) (l : Locals) (n : ℕ) (b : Block) →
     ints_in_block n (resolved_block lists l b) ≤ max n (length l.ints + declares_in_block b)
 
--- and neither do its arrays
+-- the number of slots that the arrays of a block need is at most the number of names
 abbrev pub FewArrays : Type 0
 FewArrays =
     (lists : Lists) (l : Locals) (n : ℕ) (b : Block) →

@@ -1,12 +1,12 @@
 -- Programs with each name looked up.
 --
--- How a later stage uses this. A `Typed` keeps its tree; `View.resolved_of` shows that tree as the `Resolved` below,
--- and `View.program_of` is that without its slots and indices, which is the program of the source. A stage states what
--- it makes as a function of the resolved tree alone, by the slot of each use and the index of each callee, and so looks
--- no name up. That the slots and indices are right is a fact of the type: `Typed` keeps
--- `is_resolved (resolved_of tree) ≡ true`, from which the law `slots_are_right` gives
--- `resolved_of tree ≡ resolved (program_of tree)`: the slot of a name is its place among the integers or among the
--- arrays that are known there.
+-- How later stages use this: a `Typed` holds its tree. `View.resolved_of` is the `Resolved` that the tree represents,
+-- and `View.program_of` is this `Resolved` without slots and indices, which is the program of the source. A stage
+-- states its result as a function of the resolved tree only, by the slot of each use and the index of each callee, so
+-- it looks up no name. The type guarantees that slots and indices are correct: `Typed` holds
+-- `is_resolved (resolved_of tree) ≡ true`, and the law `slots_are_right` derives
+-- `resolved_of tree ≡ resolved (program_of tree)`: the slot of a name is its position among the integers or the arrays
+-- that are known there.
 use Rattle.std.specs.Prelude.{ℕ, suc, ℤ, ◌==◌, max, nat_lt, Bool, false, not, ◌&&◌, if◌then◌else◌, List, [], ◌∷◌, ◌++◌}
 use Rattle.std.specs.Prelude.{length, drop, map, filter, Option, Some, None, option_map}
 use Rattle.std.specs.List.{list_any}
@@ -20,12 +20,12 @@ use Rattle.cw_model.specs.Answers.{main_name}
 use Rattle.cw_model.specs.Meaning.{function_named}
 use Rattle.cw_model.specs.Sizes.{first_places, regions_of}
 
--- a local where it stands, and its slot among those of its kind
+-- a use of a local with its slot among the locals of its kind
 pub record Use : Type 0 where
   pub name : Name
   pub slot : ℕ
 
--- a function, a reducer or a tag, and its index among those of the program
+-- a use of a function, a reducer or a tag with its index in the program
 pub record Listed : Type 0 where
   pub name : Name
   pub index : ℕ
@@ -40,12 +40,12 @@ pub data Expr : Type 0 where
   Not : Expr → Expr
   Binary : Operator → Expr → Expr → Expr
 
--- what is given for a parameter
+-- an argument of a call
 pub data Argument : Type 0 where
   Int : Expr → Argument
-  -- an array that is given away
+  -- an array that the callee owns until the call returns
   Array : Use → Argument
-  -- an array that is only read
+  -- an array that the callee only reads
   Shared : Use → Argument
 
 -- the head of a loop
@@ -57,7 +57,7 @@ pub record Head : Type 0 where
   pub captured : List Use
   pub over : List Use
 
--- where an array is cut, and its parts
+-- a cut of an array: the array, the position and the two parts
 pub record Parts : Type 0 where
   pub array : Use
   pub at : Expr
@@ -89,7 +89,7 @@ mutual
     End : Block
     Then : (line : ℕ) → Stmt → Block → Block
 
--- a function, with the numbers of slots that its integers and its arrays take
+-- a function with the numbers of slots for its integers and its arrays
 pub record Function : Type 0 where
   pub name : Name
   pub line : ℕ
@@ -99,31 +99,31 @@ pub record Function : Type 0 where
   pub arrays : ℕ
   pub body : Block
 
--- a program: its reducers and functions in order, its different tags by their first places, and the index of main
+-- a program: its reducers and functions, its distinct tags in the order of first occurrence, and the index of main
 pub record Resolved : Type 0 where
   pub reducers : List Reducer
   pub functions : List Function
   pub tags : List Name
   pub main : ℕ
 
--- the names of functions, of reducers and of tags; and the functions, whose parameters say how arrays are passed
+-- the names of functions, reducers and tags; the parameters of the functions decide how arrays are passed
 pub record Lists : Type 0 where
   pub callees : List model.Function
   pub functions : List Name
   pub reducers : List Name
   pub tags : List Name
 
--- the integers and the arrays that are known, each in the order of their declaration
+-- the known integers and the known arrays, each in the order of declaration
 pub record Locals : Type 0 where
   pub ints : List Name
   pub arrays : List Name
 
--- the first place of a name, or how many names there are
+-- the first position of a name, or the number of names if it is not among them
 abbrev pub slot_of : Name → List Name → ℕ
 slot_of x [] = 0
 slot_of x (y ∷ names) = if same_name x y then 0 else suc (slot_of x names)
 
--- a name looked up among those that are known
+-- a use of a known name, with its slot
 abbrev pub use_of : List Name → Name → Use
 use_of names x = record { name = x; slot = slot_of x names }
 
@@ -131,15 +131,15 @@ use_of names x = record { name = x; slot = slot_of x names }
 abbrev pub next_use : List Name → Name → Use
 next_use names x = record { name = x; slot = length names }
 
--- a name looked up among those of the program
+-- a use of a name of the program, with its index
 abbrev pub listed_in : List Name → Name → Listed
 listed_in names x = record { name = x; index = slot_of x names }
 
--- one integer more
+-- adds an integer to the locals
 abbrev pub with_int : Name → Locals → Locals
 with_int x locals = record { ints = locals.ints ++ x ∷ []; arrays = locals.arrays }
 
--- one array more
+-- adds an array to the locals
 abbrev pub with_array : Name → Locals → Locals
 with_array a locals = record { ints = locals.ints; arrays = locals.arrays ++ a ∷ [] }
 
@@ -153,16 +153,16 @@ resolved_expr locals (model.Negative e) = Negative (resolved_expr locals e)
 resolved_expr locals (model.Not e) = Not (resolved_expr locals e)
 resolved_expr locals (model.Binary operator d e) = Binary operator (resolved_expr locals d) (resolved_expr locals e)
 
--- the first of these parameters only reads an array
+-- the first of these parameters is a read-only array
 abbrev pub is_reader : List Param → Bool
 is_reader [] = false
 is_reader (p ∷ ps) = reads_array p
 
--- an array in the place of the first of these parameters
+-- an array as the argument for the first of these parameters
 abbrev pub passed_to : List Param → Use → Argument
 passed_to ps u = if is_reader ps then Shared u else Array u
 
--- a name alone is an array where an array is known by it
+-- a name as an argument: an array if an array with this name is known, otherwise an integer
 abbrev pub resolved_name : Locals → List Param → Name → Argument
 resolved_name locals ps x =
     if is_among x locals.arrays then passed_to ps (use_of locals.arrays x) else Int (Variable (use_of locals.ints x))
@@ -172,16 +172,16 @@ abbrev pub resolved_argument : Locals → List Param → model.Expr → Argument
 resolved_argument locals ps (model.Variable x) = resolved_name locals ps x
 resolved_argument locals ps e = Int (resolved_expr locals e)
 
--- arguments for these parameters, in their order
+-- the arguments for these parameters, in order
 abbrev pub resolved_arguments : Locals → List Param → List model.Expr → List Argument
 resolved_arguments locals ps [] = []
 resolved_arguments locals ps (e ∷ es) = resolved_argument locals ps e ∷ resolved_arguments locals (drop 1 ps) es
 
--- the parameters of the first function of a name
+-- the parameters of the first function with this name
 abbrev pub params_of : Lists → Name → List Param
 params_of lists f = (function_named f lists.callees).params
 
--- the locals that are known after a statement
+-- the known locals after a statement
 abbrev pub locals_after : Locals → model.Stmt → Locals
 locals_after locals (model.Declare x e) = with_int x locals
 locals_after locals (model.DeclareArray a e) = with_array a locals
@@ -213,13 +213,13 @@ abbrev pub return_reads : Option Expr → List Use
 return_reads None = []
 return_reads (Some e) = reads e
 
--- the integers that the head of a loop reads, and those that the body takes from outside
+-- the integers that the head of a loop reads, and those that its body captures
 abbrev pub head_reads : Head → List Use
 head_reads head = reads head.from ++ (reads head.to ++ head.captured)
 
 abbrev mutual
-  -- the integers that a statement reads, in order; a loop reads what its head reads and what its body takes from
-  -- outside
+  -- the integers that a statement reads, in order; a loop reads the integers of its head and the integers that its body
+  -- captures
   pub reads_in : Stmt → List Use
   reads_in (Declare u e) = reads e
   reads_in (DeclareArray u e) = reads e
@@ -238,30 +238,30 @@ abbrev mutual
   reads_in (Print e) = reads e
   reads_in (Return e) = return_reads e
 
-  -- the same of a block
+  -- the integers that a block reads, in order
   pub reads_in_block : Block → List Use
   reads_in_block End = []
   reads_in_block (Then line s b) = reads_in s ++ reads_in_block b
 
--- the slot is one of these
+-- the slot is one of these slots
 abbrev pub is_slot_in : ℕ → List ℕ → Bool
 is_slot_in slot slots = list_any (λ k. k == slot) slots
 
--- the uses found so far, with a use whose slot is below n and none of theirs
+-- appends a use to the uses found so far, if its slot is below `n` and new
 abbrev pub with_first : (n : ℕ) → List Use → Use → List Use
 with_first n found u =
     if nat_lt u.slot n && not (is_slot_in u.slot (map (λ w. w.slot) found)) then found ++ u ∷ [] else found
 
--- the uses found so far, and behind them the first one of each further slot below n
+-- appends the first use of each new slot below `n` to the uses found so far
 abbrev pub first_uses : (n : ℕ) → (found : List Use) → List Use → List Use
 first_uses n found [] = found
 first_uses n found (u ∷ us) = first_uses n (with_first n found u) us
 
--- the integers from outside that a body reads, each once and in order, where so many are known before it
+-- the outer integers that a body reads, without duplicates and in order, if the first `n` slots are outside
 abbrev pub captured_in : ℕ → Block → List Use
 captured_in n body = first_uses n [] (reads_in_block body)
 
--- the head of a loop, whose body is already resolved
+-- the head of a loop, for a resolved body
 abbrev pub head_with : Locals → Name → (from to : model.Expr) → ℕ → List Name → Block → Head
 head_with locals x from to grain over body = record {
   variable = next_use locals.ints x;
@@ -272,11 +272,11 @@ head_with locals x from to grain over body = record {
   over = map (use_of locals.arrays) over;
 }
 
--- a loop, whose body is already resolved
+-- a loop with a resolved body
 abbrev pub loop_of : Locals → Name → (from to : model.Expr) → ℕ → List Name → Block → Stmt
 loop_of locals x from to grain over body = For (head_with locals x from to grain over body) body
 
--- where an array is cut, and its parts
+-- a resolved cut
 abbrev pub parts_of : Locals → Name → model.Expr → (left right : Name) → Parts
 parts_of locals a e l r = record {
   array = use_of locals.arrays a;
@@ -286,7 +286,7 @@ parts_of locals a e l r = record {
 }
 
 abbrev mutual
-  -- a statement with each name looked up, where these locals are known
+  -- a statement with each name looked up among these locals
   pub resolved_stmt : Lists → Locals → model.Stmt → Stmt
   resolved_stmt lists locals (model.Declare x e) = Declare (next_use locals.ints x) (resolved_expr locals e)
   resolved_stmt lists locals (model.DeclareArray a e) = DeclareArray (next_use locals.arrays a) (resolved_expr locals e)
@@ -297,7 +297,7 @@ abbrev mutual
   resolved_stmt lists locals (model.Call kind site target f es) =
       Call kind site (option_map (use_of locals.ints) target) (listed_in lists.functions f)
       (resolved_arguments locals (params_of lists f) es)
-  -- no source has one
+  -- no source contains this statement
   resolved_stmt lists locals (model.Start kind f es) = Sync
   resolved_stmt lists locals (model.Begin f from to captured over) = Sync
   resolved_stmt lists locals model.Sync = Sync
@@ -314,14 +314,14 @@ abbrev mutual
   resolved_stmt lists locals (model.Print e) = Print (resolved_expr locals e)
   resolved_stmt lists locals (model.Return e) = Return (option_map (resolved_expr locals) e)
 
-  -- a block with each name looked up; its own names end with it
+  -- a block with each name looked up; the scope of its names ends with it
   pub resolved_block : Lists → Locals → model.Block → Block
   resolved_block lists locals model.End = End
   resolved_block lists locals (model.Then line s b) =
       Then line (resolved_stmt lists locals s) (resolved_block lists (locals_after locals s) b)
 
 abbrev mutual
-  -- how many slots of integers a statement needs, where so many are there already
+  -- the number of slots for integers after a statement, if there were `n` before
   pub ints_in : ℕ → Stmt → ℕ
   ints_in n (Declare u e) = max n (suc u.slot)
   ints_in n (If e b) = ints_in_block n b
@@ -333,13 +333,13 @@ abbrev mutual
   ints_in n (Region tag b) = ints_in_block n b
   ints_in n _ = n
 
-  -- the same of a block
+  -- the number of slots for integers after a block, if there were `n` before
   pub ints_in_block : ℕ → Block → ℕ
   ints_in_block n End = n
   ints_in_block n (Then line s b) = ints_in_block (ints_in n s) b
 
 abbrev mutual
-  -- how many slots of arrays a statement needs, where so many are there already
+  -- the number of slots for arrays after a statement, if there were `n` before
   pub arrays_in : ℕ → Stmt → ℕ
   arrays_in n (DeclareArray u e) = max n (suc u.slot)
   arrays_in n (If e b) = arrays_in_block n b
@@ -351,19 +351,19 @@ abbrev mutual
   arrays_in n (Region tag b) = arrays_in_block n b
   arrays_in n _ = n
 
-  -- the same of a block
+  -- the number of slots for arrays after a block, if there were `n` before
   pub arrays_in_block : ℕ → Block → ℕ
   arrays_in_block n End = n
   arrays_in_block n (Then line s b) = arrays_in_block (arrays_in n s) b
 
--- the locals that are parameters
+-- the parameters as locals
 abbrev pub locals_of : List Param → Locals
 locals_of ps = record {
   ints = map (λ p. p.name) (filter (λ p. not (wants_array p)) ps);
   arrays = map (λ p. p.name) (filter (λ p. wants_array p) ps);
 }
 
--- a function whose body is already resolved; it has a slot for each local that may be known at once
+-- a function with a resolved body; its numbers of slots suffice for the locals that are known at the same time
 abbrev pub function_with : model.Function → Locals → Block → Function
 function_with f locals body = record {
   name = f.name;
@@ -387,11 +387,11 @@ function_names fs = map (λ f. f.name) fs
 abbrev pub reducer_names : List Reducer → List Name
 reducer_names rs = map (λ r. r.name) rs
 
--- the different tags, in the order of their first places
+-- the distinct tags, in the order of their first occurrences
 abbrev pub tags_of : model.Program → List Name
 tags_of program = map (λ d. d.0) (first_places (regions_of program) [])
 
--- what a program lists
+-- the names that a program lists
 abbrev pub lists_of : model.Program → Lists
 lists_of program = record {
   callees = program.functions;
@@ -409,7 +409,7 @@ resolved program = record {
   main = slot_of main_name (function_names program.functions);
 }
 
--- an expression without slots
+-- an expression without its slots
 abbrev pub plain_expr : Expr → model.Expr
 plain_expr (Number n) = model.Number n
 plain_expr (Variable u) = model.Variable u.name
@@ -419,14 +419,14 @@ plain_expr (Negative e) = model.Negative (plain_expr e)
 plain_expr (Not e) = model.Not (plain_expr e)
 plain_expr (Binary operator d e) = model.Binary operator (plain_expr d) (plain_expr e)
 
--- an argument without slots
+-- an argument without its slots
 abbrev pub plain_argument : Argument → model.Expr
 plain_argument (Int e) = plain_expr e
 plain_argument (Array u) = model.Variable u.name
 plain_argument (Shared u) = model.Variable u.name
 
 abbrev mutual
-  -- a statement without slots and indices; the three names of a loop's head are one
+  -- a statement without slots and indices; the three names in the head of a loop are the same name
   pub plain_stmt : Stmt → model.Stmt
   plain_stmt (Declare u e) = model.Declare u.name (plain_expr e)
   plain_stmt (DeclareArray u e) = model.DeclareArray u.name (plain_expr e)

@@ -1,4 +1,4 @@
--- The resolved tree of the definitions that a tree of the code stands for, and its program.
+-- The abstraction functions from trees of the code to resolved trees and their programs.
 use Rattle.std.specs.Prelude.{ℕ, List, [], ◌∷◌, map, option_map}
 use Rattle.cw_tree.specs.declared.resolved.Use as code_use
 use Rattle.cw_tree.specs.declared.resolved.Listed as code_listed
@@ -19,15 +19,15 @@ use Rattle.cw_tree.specs.declared.resolved.Tree.{Tree}
 use Rattle.cw_tree.specs.Resolved as spec
 use Rattle.cw_model.specs.Syntax as model
 
--- a use of the code as one of the definitions
+-- the abstraction of a use of a local
 abbrev pub use_of : code_use.Use → spec.Use
 use_of u = record { name = u.name; slot = u.slot }
 
--- a use of what a program lists, as one of the definitions
+-- the abstraction of a use of a function, a reducer or a tag
 abbrev pub listed_of : code_listed.Listed → spec.Listed
 listed_of l = record { name = l.name; index = l.index }
 
--- an expression of the code as one of the definitions
+-- the abstraction of an expression
 abbrev pub expr_of : Expr → spec.Expr
 expr_of (Number n) = spec.Number n
 expr_of (Variable u) = spec.Variable (use_of u)
@@ -37,13 +37,13 @@ expr_of (Negative' p e) = spec.Negative (expr_of e)
 expr_of (Not' p e) = spec.Not (expr_of e)
 expr_of (Binary' o p d q e) = spec.Binary o (expr_of d) (expr_of e)
 
--- an argument of the code as one of the definitions
+-- the abstraction of an argument
 abbrev pub argument_of : Argument → spec.Argument
 argument_of (Int e) = spec.Int (expr_of e)
 argument_of (Array u) = spec.Array (use_of u)
 argument_of (Shared u) = spec.Shared (use_of u)
 
--- the head of a loop of the code as one of the definitions
+-- the abstraction of the head of a loop
 abbrev pub head_of : Head → spec.Head
 head_of h = record {
   variable = use_of h.variable;
@@ -54,16 +54,16 @@ head_of h = record {
   over = map use_of h.over.items;
 }
 
--- a cut of the code as one of the definitions
+-- the abstraction of a cut
 abbrev pub parts_of : Cut → spec.Parts
 parts_of c = record { array = use_of c.array; at = expr_of c.at; left = use_of c.left; right = use_of c.right }
 
--- statements in order, each beside its line
+-- statements in order, each with its line, as a block
 abbrev pub block_from : List (ℕ × spec.Stmt) → spec.Block
 block_from [] = spec.End
 block_from (l ∷ ls) = spec.Then l.0 l.1 (block_from ls)
 
--- one level, with each statement inside already seen
+-- the abstraction of one level of a statement, given the abstractions of its inner statements
 abbrev pub stmt_step : Stmt-F spec.Stmt (ℕ × spec.Stmt) → spec.Stmt
 stmt_step (Stmt-F.Declare u e) = spec.Declare (use_of u) (expr_of e)
 stmt_step (Stmt-F.DeclareArray u e) = spec.DeclareArray (use_of u) (expr_of e)
@@ -84,27 +84,27 @@ stmt_step (Stmt-F.Region tag b) = spec.Region (listed_of tag) (block_from b.item
 stmt_step (Stmt-F.Print e) = spec.Print (expr_of e)
 stmt_step (Stmt-F.Return e) = spec.Return (option_map expr_of e)
 
--- a statement that is already seen, beside its line
+-- a line, given the abstraction of its statement
 abbrev pub line_step : Line-F spec.Stmt (ℕ × spec.Stmt) → ℕ × spec.Stmt
 line_step l = (l.line, l.stmt)
 
--- a statement of the code as one of the definitions
+-- the abstraction of a statement
 abbrev pub stmt_of : Stmt → spec.Stmt
 stmt_of = fold-Stmt spec.Stmt (ℕ × spec.Stmt) stmt_step line_step
 
--- a statement beside its line
+-- the abstraction of a statement with its line
 abbrev pub line_of : Line → ℕ × spec.Stmt
 line_of = fold-Line spec.Stmt (ℕ × spec.Stmt) stmt_step line_step
 
--- lines of the code as a block of the definitions
+-- the abstraction of lines: a block
 abbrev pub block_of : List Line → spec.Block
 block_of ls = block_from (map line_of ls)
 
--- a parameter of the code as one of the definitions
+-- the abstraction of a parameter
 abbrev pub param_of : Param → model.Param
 param_of p = record { name = p.name; kind = p.kind }
 
--- a function of the code as one of the definitions
+-- the abstraction of a function
 abbrev pub function_of : Function → spec.Function
 function_of f = record {
   name = f.name;
@@ -116,11 +116,11 @@ function_of f = record {
   body = block_of f.body.items;
 }
 
--- a reducer of the code as one of the definitions
+-- the abstraction of a reducer
 abbrev pub reducer_of : Reducer → model.Reducer
 reducer_of r = record { name = r.name; how = r.how; line = r.line }
 
--- the resolved tree that a tree of the code stands for
+-- the resolved tree that a tree represents
 abbrev pub resolved_of : Tree → spec.Resolved
 resolved_of tree = record {
   reducers = map reducer_of tree.reducers.items;
@@ -129,6 +129,6 @@ resolved_of tree = record {
   main = tree.main;
 }
 
--- the program that a tree of the code stands for
+-- the program that a tree represents
 abbrev pub program_of : Tree → model.Program
 program_of tree = spec.plain (resolved_of tree)

@@ -1,5 +1,5 @@
--- Whether each slot, each index and each count of slots of a resolved tree is right: a test, since a `Typed` can keep
--- only that. A tree that passes it is `resolved` of its program, as the law `slots_are_right` says.
+-- A test of all slots, indices and counts of slots of a resolved tree; a `Typed` can hold only a test. The law
+-- `slots_are_right` says that a tree that passes it is `resolved` of its program.
 use Rattle.std.specs.Prelude.{◌==◌, Bool, true, false, not, ◌&&◌, bytes_eq, List, [], ◌∷◌, ◌++◌, length, drop, Option}
 use Rattle.std.specs.Prelude.{Some, None}
 use Rattle.std.specs.List.{list_all}
@@ -21,17 +21,17 @@ is_use names u = u.slot == slot_of u.name names
 abbrev pub is_next : List Name → Use → Bool
 is_next names u = u.slot == length names
 
--- a use of what a program lists has the index of its name
+-- a use of a name of the program has the index of the name
 abbrev pub is_listed : List Name → Listed → Bool
 is_listed names l = l.index == slot_of l.name names
 
--- the same uses
+-- two lists of uses are equal
 abbrev pub same_uses : List Use → List Use → Bool
 same_uses [] [] = true
 same_uses (u ∷ us) (w ∷ ws) = bytes_eq u.name w.name && (u.slot == w.slot) && same_uses us ws
 same_uses _ _ = false
 
--- the same names
+-- two lists of names are equal
 abbrev pub same_names : List Name → List Name → Bool
 same_names [] [] = true
 same_names (x ∷ xs) (y ∷ ys) = bytes_eq x y && same_names xs ys
@@ -47,31 +47,31 @@ is_right_expr locals (Negative e) = is_right_expr locals e
 is_right_expr locals (Not e) = is_right_expr locals e
 is_right_expr locals (Binary operator d e) = is_right_expr locals d && is_right_expr locals e
 
--- each use in an argument for the first of these parameters has its slot, and a name alone is an array where an array is
--- known by it, which that parameter reads or takes
+-- an argument for the first of these parameters has correct slots; a name is an array exactly if an array with this
+-- name is known, and it is passed as this parameter requires
 abbrev pub is_right_argument : Locals → List Param → Argument → Bool
 is_right_argument locals ps (Int (Variable u)) = not (is_among u.name locals.arrays) && is_use locals.ints u
 is_right_argument locals ps (Int e) = is_right_expr locals e
 is_right_argument locals ps (Array u) = is_among u.name locals.arrays && is_use locals.arrays u && not (is_reader ps)
 is_right_argument locals ps (Shared u) = is_among u.name locals.arrays && is_use locals.arrays u && is_reader ps
 
--- the same of each argument for these parameters
+-- each argument for these parameters has correct slots and is passed correctly
 abbrev pub are_right_arguments : Locals → List Param → List Argument → Bool
 are_right_arguments locals ps [] = true
 are_right_arguments locals ps (e ∷ es) =
     is_right_argument locals ps e && are_right_arguments locals (drop 1 ps) es
 
--- what a result goes to has its slot
+-- the use that receives a result, if there is one, has its slot
 abbrev pub is_right_target : Locals → Option Use → Bool
 is_right_target locals None = true
 is_right_target locals (Some u) = is_use locals.ints u
 
--- each use in what is returned has its slot
+-- each use in a returned expression, if there is one, has its slot
 abbrev pub is_right_return : Locals → Option Expr → Bool
 is_right_return locals None = true
 is_right_return locals (Some e) = is_right_expr locals e
 
--- each use in the head of a loop has its slot, and what it captures is what this body does
+-- each use in the head of a loop has its slot, and the captured integers are those that the body captures
 abbrev pub is_right_head : Locals → Head → Block → Bool
 is_right_head locals h b =
     is_next locals.ints h.variable && is_right_expr locals h.from && is_right_expr locals h.to
@@ -84,7 +84,7 @@ is_right_cut locals c =
     && is_next (locals.arrays ++ c.left.name ∷ []) c.right
 
 abbrev mutual
-  -- each slot and index in a statement is right
+  -- each slot and each index in a statement is correct
   pub is_right_stmt : Lists → Locals → Stmt → Bool
   is_right_stmt lists locals (Declare u e) = is_next locals.ints u && is_right_expr locals e
   is_right_stmt lists locals (DeclareArray u e) = is_next locals.arrays u && is_right_expr locals e
@@ -109,20 +109,20 @@ abbrev mutual
   is_right_stmt lists locals (Print e) = is_right_expr locals e
   is_right_stmt lists locals (Return e) = is_right_return locals e
 
-  -- each slot and index in a block is right
+  -- each slot and each index in a block is correct
   pub is_right_block : Lists → Locals → Block → Bool
   is_right_block lists locals End = true
   is_right_block lists locals (Then line s b) =
       is_right_stmt lists locals s && is_right_block lists (locals_after locals (plain_stmt s)) b
 
--- each slot, each index and both counts of slots of a function are right
+-- each slot, each index and both counts of slots of a function are correct
 abbrev pub is_right_function : Lists → Function → Bool
 is_right_function lists f =
     let locals = locals_of f.params in
     (f.ints == ints_in_block (length locals.ints) f.body) && (f.arrays == arrays_in_block (length locals.arrays) f.body)
     && is_right_block lists locals f.body
 
--- each slot, each index and each count of slots is right, and so are the tags and the place of main
+-- each slot, each index and each count of slots is correct, and so are the tags and the index of main
 abbrev pub is_resolved : Resolved → Bool
 is_resolved tree =
     let lists = lists_of (plain tree) in

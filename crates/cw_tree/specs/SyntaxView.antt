@@ -1,4 +1,4 @@
--- The tree of the definitions that a tree of the code stands for.
+-- The abstraction functions from syntax trees of the code to programs.
 use Rattle.std.specs.Prelude.{ℕ, List, [], ◌∷◌, map, option_map}
 use Rattle.cw_tree.specs.declared.syntax.Expr.{Expr}
 use Rattle.cw_tree.specs.declared.syntax.Expr.TheVariants.{Number, Variable, Element', Length, Negative', Not', Binary'}
@@ -11,7 +11,7 @@ use Rattle.cw_tree.specs.declared.syntax.Reducer.{Reducer}
 use Rattle.cw_tree.specs.declared.syntax.Ast.{Ast}
 use Rattle.cw_model.specs.Syntax as model
 
--- an expression of the code as one of the definitions
+-- the abstraction of an expression
 abbrev pub expr_of : Expr → model.Expr
 expr_of (Number n) = model.Number n
 expr_of (Variable x) = model.Variable x
@@ -21,16 +21,16 @@ expr_of (Negative' p e) = model.Negative (expr_of e)
 expr_of (Not' p e) = model.Not (expr_of e)
 expr_of (Binary' o p d q e) = model.Binary o (expr_of d) (expr_of e)
 
--- expressions, each seen so
+-- the abstraction of expressions
 abbrev pub exprs_of : List Expr → List model.Expr
 exprs_of es = map expr_of es
 
--- statements in order, each beside its line
+-- statements in order, each with its line, as a block
 abbrev pub block_from : List (ℕ × model.Stmt) → model.Block
 block_from [] = model.End
 block_from (l ∷ ls) = model.Then l.0 l.1 (block_from ls)
 
--- one level, with each statement inside already seen
+-- the abstraction of one level of a statement, given the abstractions of its inner statements
 abbrev pub stmt_step : Stmt-F model.Stmt (ℕ × model.Stmt) → model.Stmt
 stmt_step (Stmt-F.Declare x e) = model.Declare x (expr_of e)
 stmt_step (Stmt-F.DeclareArray x e) = model.DeclareArray x (expr_of e)
@@ -53,31 +53,31 @@ stmt_step (Stmt-F.Region tag b) = model.Region tag (block_from b.items)
 stmt_step (Stmt-F.Print e) = model.Print (expr_of e)
 stmt_step (Stmt-F.Return e) = model.Return (option_map expr_of e)
 
--- a statement that is already seen, beside its line
+-- a line, given the abstraction of its statement
 abbrev pub line_step : Line-F model.Stmt (ℕ × model.Stmt) → ℕ × model.Stmt
 line_step l = (l.line, l.stmt)
 
--- a statement of the code as one of the definitions
+-- the abstraction of a statement
 abbrev pub stmt_of : Stmt → model.Stmt
 stmt_of = fold-Stmt model.Stmt (ℕ × model.Stmt) stmt_step line_step
 
--- a statement beside its line
+-- the abstraction of a statement with its line
 abbrev pub line_of : Line → ℕ × model.Stmt
 line_of = fold-Line model.Stmt (ℕ × model.Stmt) stmt_step line_step
 
--- lines of the code as a block of the definitions
+-- the abstraction of lines: a block
 abbrev pub block_of : List Line → model.Block
 block_of ls = block_from (map line_of ls)
 
--- what is seen by view, beside the number of the next call statement
+-- applies a view to a value that is paired with the number of the next call statement
 abbrev pub numbered : {X Y : Type 0} → (X → Y) → X × ℕ → Y × ℕ
 numbered view x = (view x.0, x.1)
 
--- a parameter of the code as one of the definitions
+-- the abstraction of a parameter
 abbrev pub param_of : Param → model.Param
 param_of p = record { name = p.name; kind = p.kind }
 
--- a function of the code as one of the definitions
+-- the abstraction of a function
 abbrev pub function_of : Function → model.Function
 function_of f =
     record {
@@ -88,11 +88,11 @@ function_of f =
       body = block_of f.body.items;
     }
 
--- a reducer of the code as one of the definitions
+-- the abstraction of a reducer
 abbrev pub reducer_of : Reducer → model.Reducer
 reducer_of r = record { name = r.name; how = r.how; line = r.line }
 
--- the program that a tree of the code stands for
+-- the program that a tree represents
 abbrev pub program_of : Ast → model.Program
 program_of ast =
     record { reducers = map reducer_of ast.reducers.items; functions = map function_of ast.functions.items }

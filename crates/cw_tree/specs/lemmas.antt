@@ -1,4 +1,4 @@
--- Lemmas on resolved trees, which the proofs of the crates above cite.
+-- Lemmas on resolved trees; the proofs of the crates above cite them.
 pub mod Few
 pub mod Slotted
 pub mod NamedSlots

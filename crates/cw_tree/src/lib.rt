@@ -1,5 +1,5 @@
-//! The trees of a source: as the parser gives it, and with each name looked up; what later stages rely on of the latter
-//! is a fact of its type.
+//! The trees of a source: the syntax tree, which the parser builds, and the resolved tree, in which each name is
+//! looked up. The facts about the resolved tree that later stages rely on are in its type.
 #![tactic(auto)]
 
 pub mod laws;

@@ -1,104 +1,104 @@
-//! The resolved tree: each use of a local carries its name and its slot, and each use of a function, a reducer or a tag
-//! its name and its index.
+//! The resolved tree: each use of a local has its name and its slot, and each use of a function, a reducer or a tag
+//! has its name and its index.
 //!
-//! Integers and arrays of a function have slots of their own, from 0. The slot of a name is its place among the names
-//! of its kind that are known where it is declared, parameters first, each in order of declaration. The names of a
-//! block end with it, so the blocks after it use their slots again. An index is a place among the functions, the
-//! reducers or the different tags of the source, from 0.
+//! The integers and the arrays of a function have separate slots, from 0. The slot of a name is its position among
+//! the names of its kind that are known where it is declared; parameters come first, and all names are in order of
+//! declaration. The scope of a name ends with its block, so later blocks use its slot again. An index is a position
+//! among the functions, the reducers or the distinct tags of the source, from 0.
 
 use crate::syntax::Name;
 use cw_model::syntax::{CallKind, NameKind, Operator, Reduction};
 
-/// A use of a local, or its declaration, with its slot among the integers or among the arrays.
+/// Represents a use of a local, or its declaration, with its slot among the integers or the arrays.
 #[derive(Drop, Debug)]
 pub struct Use {
     pub name: Name,
     pub slot: u32,
 }
 
-/// A use of a function, a reducer or a tag, with its index among those of the program.
+/// Represents a use of a function, a reducer or a tag, with its index in the program.
 #[derive(Drop, Debug)]
 pub struct Listed {
     pub name: Name,
     pub index: u32,
 }
 
-/// An expression.
+/// Represents an expression.
 #[derive(Drop, Debug)]
 pub enum Expr {
     /// A number, from 0 to `i64::MAX`.
     Number(i64),
     /// An integer.
     Variable(Use),
-    /// An element of an array, by the array and the index.
+    /// An element of an array: the array and the index.
     Element(Use, Box<Expr>),
     /// The length of an array.
     Length(Use),
-    /// An operand with its sign turned.
+    /// The negation of an operand.
     Negative(Box<Expr>),
-    /// 1 for an operand of 0, and 0 for any other.
+    /// 1 if the operand is 0, otherwise 0.
     Not(Box<Expr>),
-    /// An operator, with its left and its right operand.
+    /// An operator with its left and its right operand.
     Binary(Operator, Box<Expr>, Box<Expr>),
 }
 
-/// What is given for a parameter.
+/// Represents an argument of a call.
 #[derive(Drop, Debug)]
 pub enum Argument {
     /// The value of an expression.
     Int(Expr),
-    /// An array itself, which is given away until the call returns.
+    /// An array that the callee owns until the call returns.
     Array(Use),
-    /// An array that the call only reads.
+    /// An array that the callee only reads.
     Shared(Use),
 }
 
-/// A call statement.
+/// Represents a call statement.
 #[derive(Drop, Debug)]
 pub struct Call {
     /// Whether the call is spawned.
     pub kind: CallKind,
-    /// The number of the call statement among all of the source, from 1.
+    /// The number of the call statement in the source, from 1.
     pub site: u32,
-    /// The integer that takes what the call gives.
+    /// The integer that receives the result of the call.
     pub target: Option<Use>,
-    /// The first function of that name.
+    /// The callee: the first function with this name.
     pub callee: Listed,
-    /// The arguments in their order.
+    /// The arguments in order.
     pub arguments: Vec<Argument>,
 }
 
-/// The head of a parallel loop.
+/// Represents the head of a parallel loop.
 #[derive(Drop, Debug)]
 pub struct Head {
     /// The variable of the loop, with its slot in the body.
     pub variable: Use,
     /// The first value of the variable.
     pub from: Expr,
-    /// The upper bound, which the variable does not reach.
+    /// The exclusive upper bound of the variable.
     pub to: Expr,
-    /// The most turns in a leaf.
+    /// The maximum number of iterations in a leaf.
     pub grain: u64,
-    /// The integers from outside that the body reads, each once, in the order of their first use.
+    /// The outer integers that the body reads, without duplicates, in the order of their first use.
     pub captured: Vec<Use>,
     /// The arrays of the loop.
     pub over: Vec<Use>,
 }
 
-/// Where an array is cut, and its two parts.
+/// Represents a cut of an array into two parts.
 #[derive(Drop, Debug)]
 pub struct Cut {
     /// The array that is cut.
     pub array: Use,
-    /// How many elements the left part has.
+    /// The number of elements of the left part.
     pub at: Expr,
     /// The part before the cut, with its slot in the block.
     pub left: Use,
-    /// The part behind it.
+    /// The part after the cut, with its slot in the block.
     pub right: Use,
 }
 
-/// A statement, with the line of its first token.
+/// Represents a statement with the line of its first token.
 #[cycle(resolved_stmt)]
 #[derive(Drop, Debug)]
 pub struct Line {
@@ -106,86 +106,86 @@ pub struct Line {
     pub stmt: Stmt,
 }
 
-/// A statement.
+/// Represents a statement.
 #[cycle(resolved_stmt)]
 #[derive(Drop, Debug)]
 pub enum Stmt {
-    /// A new integer and its first value.
+    /// Declares an integer with its first value.
     Declare(Use, Expr),
-    /// A new array and its length.
+    /// Declares an array with its length.
     DeclareArray(Use, Expr),
-    /// An integer and its new value.
+    /// Assigns a value to an integer.
     Assign(Use, Expr),
-    /// An array, an index, and the new value of the element there.
+    /// Assigns a value to the element of an array at an index.
     AssignElement(Use, Box<Expr>, Expr),
-    /// How a reducer reduces, the reducer, and what it is told.
+    /// Updates a reducer of this kind with a value.
     Reduce(Reduction, Listed, Expr),
     /// A call, plain or spawned.
     Call(Box<Call>),
-    /// A join of all that the innermost sync block has spawned.
+    /// Joins all calls that the innermost sync block has spawned.
     Sync,
-    /// A condition, and what is done where it is not 0.
+    /// Executes the block if the condition is not 0.
     If(Expr, Vec<Line>),
-    /// A condition, what is done where it is not 0, and what is done where it is.
+    /// Executes the first block if the condition is not 0, otherwise the second block.
     IfElse(Expr, Vec<Line>, Box<Vec<Line>>),
-    /// A condition, and what is done again and again while it is not 0.
+    /// Executes the block as long as the condition is not 0.
     While(Expr, Vec<Line>),
     /// A parallel loop.
     For(Box<Head>, Vec<Line>),
-    /// A block that joins what it has spawned.
+    /// A block that joins all calls that it has spawned.
     Scope(Vec<Line>),
-    /// A cut, and the block in which the two parts have their names.
+    /// A cut, with the block in which the names of the two parts are known.
     Cut(Box<Cut>, Vec<Line>),
-    /// A tag, and what is counted under it.
+    /// A region: its tag, and the block whose cost is counted for the tag.
     Region(Listed, Vec<Line>),
-    /// What is printed.
+    /// Prints a value.
     Print(Expr),
-    /// The end of a call, with the value that it gives if it gives one.
+    /// Ends a call, with its result if it has one.
     Return(Option<Expr>),
 }
 
-/// A parameter of a function.
+/// Represents a parameter of a function.
 #[derive(Drop, Debug)]
 pub struct Param {
     pub name: Name,
-    /// Whether it is an integer, an array, or an array that is only read.
+    /// The kind: an integer, an array, or an array that the function only reads.
     pub kind: NameKind,
 }
 
-/// A function.
+/// Represents a function.
 #[derive(Drop, Debug)]
 pub struct Function {
     pub name: Name,
     /// The line of the name.
     pub line: u32,
-    /// Whether the function gives an integer.
+    /// Whether the function returns an integer.
     pub gives_int: bool,
-    /// Its parameters: the slots of the integers among them are 0, 1, .. and so are those of the arrays.
+    /// The parameters. The slots of the integers among them are 0, 1, .., and so are the slots of the arrays.
     pub params: Vec<Param>,
-    /// How many slots its integers take.
+    /// The number of slots for integers.
     pub ints: u32,
-    /// How many slots its arrays take.
+    /// The number of slots for arrays.
     pub arrays: u32,
     pub body: Vec<Line>,
 }
 
-/// A reducer.
+/// Represents a reducer.
 #[derive(Drop, Debug)]
 pub struct Reducer {
     pub name: Name,
-    /// How it reduces what it is told.
+    /// How it combines values.
     pub how: Reduction,
     /// The line of the first token.
     pub line: u32,
 }
 
-/// A whole source: its reducers and its functions, each in their order.
+/// Represents a whole source: its reducers and its functions, each in order.
 #[derive(Drop, Debug)]
 pub struct Tree {
     pub reducers: Vec<Reducer>,
     pub functions: Vec<Function>,
-    /// The different tags, in the order of their first places.
+    /// The distinct tags, in the order of their first occurrences.
     pub tags: Vec<Name>,
-    /// The index of the function that a run begins with.
+    /// The index of the function that a run starts with.
     pub main: u32,
 }

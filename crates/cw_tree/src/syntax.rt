@@ -1,76 +1,76 @@
-//! The tree of a source: parentheses leave no node, each statement carries the line of its
-//! first token, and each call statement its number. Lines are counted from 1.
+//! The syntax tree: parentheses have no node, each statement has the line of its first token, and each call statement
+//! has its number. Lines are counted from 1.
 
 pub use cw_model::syntax::Name;
 use cw_model::syntax::{CallKind, NameKind, Operator, Reduction};
 
-/// An expression.
+/// Represents an expression.
 #[derive(Drop)]
 pub enum Expr {
-    /// A number, which the source writes without a sign: from 0 to `i64::MAX`.
+    /// A number without a sign, from 0 to `i64::MAX`.
     Number(i64),
     /// A variable or a parameter.
     Variable(Name),
-    /// An element of an array, by the array's name and the index.
+    /// An element of an array: the name of the array and the index.
     Element(Name, Box<Expr>),
     /// The length of an array.
     Length(Name),
-    /// An operand with its sign turned.
+    /// The negation of an operand.
     Negative(Box<Expr>),
-    /// 1 for an operand of 0, and 0 for any other.
+    /// 1 if the operand is 0, otherwise 0.
     Not(Box<Expr>),
-    /// An operator, with its left and its right operand.
+    /// An operator with its left and its right operand.
     Binary(Operator, Box<Expr>, Box<Expr>),
 }
 
-/// A call statement.
+/// Represents a call statement.
 #[derive(Drop)]
 pub struct Call {
     /// Whether the call is spawned.
     pub kind: CallKind,
-    /// The number of the call statement among all of the source, from 1.
+    /// The number of the call statement in the source, from 1.
     pub site: u32,
-    /// The name that takes what the call gives.
+    /// The name that receives the result of the call.
     pub target: Option<Name>,
-    /// The name of the function that is called.
+    /// The name of the callee.
     pub callee: Name,
-    /// The arguments in their order.
+    /// The arguments in order.
     pub arguments: Vec<Expr>,
 }
 
-/// The head of a parallel loop.
+/// Represents the head of a parallel loop.
 #[derive(Drop)]
 pub struct Head {
     /// The variable of the loop.
     pub variable: Name,
     /// The name that the head compares with the upper bound.
     pub tested: Name,
-    /// The name that the head raises.
+    /// The name that the head increments.
     pub stepped: Name,
     /// The first value of the variable.
     pub from: Expr,
-    /// The upper bound, which the variable does not reach.
+    /// The exclusive upper bound of the variable.
     pub to: Expr,
-    /// The most turns in a leaf.
+    /// The maximum number of iterations in a leaf.
     pub grain: u64,
     /// The arrays of the loop.
     pub over: Vec<Name>,
 }
 
-/// Where an array is cut, and the names of its two parts.
+/// Represents a cut of an array into two parts, with their names.
 #[derive(Drop)]
 pub struct Cut {
     /// The array that is cut.
     pub array: Name,
-    /// How many elements the left part has.
+    /// The number of elements of the left part.
     pub at: Expr,
     /// The name of the part before the cut.
     pub left: Name,
-    /// The name of the part behind it.
+    /// The name of the part after the cut.
     pub right: Name,
 }
 
-/// A statement, with the line of its first token.
+/// Represents a statement with the line of its first token.
 #[cycle(stmt)]
 #[derive(Drop)]
 pub struct Line {
@@ -78,75 +78,75 @@ pub struct Line {
     pub stmt: Stmt,
 }
 
-/// A statement.
+/// Represents a statement.
 #[cycle(stmt)]
 #[derive(Drop)]
 pub enum Stmt {
-    /// A variable by its name, and its first value.
+    /// Declares a variable with its first value.
     Declare(Name, Expr),
-    /// An array by its name and its length.
+    /// Declares an array with its length.
     DeclareArray(Name, Expr),
-    /// A variable by its name, and its new value.
+    /// Assigns a value to a variable.
     Assign(Name, Expr),
-    /// An element of an array by the array's name and the index, and its new value.
+    /// Assigns a value to the element of an array at an index.
     AssignElement(Name, Expr, Expr),
-    /// How a reducer is to reduce, the reducer by its name, and what it is told.
+    /// Updates a reducer with a value, by a reduction of this kind.
     Reduce(Reduction, Name, Expr),
     /// A call, plain or spawned.
     Call(Box<Call>),
-    /// A join of all that the innermost sync block has spawned.
+    /// Joins all calls that the innermost sync block has spawned.
     Sync,
-    /// A condition, and what is done where it is not 0.
+    /// Executes the block if the condition is not 0.
     If(Expr, Vec<Line>),
-    /// A condition, what is done where it is not 0, and what is done where it is.
+    /// Executes the first block if the condition is not 0, otherwise the second block.
     IfElse(Expr, Vec<Line>, Vec<Line>),
-    /// A condition, and what is done again and again while it is not 0.
+    /// Executes the block as long as the condition is not 0.
     While(Expr, Vec<Line>),
     /// A parallel loop.
     For(Box<Head>, Vec<Line>),
-    /// A block that joins what it has spawned.
+    /// A block that joins all calls that it has spawned.
     Scope(Vec<Line>),
-    /// A cut, and the block in which the two parts have their names.
+    /// A cut, with the block in which the names of the two parts are known.
     Cut(Box<Cut>, Vec<Line>),
-    /// A tag, and what is counted under it.
+    /// A region: its tag, and the block whose cost is counted for the tag.
     Region(Name, Vec<Line>),
-    /// What is printed.
+    /// Prints a value.
     Print(Expr),
-    /// The end of a call, with the value that it gives if it gives one.
+    /// Ends a call, with its result if it has one.
     Return(Option<Expr>),
 }
 
-/// A parameter of a function.
+/// Represents a parameter of a function.
 #[derive(Drop)]
 pub struct Param {
     pub name: Name,
-    /// Whether it is an integer, an array, or an array that is only read.
+    /// The kind: an integer, an array, or an array that the function only reads.
     pub kind: NameKind,
 }
 
-/// A function.
+/// Represents a function.
 #[derive(Drop)]
 pub struct Function {
     pub name: Name,
     /// The line of the name.
     pub line: u32,
-    /// Whether the function gives an integer.
+    /// Whether the function returns an integer.
     pub gives_int: bool,
     pub params: Vec<Param>,
     pub body: Vec<Line>,
 }
 
-/// A reducer.
+/// Represents a reducer.
 #[derive(Drop)]
 pub struct Reducer {
     pub name: Name,
-    /// How it reduces what it is told.
+    /// How it combines values.
     pub how: Reduction,
     /// The line of the first token.
     pub line: u32,
 }
 
-/// A whole source: its reducers and its functions, each in their order.
+/// Represents a whole source: its reducers and its functions, each in order.
 #[derive(Drop)]
 pub struct Ast {
     pub reducers: Vec<Reducer>,

@@ -9,16 +9,18 @@ ghost use Rattle.cw_tree.specs.ResolvedView.{program_of, resolved_of};
 
 use crate::resolved::Tree;
 
-/// A tree that passes no limit and keeps every rule of names and types, with what later stages rely on.
+/// Holds a tree that exceeds no limit and keeps every rule of names and types, with the facts that later stages rely
+/// on.
 #[derive(Drop, Debug)]
 pub struct Typed {
     pub tree: Tree,
-    // Each slot, each index and each count of slots is right: the tree is `resolved` of its program.
+    // Each slot, each index and each count of slots is correct: the tree is the resolved tree of its program.
     pub ghost resolved: { is_resolved (resolved_of tree) ≡ true },
-    // The program passes no limit.
+    // The program exceeds no limit.
     pub ghost within: { limit_faults (program_of tree) ≡ [] },
-    // It keeps every rule of names and types.
+    // The program keeps every rule of names and types.
     pub ghost typed: { type_faults (program_of tree) ≡ [] },
-    // Each slot is below its function's count, that is at most 256, and each index is below the length of its table.
+    // Each slot is below the count of its function, which is at most 256, and each index is below the length of its
+    // table.
     pub ghost fitting: { is_fitting (resolved_of tree) ≡ true },
 }

@@ -1,4 +1,4 @@
--- A reason that is true of one statement is true of one among others.
+-- A reason that is correct for one statement is correct for a list that contains the statement.
 use Rattle.std.proofs.Common.{Bool, true, false, not, ◌≡◌, List, Contains, Option, Some, None, IfSome, refl}
 use Rattle.cw_model.specs.Typing.{Returns}
 use Rattle.cw_tree.specs.declared.syntax.Line.{Line}
@@ -23,7 +23,7 @@ pub ended_among : (globals : Globals) (s : Standing) (all : List Standing) (foun
 ended_among globals s all None there h = h
 ended_among globals s all (Some r) there h = record { statement = s; there = there; at_line = refl; wrong = Ends h }
 
--- what is never reached behind a line is so where the line stands
+-- a statement that is never reached in every context is never reached in this context
 pub ended_there : (returns : Returns) (known : List Declared) (line : Line) (behind : List Line) (found : Option IllTyped) →
     IfSome found (NeverReached line behind) → IfSome found (IsNeverReached (standing_at returns known line behind))
 ended_there returns known line behind None h = h
@@ -35,7 +35,7 @@ among_more globals xs ys a b within told =
     weaken (IsAmong globals xs) (IsAmong globals ys) a b
     (λ line r h. record { statement = h.statement; there = within h.statement h.there; at_line = h.at_line; wrong = h.wrong }) told
 
--- a rule is kept where no reason is found
+-- a rule is kept exactly if no reason is found
 pub denied : (found kept : Bool) → found ≡ not kept → not found ≡ kept
 denied true true h = cc
 denied true false h = refl

@@ -11,7 +11,7 @@ use Rattle.cw_types.specs.Typing.{are_new, is_right_main, returns_well}
 abbrev known_names : Known → List Name
 known_names ks = map (λ k. k.0) ks
 
--- none of these is among the others
+-- none of these names is among the others
 abbrev apart : List Name → List Name → Bool
 apart names [] = true
 apart names (x ∷ xs) = not (is_among x names) && apart names xs
@@ -59,7 +59,7 @@ nothing_apart : (xs : List Name) → apart [] xs ≡ true
 nothing_apart [] = refl
 nothing_apart (x ∷ xs) = nothing_apart xs
 
--- the head of a function, by what is tested of it
+-- the rule for the head of a function, as the conjunction of its tests
 pub head_by_parts : (program : Program) (f : Function) →
     is_head program f ≡ (are_new program [] f.params && (returns_well f && is_right_main f))
 head_by_parts program f =

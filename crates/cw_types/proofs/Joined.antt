@@ -1,4 +1,4 @@
--- The lines of a block, one after another.
+-- The lines of a block as a sequence.
 use Rattle.std.proofs.Common.{ℕ, take, ◌≡◌, ◌+◌, ◌≤◌, List, [], ◌∷◌, ◌++◌, length, refl, ap, arith}
 use Rattle.std.proofs.lemmas.List.{take-append-le, length_push}
 use Rattle.cw_model.specs.Syntax.{Stmt, Declare, DeclareArray, Assign, AssignElement, Reduce, Call, Start, Begin, Sync, If, IfElse, While, For, Scope, Cut, Region, Print, Return}
@@ -7,7 +7,7 @@ use Rattle.cw_tree.specs.Declares.{declares_in}
 use Rattle.cw_tree.specs.Resolved.{Block, End, Then, Locals, locals_after}
 use Rattle.cw_tree.specs.ResolvedView.{block_of, line_of, stmt_of}
 
--- statements after statements
+-- the concatenation of two blocks
 abbrev pub joined : Block → Block → Block
 joined End c = c
 joined (Then line s b) c = Then line s (joined b c)
@@ -20,7 +20,7 @@ pub joined_push : (ls : List Line) (l : Line) (c : Block) → joined (block_of (
 joined_push [] l c = grind (arith, the_lemmas)
 joined_push (k ∷ ls) l c = ap (Then (line_of k).0 (line_of k).1) (joined_push ls l c)
 
--- a statement declares no more locals behind itself than it declares in all
+-- a statement adds at most the number of locals that it declares in total
 pub counted : (l : Locals) (s : Stmt) → length (locals_after l s).ints + length (locals_after l s).arrays ≤ length l.ints + length l.arrays + declares_in s
 counted l (Declare x e) = let one = length_push l.ints x in omega (arith, one)
 counted l (DeclareArray a e) = let one = length_push l.arrays a in omega (arith, one)
@@ -41,7 +41,7 @@ counted l (Region tag b) = omega arith
 counted l (Print e) = omega arith
 counted l (Return e) = omega arith
 
--- what a statement declares stands behind what was known
+-- a statement only appends to the known locals
 pub grown_ints : (l : Locals) (s : Stmt) → length l.ints ≤ length (locals_after l s).ints
 grown_ints l (Declare x e) = let one = length_push l.ints x in omega (arith, one)
 grown_ints l (DeclareArray a e) = omega arith

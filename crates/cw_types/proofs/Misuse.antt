@@ -1,4 +1,4 @@
--- A name that is misused in a part of an expression is misused in the whole.
+-- A name that is misused in a part of an expression is misused in the whole expression.
 use Rattle.std.proofs.Common.{◌≡◌, ◌∷◌, ◌++◌, List, [], refl, arith, ℕ, zero, suc, ◌<◌, length, get_or, map, option_map, slice_get, Option, Some, sym, ap, ◌∙◌, true, false}
 use Rattle.std.proofs.lemmas.List.Elements.{Contains-append_left, Contains-append_right}
 use Rattle.cw_model.specs.declared.syntax.NameKind.{NameKind}
@@ -62,7 +62,7 @@ in_arrays program locals (a ∷ names) (suc k) d r h m =
     in_rest program locals (a, name_kind.Array) (as_arrays names) (as_arrays (a ∷ names)) r refl
     (in_arrays program locals names k d r (omega (arith, h)) m)
 
--- an array alone, for an array
+-- a name as an argument for an array is one use
 pub used_alone : (kind : NameKind) (a : Name) → is_array_kind kind ≡ true → uses_in_argument kind (Variable a) ≡ (a, kind) ∷ []
 used_alone name_kind.Integer a h = cc
 used_alone name_kind.Array a h = refl

@@ -1,4 +1,4 @@
--- The newest of a name, in a list and in a map.
+-- The newest name of a spelling, in a list and in a map.
 use Rattle.std.proofs.Common.{◌≡◌, ℕ, ◌+◌, Bool, true, false, if◌then◌else◌, cond, bytes_eq, List, [], ◌∷◌, ◌++◌, length, map, drop, ◌-◌, Option, Some, None}
 use Rattle.std.proofs.Common.{is_some, option_map, MatchOption, Contains, refl, sym, ap, ◌∙◌, Bor, arith, OnOk, OnErr, Result, Ok, Err, subst}
 use Rattle.std.proofs.lemmas.List.Elements.{Contains-append_left, Contains-append_right}
@@ -18,7 +18,7 @@ use Rattle.cw_types.specs.Names.{IsUnknown, known_as, known_names, may_stand}
 use Rattle.cw_types.specs.Scope.{Declared, kind_and_line, kinds, newest, oldest}
 use Rattle.cw_types.specs.Shadows.{known_from, local_of, with_entry, ShadowsRight, AreNewest}
 
--- a name is known as its newest says
+-- a name is known with the kind of its newest declaration
 pub known_so : (x : Name) (such : NameKind → Bool) (ds : List Declared) (l : Local) → Some l ≡ local_of x ds → is_known x such (kinds ds) ≡ such l.kind
 known_so x such [] l h = cc
 known_so x such (d ∷ ds) l h = first (same_name x d.name) h (known_so x such ds l)
@@ -37,7 +37,7 @@ unknown_so x such (d ∷ ds) h = first (same_name x d.name) h (unknown_so x such
     first true e more = cc
     first false e more = more e
 
--- a name is there where it stands for something
+-- a name is known exactly if it has a local
 pub among_has_local : (x : Name) (ds : List Declared) → is_among x (known_names (kinds ds)) ≡ is_some (local_of x ds)
 among_has_local x [] = refl
 among_has_local x (d ∷ ds) = first (same_name x d.name) (among_has_local x ds)
@@ -47,7 +47,7 @@ among_has_local x (d ∷ ds) = first (same_name x d.name) (among_has_local x ds)
     first true h = refl
     first false h = h
 
--- and it is the newest of its spelling
+-- `newest` and `local_of` have the same kind and line
 pub newest_so : (x : Name) (ds : List Declared) → option_map kind_and_line (newest x ds) ≡ option_map (λ (l : Local). (l.kind, l.line)) (local_of x ds)
 newest_so x [] = refl
 newest_so x (d ∷ ds) = first (same_name x d.name) (newest_so x ds)
@@ -58,7 +58,7 @@ newest_so x (d ∷ ds) = first (same_name x d.name) (newest_so x ds)
     first true h = refl
     first false h = h
 
--- what is found of a name
+-- the kind that the lookup of a name found
 pub found_kinds : (x : Name) (ds : List Declared) (found : Option Local) → found ≡ local_of x ds →
     MatchOption found (IsUnknown x (kinds ds)) (λ l. known_as x l.kind (kinds ds))
 found_kinds x ds None h = λ wanted. unknown_so x (may_stand wanted) ds h
@@ -73,12 +73,12 @@ found_newest x ds None h = none (newest x ds) (newest_so x ds ∙ ap (option_map
     none (Some d) e = cc
 found_newest x ds (Some l) h = newest_so x ds ∙ ap (option_map (λ (l : Local). (l.kind, l.line))) (sym h)
 
--- its line alone
+-- the line of the newest name
 pub newest_line : (o : Option Declared) (kind : NameKind) (line : ℕ) → option_map kind_and_line o ≡ Some (kind, line) → option_map (λ (d : Declared). d.line) o ≡ Some line
 newest_line None kind line h = cc
 newest_line (Some d) kind line h = ap (λ (p : NameKind × ℕ). Some p.1) (same_Some (d.kind, d.line) (kind, line) h)
 
--- the newest of a spelling is there, with its line
+-- the newest name of a spelling is among the names, with its line
 pub newest_there : (x : Name) (ds : List Declared) (kind : NameKind) (line : ℕ) → option_map kind_and_line (newest x ds) ≡ Some (kind, line) →
     Contains {X = Name × ℕ} (map (λ (d : Declared). (d.name, d.line)) ds) (x, line)
 newest_there x [] kind line h = cc
@@ -99,7 +99,7 @@ newest_there x (d ∷ ds) kind line h = first (same_name x d.name) refl h (newes
         pairs p q = ap (λ (n : Name). (n, line)) p ∙ ap (λ (l : ℕ). (d.name, l)) (sym q)
     first false e k more = Contains-append_right (named d ∷ []) (map named ds) (x, line) (more k)
 
--- what an entry stands for
+-- the local of an entry
 abbrev held : Entry → Local
 held e = record { kind = e.local.kind; line = e.local.line }
 
@@ -126,7 +126,7 @@ pub shadows_last : (ks : List Declared) (es : List Entry) (e : Entry) → Shadow
 shadows_last ks [] e h = h.0
 shadows_last ks (d ∷ es) e h = shadows_last (with_entry d ks) es e h.1
 
--- one entry more, and its kind put into the map
+-- one more entry, whose local is inserted into the map
 pub newest_more : {S : Type 0} (m n : HashMap (Bor (List ℕ)) Local S) (es : List Entry) (e : Entry) → AreNewest m es →
     e.shadowed ≡ get_by (λ k. bytes_eq e.name.now k.now) m →
     hash.UpdatesBy (λ x y. bytes_eq x.now y.now) (λ k. bytes_eq e.name.now k.now) m n (Some e.local) → AreNewest n (es ++ e ∷ [])
@@ -140,7 +140,7 @@ newest_more m n es e are old updates = record {
   hidden_right = shadows_snoc [] es e are.hidden_right (old ∙ are.newest_right e.name.now);
 }
 
--- the last entry less, and the kind that it hid put into the map
+-- one entry less, and the local that it hid is inserted into the map
 pub newest_less : {S : Type 0} (m n : HashMap (Bor (List ℕ)) Local S) (es : List Entry) (e : Entry) → AreNewest m (es ++ e ∷ []) →
     hash.UpdatesBy (λ x y. bytes_eq x.now y.now) (λ k. bytes_eq e.name.now k.now) m n e.shadowed → AreNewest n es
 newest_less m n es e are updates = record {
@@ -158,7 +158,7 @@ newest_less m n es e are updates = record {
     chosen true p q r h = h refl
     chosen false p q r h = refl
 
--- an insertion of a kind at a name that has one cannot fail
+-- inserting a local for a name that has one cannot fail
 pub known_again : {S A B : Type 0} (m n : HashMap (Bor (List ℕ)) Local S) (es : List Entry) (e : Entry) (local : Local) (r : Result A B) → AreNewest m (es ++ e ∷ []) →
     e.shadowed ≡ Some local →
     OnOk r (hash.UpdatesBy (λ x y. bytes_eq x.now y.now) (λ k. bytes_eq e.name.now k.now) m n (Some local)) →
@@ -176,7 +176,7 @@ known_again m n es e local (Err b) are hidden updates absent = absurd (there (by
         differ : (if same_name e.name.now e.name.now then Some (held e) else local_of e.name.now (known_from [] es)) ≡ Some (held e) → ⊥
         differ h = cc (kept, h)
 
--- the newest name is dropped
+-- the newest name is removed
 pub oldest_one : (k : Declared) (ks : List Declared) (n : ℕ) → n ≡ length (k ∷ ks) - 1 → oldest n (k ∷ ks) ≡ ks
 oldest_one k ks n h =
     let one : length (k ∷ ks) - n ≡ 1 = omega arith in

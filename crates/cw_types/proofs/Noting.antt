@@ -45,7 +45,7 @@ by_parts program returns known line (Region tag b) = refl
 by_parts program returns known line (Print e) = sym (append-nil (unless (keeps_rules program returns known (Print e)) line))
 by_parts program returns known line (Return e) = sym (append-nil (unless (keeps_rules program returns known (Return e)) line))
 
--- a statement and those after it, as they are noted
+-- the recorded lines of a statement and of the statements after it
 pub noted : (keeps rest_stands : Bool) (line : ℕ) (inner rest : List ℕ) (p q r s t : List (Option ℕ)) →
     q ≡ kept itself p (unless keeps line) → r ≡ kept itself q inner → s ≡ kept itself r (unless rest_stands line) → t ≡ kept itself s rest →
     t ≡ kept itself p ((unless keeps line ++ inner) ++ (unless rest_stands line ++ rest))
@@ -56,7 +56,7 @@ noted keeps stands line inner rest p q r s t first second third fourth =
     ∙ ap (λ o. kept itself o (unless stands line ++ rest)) (second ∙ ap (λ o. kept itself o inner) first ∙ sym (kept-append itself p (unless keeps line) inner))
     ∙ sym (kept-append itself p (unless keeps line ++ inner) (unless stands line ++ rest))
 
--- the first function of a name is the one at its place
+-- the first function with a name is at the position of the name
 pub called_at : (x : Name) (fs : List Function) → slice_get fs (slot_of x (function_names fs)) ≡ called x fs
 called_at x [] = refl
 called_at x (f ∷ fs) = first (same_name x f.name) (called_at x fs)
@@ -79,7 +79,7 @@ named_params x (f ∷ fs) = first (same_name x f.name) (named_params x fs)
 pub params_of_found : (x : Name) (fs : List Function) (found : Option Function) → found ≡ called x fs → params_in found ≡ (function_named x fs).params
 params_of_found x fs found h = ap params_in h ∙ sym (named_params x fs)
 
--- the first reducer of a name is the one at its place
+-- the first reducer with a name is at the position of the name
 pub reducer_at : (x : Name) (rs : List Reducer) → slice_get rs (slot_of x (reducer_names rs)) ≡ reducer_called x rs
 reducer_at x [] = refl
 reducer_at x (r ∷ rs) = first (same_name x r.name) (reducer_at x rs)
@@ -89,7 +89,7 @@ reducer_at x (r ∷ rs) = first (same_name x r.name) (reducer_at x rs)
     first true h = refl
     first false h = h
 
--- as many arguments as parameters
+-- the number of arguments must be the number of parameters
 pub unequal : (known : Known) (ps : List Param) (es : List Expr) → (length ps ≡ length es → ⊥) → are_arguments known ps es ≡ false
 unequal known [] [] h = absurd (h refl)
 unequal known [] (e ∷ es) h = refl
@@ -100,7 +100,7 @@ unequal known (p ∷ ps) (e ∷ es) h = first (is_argument known p.kind e) (uneq
     first true k = k
     first false k = refl
 
--- a function that was found
+-- the function that a lookup found
 pub found_function : (fs : List CodeFunction) (i : ℕ) (r : Option (Bor CodeFunction)) → option_copied r ≡ slice_get fs i → option_function r ≡ slice_get (map function_of fs) i
 found_function fs i r h = as_copied r ∙ ap (option_map function_of) h ∙ mapped fs i
   where
@@ -113,7 +113,7 @@ found_function fs i r h = as_copied r ∙ ap (option_map function_of) h ∙ mapp
     mapped (f ∷ fs) zero = refl
     mapped (f ∷ fs) (suc i) = mapped fs i
 
--- a reducer that was found
+-- the reducer that a lookup found
 pub found_reducer : (rs : List CodeReducer) (i : ℕ) (r : Option (Bor CodeReducer)) → option_copied r ≡ slice_get rs i → option_reducer r ≡ slice_get (map reducer_of rs) i
 found_reducer rs i r h = as_copied r ∙ ap (option_map reducer_of) h ∙ mapped rs i
   where
@@ -126,7 +126,7 @@ found_reducer rs i r h = as_copied r ∙ ap (option_map reducer_of) h ∙ mapped
     mapped (r ∷ rs) zero = refl
     mapped (r ∷ rs) (suc i) = mapped rs i
 
--- a name is that of a function where one is called so
+-- a function with this name exists exactly if the name is among the names of functions
 pub called_among : (x : Name) (fs : List Function) → is_some (called x fs) ≡ is_among x (names_of fs)
 called_among x [] = refl
 called_among x (f ∷ fs) = first (same_name x f.name) (called_among x fs)
@@ -136,7 +136,7 @@ called_among x (f ∷ fs) = first (same_name x f.name) (called_among x fs)
     first true h = refl
     first false h = h
 
--- and that of a reducer
+-- a reducer with this name exists exactly if the name is among the names of reducers
 pub reducer_among : (x : Name) (rs : List Reducer) → is_some (reducer_called x rs) ≡ is_among x (map (λ (r : Reducer). r.name) rs)
 reducer_among x [] = refl
 reducer_among x (r ∷ rs) = first (same_name x r.name) (reducer_among x rs)
@@ -150,13 +150,13 @@ pub as_some : {X Y : Type 0} (g : X → Y) (o : Option X) → is_some o ≡ is_s
 as_some g None = refl
 as_some g (Some x) = refl
 
--- a function that was found is the first of its name
+-- a function that a lookup found is the first function with its name
 pub first_function : (x : Name) (fs : List Function) (found : Option (Bor CodeFunction)) → option_function found ≡ called x fs →
     MatchOption found (called x fs ≡ None) (λ f. called x fs ≡ Some (function_of f.now))
 first_function x fs None h = sym h
 first_function x fs (Some f) h = sym h
 
--- a reducer that is called so is there, with its line
+-- a reducer that a lookup found is among the reducers, with its line
 pub reducer_there : (x : Name) (rs : List Reducer) (found : Option (Bor CodeReducer)) → option_reducer found ≡ reducer_called x rs →
     IfSome found (λ r. Contains (map name_and_line rs) (x, r.now.line))
 reducer_there x rs None h = tt
@@ -178,7 +178,7 @@ reducer_there x rs (Some found) h = search rs (sym h)
             Contains-append_left (name_and_line r ∷ []) (map name_and_line ss) (x, found.now.line) (0, omega arith, as_named r ((bytes_eq-Decides x r.name).0 (sym b)) (cc k))
         first false b k further = Contains-append_right (name_and_line r ∷ []) (map name_and_line ss) (x, found.now.line) (further k)
 
--- the last statement of a block
+-- a block returns exactly if its last statement does
 pub last_returns : (ls : List Line) (k : ℕ) (d : Line) → suc k ≡ length ls → block_returns (block_of ls) ≡ surely_returns (stmt_of (get_or ls k d).stmt)
 last_returns [] k d h = absurd (omega (arith, h))
 last_returns (l ∷ []) zero d h = grind (arith, the_lemmas)

@@ -1,4 +1,4 @@
--- The place of a name, where one more name comes.
+-- The position of a name after a name is appended.
 use Rattle.std.proofs.Common.{arith, ◌≡◌, ℕ, suc, ◌+◌, ◌<◌, ◌^◌, Bool, true, false, if◌then◌else◌, cond, bytes_eq, List, [], ◌∷◌, ◌++◌, length}
 use Rattle.std.proofs.Common.{Option, Some, None, IfSome, option_map, is_some, refl, sym, ap, ◌∙◌, Bor, length-append, map}
 use Rattle.std.proofs.lemmas.Slice.Eq.{bytes_eq-Decides}
@@ -32,7 +32,7 @@ slot_is_place x (y ∷ names) = first (slot_is_place x names) (same_name x y)
 pub slot_found : (x : Name) (names : List Name) (p : ℕ) → place_of x names ≡ Some p → slot_of x names ≡ p
 slot_found x names p h = slot_is_place x names ∙ ap (λ o. place_or o (length names)) h
 
--- what is found in the map, if something is, is the slot
+-- if the map has an entry for a name, the entry is its slot
 pub found_first : (x : Name) (names : List Name) (found : Option ℕ) → found ≡ place_of x names → IfSome found (λ p. p ≡ slot_of x names)
 found_first x names None h = tt
 found_first x names (Some p) h = sym (slot_found x names p (sym h))
@@ -64,7 +64,7 @@ kept (Some r) b q n h = refl
 kept None true q n h = cc (h refl)
 kept None false q n h = refl
 
--- a name that is there already gets no other place
+-- appending a name that is already there changes no position
 pub place_stays : (x : Name) (names : List Name) (y : Name) (q : ℕ) → place_of y names ≡ Some q → place_of x (names ++ y ∷ []) ≡ place_of x names
 place_stays x names y q h =
     push_if x names y
@@ -76,7 +76,7 @@ added (Some r) false n h = refl
 added None true n h = refl
 added None false n h = refl
 
--- a new name gets the next place
+-- a new name gets the next position
 pub place_more : (x : Name) (names : List Name) (y : Name) → place_of y names ≡ None → place_of x (names ++ y ∷ []) ≡ cond (bytes_eq y x) (Some (length names)) (place_of x names)
 place_more x names y h =
     push_if x names y
@@ -94,7 +94,7 @@ not_there None h = refl
 longer : (names : List Name) (y : Name) → length names + 1 < 2 ^ 32 → length (names ++ y ∷ []) < 2 ^ 32
 longer names y h = rw length-append h
 
--- the map keeps the places where the name is there
+-- the map remains correct if the appended name is already there
 pub places_stay : {S : Type 0} (m : HashMap (Bor (List ℕ)) ℕ S) (names : List Name) (y : Name) → ArePlaces m names → length names + 1 < 2 ^ 32 →
     true ≡ is_some (get_by (λ k. bytes_eq y k.now) m) → ArePlaces m (names ++ y ∷ [])
 places_stay m names y are fits h =
@@ -104,7 +104,7 @@ places_stay m names y are fits h =
       first = λ x. are.first x ∙ sym (place_stays x names y there.0 (sym (are.first y) ∙ there.1));
     }
 
--- and has them with the new one else
+-- the map remains correct if a new name is inserted
 pub places_more : {S : Type 0} (m n : HashMap (Bor (List ℕ)) ℕ S) (names : List Name) (y : Name) (place : ℕ) → place ≡ length names → ArePlaces m names → length names + 1 < 2 ^ 32 →
     false ≡ is_some (get_by (λ k. bytes_eq y k.now) m) →
     hash.UpdatesBy (λ x y. bytes_eq x.now y.now) (λ k. bytes_eq y k.now) m n (Some place) → ArePlaces n (names ++ y ∷ [])
@@ -147,7 +147,7 @@ was_there names y h = first (place_of y names) refl
 shorter : (names : List Name) (y : Name) → length (names ++ y ∷ []) < 2 ^ 32 → length names < 2 ^ 32
 shorter names y h = let more = length-append names (y ∷ []) in omega arith
 
--- the last name had its place, which goes with it
+-- removing the last name removes its entry if the entry is its position
 pub places_less : {S : Type 0} (m n : HashMap (Bor (List ℕ)) ℕ S) (names : List Name) (y : Name) → ArePlaces m (names ++ y ∷ []) →
     get_by (λ k. bytes_eq y k.now) m ≡ Some (length names) →
     hash.UpdatesBy (λ x y. bytes_eq x.now y.now) (λ k. bytes_eq y k.now) m n None → ArePlaces n names
@@ -166,7 +166,7 @@ places_less m n names y are here updates =
     gone false None k h = refl
     gone false (Some q) k h = refl
 
--- the last name had an earlier place, which stays
+-- removing the last name keeps its entry if the entry is an earlier position
 pub places_kept : {S : Type 0} (m : HashMap (Bor (List ℕ)) ℕ S) (names : List Name) (y : Name) → ArePlaces m (names ++ y ∷ []) →
     (get_by (λ k. bytes_eq y k.now) m ≡ Some (length names) → ⊥) → ArePlaces m names
 places_kept m names y are other =
@@ -180,7 +180,7 @@ some_later : (o : Option ℕ) → is_some (option_map suc o) ≡ is_some o
 some_later None = refl
 some_later (Some p) = refl
 
--- a name has a place where it is one of the names
+-- a name has a position exactly if it is one of the names
 pub among_has_place : (x : Name) (names : List Name) → is_among x names ≡ is_some (place_of x names)
 among_has_place x [] = refl
 among_has_place x (y ∷ names) = first (among_has_place x names) (same_name x y)
@@ -191,6 +191,6 @@ among_has_place x (y ∷ names) = first (among_has_place x names) (same_name x y
 
 pub ruleset found = (slot_found, slot_missing)
 
--- names that are borrowed, and one more
+-- a list of borrowed names with one appended
 pub one_more_name : (ks ls : List (Bor (List ℕ))) (k : Bor (List ℕ)) → ls ≡ ks ++ k ∷ [] → map (λ k. k.now) ls ≡ map (λ k. k.now) ks ++ k.now ∷ []
 one_more_name ks ls k e = ap (λ l. map (λ k. k.now) l) e ∙ map-append (λ k. k.now) ks (k ∷ [])

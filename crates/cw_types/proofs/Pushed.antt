@@ -1,4 +1,4 @@
--- What a list becomes, seen through a view, where one more is pushed.
+-- The view of a list after an element is pushed.
 use Rattle.std.proofs.Common.{◌≡◌, List, [], ◌∷◌, ◌++◌, map, refl, ap}
 
 pub map_pushed : {A : Type 0} {B : Type 0} (f : A → B) (xs : List A) (x : A) (rest : List B) →

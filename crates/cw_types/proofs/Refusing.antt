@@ -1,4 +1,4 @@
--- What a refusal answers.
+-- The results of rejecting a program.
 use Rattle.std.proofs.Common.{◌≡◌, ℕ, List, [], ◌∷◌, Option, Some, None, IfSome, MatchOption, option_map, refl, sym, ap, subst, ◌∙◌}
 use Rattle.cw_model.specs.Lines.{IsLeastLine, lowest}
 use Rattle.cw_model.specs.Sizes.{limit_faults}
@@ -20,7 +20,7 @@ use Rattle.cw_types.specs.declared.reason.TooLarge.{TooLarge}
 use Rattle.cw_types.specs.declared.told.Told.{Told}
 use Rattle.cw_types.proofs.Repeating.{behind, in_front}
 
--- the limit that is told of the least line is passed there
+-- the recorded limit is exceeded in the least line
 pub limit_told : (program : Program) (told : Told TooLarge) → line_told told ≡ lowest None (limit_faults program) →
     IsOf (IsPassedByParts program) told → MatchOption told.first (IsWithin program) (IsPassedAt program)
 limit_told program told lines holds = by_case told.first lines holds
@@ -30,18 +30,18 @@ limit_told program told lines holds = by_case told.first lines holds
     by_case None l h = no_lines (limit_faults program) (sym l)
     by_case (Some at) l h = (least_line (limit_faults program) at.line (sym l), h)
 
--- a limit that is told is passed
+-- a limit that is found is exceeded
 pub passed_so : (program : Program) (found : Option (At TooLarge)) (at : At TooLarge) → found ≡ Some at →
     MatchOption found (IsWithin program) (IsPassedAt program) → IsPassedAt program at
 passed_so program found at is h = subst (λ (o : Option (At TooLarge)). MatchOption o (IsWithin program) (IsPassedAt program)) is h
 
--- where none is told none is passed
+-- if no limit is found, no limit is exceeded
 pub within_so : (program : Program) (found : Option (At TooLarge)) → ((at : At TooLarge) → found ≡ Some at → ⊥) →
     MatchOption found (IsWithin program) (IsPassedAt program) → IsWithin program
 within_so program None none h = h
 within_so program (Some at) none h = absurd (none at refl)
 
--- where no line is found none breaks a rule
+-- if no line is found, no line breaks a rule
 pub typed_so : (lines : List ℕ) (found : Option ℕ) → ((line : ℕ) → found ≡ Some line → ⊥) → found ≡ lowest None lines → lines ≡ []
 typed_so lines None none h = no_lines lines (sym h)
 typed_so lines (Some line) none h = absurd (none line refl)
@@ -50,16 +50,16 @@ typed_so lines (Some line) none h = absurd (none line refl)
 pub least_so : (lines : List ℕ) (found : Option ℕ) (line : ℕ) → found ≡ Some line → found ≡ lowest None lines → IsLeastLine lines line
 least_so lines found line is h = least_line lines line (sym h ∙ is)
 
--- the first line that is told is the least
+-- the first recorded line is the least
 pub first_told : (told : Reasons IllTyped) (lines : List ℕ) → lines_at told.places ≡ kept itself no_place lines →
     option_map line_of (first_of told.places) ≡ lowest None lines
 first_told told lines h = sym (first-map line_of told.places) ∙ ap first_of h ∙ first-lowest lines
 
--- the lines that are told are the least
+-- the recorded lines are the least
 pub lines_told : (told : Reasons IllTyped) (lines : List ℕ) → lines_at told.places ≡ kept itself no_place lines → lines_of told ≡ least_lines lines
 lines_told told lines h = sym (there-map line_of told.places) ∙ ap there h ∙ there-rising itself lines
 
--- where a limit is passed no further line is told
+-- if a limit is exceeded, no line that breaks a rule is reported
 pub none_past : (program : Program) (at : At TooLarge) → IsPassedAt program at → refused_lines program ≡ []
 none_past program at h = none (limit_faults program) h.0
   where
@@ -67,7 +67,7 @@ none_past program at h = none (limit_faults program) h.0
     none [] least = absurd (no_least [] at.line refl least)
     none (l ∷ ls) least = refl
 
--- where none is passed all that break a rule are told of
+-- if no limit is exceeded, all lines that break a rule are candidates
 pub all_within : (program : Program) → IsWithin program → refused_lines program ≡ type_faults program
 all_within program h = ap (λ limits. where_none limits (type_faults program)) h
 
@@ -76,7 +76,7 @@ pub no_main_true : (program : Program) (found : Option IllTyped) → IfSome foun
 no_main_true program None h = h
 no_main_true program (Some r) h = OfProgram refl h
 
--- names that are there twice among functions or reducers alone
+-- repeated names among functions only or among reducers only
 pub of_functions : (program : Program) (line : ℕ) (r : IllTyped) → IsRepeatedIn (functions_named program.functions) line r → IsTold program line r
 of_functions program line r h =
     OfNames (record {

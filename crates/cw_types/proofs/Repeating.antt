@@ -1,4 +1,4 @@
--- Names that are there twice.
+-- Repeated names.
 use Rattle.std.proofs.Common.{Bool, true, false, if◌then◌else◌, ◌≡◌, ◌<◌, ◌+◌, ℕ, List, [], ◌∷◌, ◌++◌, length, take, map, get_or, Contains, Option, None, Some}
 use Rattle.std.proofs.Common.{IfSome, is_some, slice_get, min, nat_le, option_map, subst, zero, suc, refl, sym, ap, ◌∙◌, arith, length-append}
 use Rattle.std.proofs.lemmas.List.{map-append, get_or-append-add, get_or-take, get_or_append_left, length-take, map_more, take-map}
@@ -12,7 +12,7 @@ use Rattle.cw_types.specs.Scope.{Declared}
 use Rattle.cw_types.specs.Told.{AreBothIn, IsRepeatedIn, IsRepeatedOf, IsRepeating}
 use Rattle.cw_types.specs.declared.reason.IllTyped.{IllTyped}
 
--- what stands among the first so many, and what stands behind them
+-- an element at a position and an element before it are both in the list
 pub are_both : {X : Type 0} (xs : List X) (i : ℕ) (x y : X) → i < length xs → y ≡ get_or xs i y → Contains (take i xs) x → AreBothIn xs x y
 are_both xs i x y h at found =
     let counted : length (take i xs) ≡ min i (length xs) = length-take i xs in
@@ -26,7 +26,7 @@ are_both xs i x y h at found =
       more = slice_get_read xs (length xs) i y refl h at;
     }
 
--- one stands in each of two lists
+-- an element of each of two lists
 pub are_in_both : {X : Type 0} (xs ys : List X) (x y : X) → Contains xs x → Contains ys y → AreBothIn (xs ++ ys) x y
 are_in_both xs ys x y found more =
     let counted = length-append xs ys in
@@ -69,7 +69,7 @@ behind zs xs x y h =
 turned_round : {X : Type 0} (xs : List X) (x y : X) → AreBothIn xs x y → AreBothIn xs y x
 turned_round xs x y h = record { place = h.other; other = h.place; apart = λ same. h.apart (sym same); one = h.more; more = h.one }
 
--- a function and a reducer of one name
+-- a function and a reducer with the same name
 pub shared_both : (fs rs : List (Name × ℕ)) (x : Name) (r f : ℕ) → Contains fs (x, f) → Contains rs (x, r) →
     AreBothIn (fs ++ rs) (x, earlier_line r f) (x, later_line r f)
 shared_both fs rs x r f one more = either (nat_le r f)
@@ -78,7 +78,7 @@ shared_both fs rs x r f one more = either (nat_le r f)
     either true = turned_round (fs ++ rs) (x, f) (x, r) (are_in_both fs rs (x, f) (x, r) one more)
     either false = are_in_both fs rs (x, f) (x, r) one more
 
--- an element as it is seen
+-- an element of the list under a view
 pub in_map : {X Y : Type 0} (u : X → Y) (xs : List X) (i : ℕ) (d : X) → i < length xs → d ≡ get_or xs i d → Contains (map u xs) (u d)
 in_map u xs i d h at =
     let here : slice_get (map u xs) i ≡ Some (u d) = slice_get-map u xs i ∙ ap (option_map u) (slice_get_read xs (length xs) i d refl h at) in
@@ -91,7 +91,7 @@ in_maps u g xs i d h at =
     slice_get-map g (map u xs) i ∙ ap (option_map g) (slice_get-map u xs i ∙ ap (option_map u) (slice_get_read xs (length xs) i d refl h at)) in
     (i, slice_get_within (map g (map u xs)) i (g (u d)) here, get_or_from_slice_get (map g (map u xs)) i (g (u d)) (g (u d)) here)
 
--- an element, and what stands before it
+-- an element under a view, and an element before it
 pub both_mapped : {X Y Z : Type 0} (u : X → Y) (g : Y → Z) (xs : List X) (i : ℕ) (d : X) (e : Z) → i < length xs → d ≡ get_or xs i d →
     Contains (map g (map u (take i xs))) e → AreBothIn (map g (map u xs)) e (g (u d))
 both_mapped u g xs i d e h at found =
@@ -102,7 +102,7 @@ both_mapped u g xs i d e h at found =
     (sym (get_or_from_slice_get (map g (map u xs)) i (g (u d)) (g (u d)) here))
     (subst (λ (ys : List _). Contains ys e) (sym front) found)
 
--- a name among others
+-- a name among names is an element of the list
 pub among_there : (x : Name) (xs : List Name) → is_among x xs ≡ true → Contains xs x
 among_there x [] h = cc
 among_there x (y ∷ xs) h = first (same_name x y) refl h (among_there x xs)
@@ -115,7 +115,7 @@ pub one_more : {X Y : Type 0} (u : X → Y) (xs : List X) (i : ℕ) (d : X) → 
     map u (take (i + 1) xs) ≡ map u (take i xs) ++ u d ∷ []
 one_more u xs i d h at = map_more u xs i d h ∙ ap (λ y. map u (take i xs) ++ u y ∷ []) (sym at)
 
--- what stood before a place stands before the next one, and so does what stands there
+-- the elements before the next position are those before this position and the element at it
 pub more_earlier : {X Y : Type 0} (u : X → Y) (g : Y → Name × ℕ) (xs : List X) (i : ℕ) (x : X) (here : Name × ℕ) (earlier : List (Name × ℕ)) (d : Name × ℕ) →
     i < length xs → x ≡ get_or xs i x → here ≡ g (u x) → (Contains earlier d → Contains (map g (map u (take i xs))) d) → Contains (here ∷ earlier) d →
     Contains (map g (map u (take (i + 1) xs))) d
@@ -132,20 +132,20 @@ more_earlier u g xs i x here earlier d h at is further found =
         subst (λ (e : Name × ℕ). Contains (before ++ g (u x) ∷ []) e) (sym is ∙ same) (Contains-append_right before (g (u x) ∷ []) (g (u x)) (0, omega arith, refl))
     either (suc k) bound same = Contains-append_left before (g (u x) ∷ []) d (further (k, omega (arith, bound), same))
 
--- what is read does not depend on what would be read outside
+-- reading within the list does not depend on the default
 pub same_get : {X : Type 0} (xs : List X) (i : ℕ) (d e : X) → i < length xs → get_or xs i d ≡ get_or xs i e
 same_get [] i d e h = absurd (omega (arith, h))
 same_get (x ∷ xs) zero d e h = refl
 same_get (x ∷ xs) (suc i) d e h = same_get xs i d e (omega (arith, h))
 
--- an earlier name is there again
+-- a name that repeats an earlier one satisfies `IsRepeatedIn`
 pub repeated_true : (all : List (Name × ℕ)) (earlier : List Declared) (name : Name) (line : ℕ) (found : Option IllTyped) →
     ((other : ℕ) → Contains {X = Name × ℕ} (map (λ (e : Declared). (e.name, e.line)) earlier) (name, other) → AreBothIn all (name, other) (name, line)) →
     IfSome found (IsRepeatedOf earlier name) → IfSome found (IsRepeatedIn all line)
 repeated_true all earlier name line None both h = h
 repeated_true all earlier name line (Some r) both h = h all line both
 
--- a function's name is that of a reducer
+-- a function and a reducer with the same name satisfy `IsRepeatedIn`
 pub shared_true : (all : List (Name × ℕ)) (name : Name) (other line : ℕ) (found : Option IllTyped) →
     (is_some found ≡ true → AreBothIn all (name, other) (name, line)) → IfSome found (IsRepeating name other) → IfSome found (IsRepeatedIn all line)
 shared_true all name other line None both h = h

@@ -1,4 +1,4 @@
--- What is told of lines that are noted one after another.
+-- The condition on the recorded entry after several lines are recorded.
 use Rattle.std.proofs.Common.{Bool, true, false, not, ◌||◌, ◌≡◌, ℕ, nat_le, if◌then◌else◌, arith, List, [], ◌∷◌, Contains, Option, Some, None, IfSome, refl, sym, ap, ◌∙◌, subst}
 use Rattle.std.proofs.lemmas.Bool.Decides.{nat_tests}
 use Rattle.std.specs.Option.{option_to_list}
@@ -8,7 +8,7 @@ use Rattle.cw_reasons.specs.declared.reasons.At.{At}
 use Rattle.cw_types.specs.Telling.{AsBefore, Anew, IsOf, IsTheLeast, IsTheOne, Tells}
 use Rattle.cw_types.specs.declared.told.Told.{Told}
 
--- what is true of more is told of more
+-- a condition on recorded entries may be weakened
 pub weaken : {R : Type 0} (Such More : ℕ → R → Type 0) (a b : Told R) → ((line : ℕ) (r : R) → Such line r → More line r) → Tells Such a b → Tells More a b
 weaken {R} Such More a b f (AsBefore same) = AsBefore same
 weaken {R} Such More a b f (Anew holds) = Anew (lift b.first holds)
@@ -17,17 +17,17 @@ weaken {R} Such More a b f (Anew holds) = Anew (lift b.first holds)
     lift None h = h
     lift (Some at) h = f at.line at.reason h
 
--- what is told is still told
+-- an unchanged record satisfies the same conditions
 pub still : {R : Type 0} (Such : ℕ → R → Type 0) (a b : Told R) → b.first ≡ a.first → IsOf Such a → IsOf Such b
 still {R} Such a b same holds = subst (λ (o : Option (At R)). IfSome o (λ at. Such at.line at.reason)) (sym same) holds
 
--- one thing after another
+-- two recordings of entries that satisfy `Such` compose
 pub and_then : {R : Type 0} (Such : ℕ → R → Type 0) (a b c : Told R) → Tells Such a b → Tells Such b c → Tells Such a c
 and_then {R} Such a b c (AsBefore first) (AsBefore second) = AsBefore (second ∙ first)
 and_then {R} Such a b c (Anew first) (AsBefore second) = Anew (still Such b c second first)
 and_then {R} Such a b c first (Anew second) = Anew second
 
--- a reason that was found is told where it is true
+-- if the reason found for a line satisfies `Such`, recording it keeps `Tells Such`
 pub found_true : {R : Type 0} (Such : ℕ → R → Type 0) (a b : Told R) (line : ℕ) (found : Option R) → IfSome found (Such line) →
     Tells (IsTheOne line found) a b → Tells Such a b
 found_true {R} Such a b line None holds told = weaken (IsTheOne line None) Such a b (λ at r h. cc (h.1)) told
@@ -38,13 +38,13 @@ found_true {R} Such a b line (Some reason) holds told = weaken (IsTheOne line (S
         let is : reason ≡ r = cc e in
         subst (λ (q : R). Such line q) is holds
 
--- the least of some lines is one of them
+-- recording the least of some lines keeps `Tells Such`, because it is one of them
 pub least_true : {R : Type 0} (Such : ℕ → R → Type 0) (a b : Told R) (least : Option ℕ) (lines : List ℕ) (reason : R) → least ≡ lowest None lines →
     ((line : ℕ) → Contains lines line → Such line reason) → Tells (IsTheLeast least reason) a b → Tells Such a b
 least_true {R} Such a b least lines reason is holds told =
     weaken (IsTheLeast least reason) Such a b (λ at r h. rw h.1 (holds at (least_line lines at (sym is ∙ h.0)).there)) told
 
--- all that is told is true, where nothing was told before
+-- if nothing was recorded before, the recorded entry satisfies `Such`
 pub all_true : {R : Type 0} (Such : ℕ → R → Type 0) (a b : Told R) → a.first ≡ None → Tells Such a b → IsOf Such b
 all_true {R} Such a b none (AsBefore same) = subst (λ (o : Option (At R)). IfSome o (λ at. Such at.line at.reason)) (sym (same ∙ none)) tt
 all_true {R} Such a b none (Anew holds) = holds
@@ -53,7 +53,7 @@ lesser_twice : (o : Option ℕ) (m y : ℕ) → lesser o (if nat_le m y then m e
 lesser_twice None m y = refl
 lesser_twice (Some k) m y = ap Some (grind (arith, nat_tests))
 
--- the least of lines, noted at once
+-- recording the least of some lines is the same as recording all of them
 pub lowest_least : (o : Option ℕ) (lines : List ℕ) → lowest o (option_to_list (lowest None lines)) ≡ lowest o lines
 lowest_least o lines = after None lines
   where

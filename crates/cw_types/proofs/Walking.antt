@@ -1,4 +1,4 @@
--- What is known while a walk goes over statements and parameters.
+-- The known names during a traversal of statements and parameters.
 use Rattle.std.proofs.Common.{Bool, true, false, if◌then◌else◌, not, ◌&&◌, ◌||◌, ◌==◌, ◌≡◌, ◌≤◌, ℕ, suc, ◌-◌, List, [], ◌∷◌, ◌++◌, length, drop, map, get_or, refl, sym, ap, ◌∙◌, arith, append_assoc}
 use Rattle.cw_model.specs.declared.syntax.NameKind.TheVariants as name_kind
 use Rattle.cw_model.specs.Names.{is_among, same_name}
@@ -38,7 +38,7 @@ kinds_after line (Region tag b) locals = refl
 kinds_after line (Print e) locals = refl
 kinds_after line (Return e) locals = refl
 
--- a statement adds to the names that are known
+-- a statement keeps the oldest names
 pub oldest_after : (line : ℕ) (s : Stmt) (ks : List Declared) (n : ℕ) → n ≤ length ks → oldest n (after_stmt line s ks) ≡ oldest n ks
 oldest_after line (Declare x e) ks n h = oldest_more (record { name = x; kind = name_kind.Integer; line = line }) ks n h
 oldest_after line (DeclareArray a e) ks n h = oldest_more (record { name = a; kind = name_kind.Array; line = line }) ks n h
@@ -86,12 +86,12 @@ kinds_of_params line (p ∷ ps) locals =
     kinds_of_params line ps (with_local p.name p.kind line locals)
     ∙ sym (append_assoc (known_of ps) ((p.name, p.kind) ∷ []) (kinds locals))
 
--- the last parameter is known first
+-- the last parameter is the newest known name
 pub known_more : (ps : List Param) (p : Param) → known_of (ps ++ p ∷ []) ≡ (p.name, p.kind) ∷ known_of ps
 known_more [] p = refl
 known_more (q ∷ ps) p = ap (λ known. known ++ (q.name, q.kind) ∷ []) (known_more ps p)
 
--- parameters are known by their names
+-- the known names of parameters are the names of the parameters
 pub among_params : (x : Name) (ps : List Param) → is_among x (known_names (known_of ps)) ≡ is_among x (map (λ p. p.name) ps)
 among_params x [] = refl
 among_params x (p ∷ ps) =
@@ -110,7 +110,7 @@ among_params x (p ∷ ps) =
     turned false true = refl
     turned false false = refl
 
--- a parameter may be declared behind others, and so may the rest
+-- the test of the parameters, split into the first one and the rest
 pub new_step : (program : Program) (ps : List Param) (p : Param) (rest : List Param) →
     are_new program (known_of ps) (p ∷ rest)
     ≡ (not (is_among p.name (param_names ps) || is_among p.name (globals program)) && are_new program (known_of (ps ++ p ∷ [])) rest)
@@ -118,7 +118,7 @@ new_step program ps p rest =
     ap (λ b. not (b || is_among p.name (globals program)) && are_new program ((p.name, p.kind) ∷ known_of ps) rest) (among_params p.name ps)
     ∙ ap (λ known. not (is_among p.name (param_names ps) || is_among p.name (globals program)) && are_new program known rest) (sym (known_more ps p))
 
--- what follows begins at the line of the first statement
+-- the block after a statement begins in the line of its first statement
 pub begins : (ls : List Line) (d : Line) → (length ls == 0) ≡ false → BeginsAt (get_or ls 0 d).line (block_of ls)
 begins [] d h = cc
 begins (l ∷ ls) d h = grind (arith, the_lemmas)

@@ -1,4 +1,4 @@
--- What the code answers where it has looked names up.
+-- The results of the code that looks names up.
 use Rattle.std.specs.Prelude.{◌≡◌, ◌≤◌, ◌+◌, ◌++◌, ℕ, List, length, map, Option, option_map, Result, IfOk}
 use Rattle.std.specs.Global.{Vec}
 use Rattle.cw_model.specs.declared.limits.TheConstants.{MOST_DECLARED}
@@ -36,52 +36,52 @@ use Rattle.cw_tree.specs.Resolved as spec
 use Rattle.cw_tree.specs.ResolvedView.{use_of, expr_of, argument_of, head_of, parts_of, stmt_of, block_of}
 use Rattle.cw_tree.specs.ResolvedView.{function_of, reducer_of}
 
--- an expression, where these locals are known
+-- the resolved expression among these locals
 abbrev pub IsExpr : Locals → Expr → made_expr.Expr → Type 0
 IsExpr locals e found = expr_of found ≡ spec.resolved_expr (locals_view locals) (parsed.expr_of e)
 
--- a name alone as an argument for the first of these parameters
+-- the resolved name as an argument for the first of these parameters
 abbrev pub IsNameAlone : Locals → List Param → Name → made_argument.Argument → Type 0
 IsNameAlone locals ps x found = argument_of found ≡ spec.resolved_name (locals_view locals) (map parsed.param_of ps) x
 
--- an argument for the first of these parameters
+-- the resolved argument for the first of these parameters
 abbrev pub IsArgument : Locals → List Param → Expr → made_argument.Argument → Type 0
 IsArgument locals ps e found =
     argument_of found ≡ spec.resolved_argument (locals_view locals) (map parsed.param_of ps) (parsed.expr_of e)
 
--- arguments for these parameters, in their order
+-- the resolved arguments for these parameters, in order
 abbrev pub AreArguments : Locals → List Param → List Expr → List made_argument.Argument → Type 0
 AreArguments locals ps es found =
     map argument_of found
     ≡ spec.resolved_arguments (locals_view locals) (map parsed.param_of ps) (map parsed.expr_of es)
 
--- what takes a result, if anything does, among these names
+-- the resolved target of a result, if there is one
 abbrev pub IsTarget : List Name → Option Name → Option made_use.Use → Type 0
 IsTarget names x found = option_map use_of found ≡ option_map (spec.use_of names) x
 
--- what is returned, if anything is
+-- the resolved expression of a return, if there is one
 abbrev pub IsReturned : Locals → Option Expr → Option made_expr.Expr → Type 0
 IsReturned locals e found =
     option_map expr_of found ≡ option_map (spec.resolved_expr (locals_view locals)) (option_map parsed.expr_of e)
 
--- a call
+-- the resolved call
 abbrev pub IsCall : Lists → Locals → Call → made_call.Call → Type 0
 IsCall lists locals c found = call_of found ≡ resolved_call (lists_view lists) (locals_view locals) c
 
--- the head of a loop with this body
+-- the resolved head of a loop with this body
 abbrev pub IsHead : Locals → Head → List made_line.Line → made_head.Head → Type 0
 IsHead locals h body found = head_of found ≡ resolved_head (locals_view locals) h (block_of body)
 
--- a cut
+-- the resolved cut
 abbrev pub IsCut : Locals → Cut → made_cut.Cut → Type 0
 IsCut locals c found = parts_of found ≡ resolved_cut (locals_view locals) c
 
--- a statement
+-- the resolved statement
 abbrev pub IsStmt : Lists → Locals → Stmt → made_stmt.Stmt → Type 0
 IsStmt lists locals s found =
     stmt_of found ≡ spec.resolved_stmt (lists_view lists) (locals_view locals) (parsed.stmt_of s)
 
--- a parallel loop by its head and its body, and a cut by its parts and its block
+-- a parallel loop with this head and this body, and a cut with these parts and this block
 abbrev pub loop_over : Head → List Line → model.Stmt
 loop_over h b =
     model.For h.variable h.tested h.stepped (parsed.expr_of h.from) (parsed.expr_of h.to) h.grain h.over.items
@@ -90,7 +90,7 @@ loop_over h b =
 abbrev pub cut_over : Cut → List Line → model.Stmt
 cut_over c b = model.Cut c.array (parsed.expr_of c.at) c.left c.right (parsed.block_of b)
 
--- such a loop, and such a cut
+-- the resolved loop, and the resolved cut
 abbrev pub IsLoop : Lists → Locals → Head → List Line → made_stmt.Stmt → Type 0
 IsLoop lists locals h b found =
     stmt_of found ≡ spec.resolved_stmt (lists_view lists) (locals_view locals) (loop_over h b)
@@ -99,22 +99,22 @@ abbrev pub IsCutOver : Lists → Locals → Cut → List Line → made_stmt.Stmt
 IsCutOver lists locals c b found =
     stmt_of found ≡ spec.resolved_stmt (lists_view lists) (locals_view locals) (cut_over c b)
 
--- the statements of a block
+-- the resolved statements of a block
 abbrev pub IsBlock : Lists → Locals → List Line → List made_line.Line → Type 0
 IsBlock lists locals b found =
     block_of found ≡ spec.resolved_block (lists_view lists) (locals_view locals) (parsed.block_of b)
 
--- this was found, and the locals that are known are those of before
+-- a result was found, and the known locals are unchanged
 pub record IsFound (Found : Type 0) (before after : Locals) : Type 0 where
   pub tree : Found
   pub ints : after.ints ≡ before.ints
   pub arrays : after.arrays ≡ before.arrays
 
--- where memory did not run out, such a thing was found, and the locals that are known are those of before
+-- if the result is `Ok`, a result that satisfies `Such` was found, and the known locals are unchanged
 abbrev pub Finds : {A E : Type 0} → (A → Type 0) → (before after : Locals) → Result A E → Type 0
 Finds Such before after r = IfOk r (λ found. IsFound (Such found) before after)
 
--- what a program lists, whose first regions these are
+-- the names that a program lists, if `marked` holds the first region of each tag
 abbrev pub AreLists : Ast → List Marked → Lists → Type 0
 AreLists ast marked lists =
     lists_view lists ≡ record {
@@ -124,24 +124,24 @@ AreLists ast marked lists =
       tags = tags_of marked;
     }
 
--- a function declares no more names than it may, its parameters included
+-- the number of names that a function declares, including its parameters, keeps the limit
 abbrev pub DeclaresFew : Function → Type 0
 DeclaresFew f = length f.params.items + declares_in_block (parsed.block_of f.body.items) ≤ MOST_DECLARED
 
--- a function
+-- the resolved function
 abbrev pub IsFunction : Lists → Function → made_function.Function → Type 0
 IsFunction lists f found = function_of found ≡ spec.resolved_function (lists_view lists) (parsed.function_of f)
 
--- functions in their order
+-- the resolved functions, in order
 abbrev pub AreFunctions : Lists → List Function → List made_function.Function → Type 0
 AreFunctions lists fs found =
     map function_of found ≡ map (spec.resolved_function (lists_view lists)) (map parsed.function_of fs)
 
--- reducers in their order
+-- the reducers, in order
 abbrev pub AreReducers : List Reducer → List made_reducer.Reducer → Type 0
 AreReducers rs found = map reducer_of found ≡ map parsed.reducer_of rs
 
--- the integers among the first so many that a block reads
+-- the integers with slots below `count` that a block reads
 abbrev pub AreCaptured : ℕ → List made_line.Line → Vec made_use.Use → Type 0
 AreCaptured count body found = map use_of found.items ≡ spec.captured_in count (block_of body)
 
@@ -149,30 +149,30 @@ AreCaptured count body found = map use_of found.items ≡ spec.captured_in count
 abbrev pub read_by : List made_argument.Argument → List spec.Use
 read_by es = spec.arguments_read (map argument_of es)
 
--- behind the uses found before there is this one, if it has one of the first so many slots and none has that slot
+-- the use is appended if its slot is below `count` and new
 abbrev pub FindsOne : ℕ → spec.Use → (before after : Vec made_use.Use) → Type 0
 FindsOne count used before after = map use_of after.items ≡ spec.with_first count (map use_of before.items) used
 
--- and so for each of these
+-- each of the uses is appended if its slot is below `count` and new
 abbrev pub FindsUses : ℕ → List spec.Use → (before after : Vec made_use.Use) → Type 0
 FindsUses count uses before after = map use_of after.items ≡ spec.first_uses count (map use_of before.items) uses
 
--- the integers among parameters, in their order
+-- the integers among parameters, in order
 abbrev pub int_params : List Param → List Name
 int_params params = (spec.locals_of (map parsed.param_of params)).ints
 
--- the arrays among them
+-- the arrays among parameters, in order
 abbrev pub array_params : List Param → List Name
 array_params params = (spec.locals_of (map parsed.param_of params)).arrays
 
--- the integers among parameters stand behind those known before
+-- the integers among the parameters follow the integers known before
 abbrev pub AddsInts : List Param → (before after : Locals) → Type 0
 AddsInts params before after = after.ints ≡ before.ints ++ int_params params
 
--- and the arrays among them behind those
+-- the arrays among the parameters follow the arrays known before
 abbrev pub AddsArrays : List Param → (before after : Locals) → Type 0
 AddsArrays params before after = after.arrays ≡ before.arrays ++ array_params params
 
--- the locals after a statement's own declaration
+-- the locals after the declaration of a statement
 abbrev pub Declared : Stmt → (before after : Locals) → Type 0
 Declared s before after = locals_view after ≡ spec.locals_after (locals_view before) (parsed.stmt_of s)

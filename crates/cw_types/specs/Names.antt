@@ -1,11 +1,11 @@
--- What a name is where it stands, and the names of what is declared.
+-- The kind that is required of a name, and the names that are declared.
 use Rattle.std.specs.Prelude.{◌≡◌, Bool, false, not, List, map}
 use Rattle.cw_model.specs.declared.syntax.NameKind.{NameKind}
 use Rattle.cw_model.specs.declared.syntax.NameKind.TheVariants.{Integer, Array, Const}
 use Rattle.cw_model.specs.Syntax.{Name, Param, Function, is_array_kind, is_written_kind}
 use Rattle.cw_model.specs.Typing.{Known, is_known}
 
--- what may stand where a name of this kind must: an integer, an array that may be written, or any array
+-- the kinds that fit a required kind: an integer, an array that may be written, or any array
 abbrev pub may_stand : NameKind → (NameKind → Bool)
 may_stand Integer = λ kind. not (is_array_kind kind)
 may_stand Array = is_written_kind
@@ -15,11 +15,11 @@ may_stand Const = is_array_kind
 abbrev pub IsUnknown : Name → Known → Type 0
 IsUnknown x known = (wanted : NameKind) → is_known x (may_stand wanted) known ≡ false
 
--- the newest of this spelling is of this kind, and so stands where that may
+-- the newest name of this spelling has this kind, and so it fits where this kind fits
 abbrev pub known_as : Name → NameKind → Known → Type 0
 known_as x kind known = (wanted : NameKind) → is_known x (may_stand wanted) known ≡ may_stand wanted kind
 
--- the names alone
+-- the names without their kinds
 abbrev pub known_names : Known → List Name
 known_names known = map (λ k. k.0) known
 

@@ -1,4 +1,4 @@
--- The lines that pass a limit, and what noting those of tags leaves.
+-- The lines that exceed a limit, and the effect of recording the lines of tags.
 use Rattle.std.specs.Prelude.{◌≡◌, ℕ, nat_le, List, [], ◌∷◌, length, map, drop}
 use Rattle.cw_model.specs.declared.limits.TheConstants.{MOST_FUNCTIONS, MOST_REDUCERS, MOST_TAG_BYTES, MOST_TAGS}
 use Rattle.cw_model.specs.Lines.{lowest, unless}
@@ -21,11 +21,11 @@ function_lines functions = map (λ f. f.line) (map function_of functions)
 abbrev pub reducer_lines : List Reducer → List ℕ
 reducer_lines reducers = map (λ r. r.line) (map reducer_of reducers)
 
--- the lines of functions behind the most of them
+-- the lines of the functions past the limit
 abbrev pub functions_past : List Function → List ℕ
 functions_past functions = lines_beyond MOST_FUNCTIONS (function_lines functions)
 
--- the lines of reducers behind the most of them
+-- the lines of the reducers past the limit
 abbrev pub reducers_past : List Reducer → List ℕ
 reducers_past reducers = lines_beyond MOST_REDUCERS (reducer_lines reducers)
 
@@ -33,15 +33,15 @@ reducers_past reducers = lines_beyond MOST_REDUCERS (reducer_lines reducers)
 abbrev pub long_tag : Name × ℕ → List ℕ
 long_tag d = unless (nat_le (length d.0) MOST_TAG_BYTES) d.1
 
--- the lines of the first places of tags behind the most of them
+-- the lines of the first regions of the tags past the limit
 abbrev pub tags_past : List (Name × ℕ) → List ℕ
 tags_past regions = lines_beyond MOST_TAGS (map (λ d. d.1) (first_places regions []))
 
--- the lines of the first places of tags behind those that were seen
+-- the lines of the first regions of tags that are not among those seen
 abbrev pub places_behind : List Declared → List (Name × ℕ) → List ℕ
 places_behind seen regions = map (λ d. d.1) (first_places regions (known_names (kinds seen)))
 
--- of the first places of tags, before which there is this room, one region's was noted where it is past it
+-- this region is recorded if its tag is new and past the room for `room` new tags; room for `left` remains
 abbrev pub TakesTag : (room : ℕ) → Marked → (seen after_seen : List Declared) → (before after : LeastLine) → (left : ℕ) → Type 0
 TakesTag room region seen after_seen before after left =
     (more : List (Name × ℕ)) →

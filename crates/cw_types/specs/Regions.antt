@@ -7,11 +7,11 @@ use Rattle.cw_tree.specs.declared.syntax.Function.{Function}
 use Rattle.cw_tree.specs.SyntaxView.{function_of}
 use Rattle.cw_types.specs.declared.regions.Marked.{Marked}
 
--- a region by its tag and its line
+-- the abstraction of a region: its tag and its line
 abbrev pub region_of : Marked → Name × ℕ
 region_of m = (m.tag.now, m.line)
 
--- regions, each seen so
+-- the abstraction of regions
 abbrev pub regions_of : List Marked → List (Name × ℕ)
 regions_of ms = map region_of ms
 
@@ -31,6 +31,6 @@ AreFirst regions found = regions_of found.items ≡ first_places (regions_of reg
 abbrev pub AreFirstOfAll : List Function → Vec Marked → Type 0
 AreFirstOfAll functions found = regions_of found.items ≡ first_places (regions_of_all functions) []
 
--- behind the regions found before there are these
+-- the regions follow those found before
 abbrev pub Adds : List (Name × ℕ) → (before after : Vec Marked) → Type 0
 Adds regions before after = regions_of after.items ≡ regions_of before.items ++ regions

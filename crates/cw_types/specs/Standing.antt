@@ -1,4 +1,4 @@
--- The statements of a program, each where it stands: its line, which returns may stand there, and what is known there.
+-- The statements of a program, each in its context: its line, the allowed kind of `return`, and the known names.
 use Rattle.std.specs.Prelude.{ℕ, List, [], ◌∷◌, ◌++◌}
 use Rattle.cw_model.specs.declared.syntax.NameKind.TheVariants.{Integer, Array}
 use Rattle.cw_model.specs.Syntax.{Stmt, If, IfElse, While, For, Scope, Cut, Region, Block, End, Then, Function}
@@ -8,7 +8,7 @@ use Rattle.cw_tree.specs.SyntaxView.{block_of, stmt_of}
 use Rattle.cw_types.specs.Scope.{Declared, after_stmt, with_local, with_params}
 use Rattle.cw_types.specs.Returned.{returns_in}
 
--- a statement of a line, before what follows it in its block
+-- a statement in its context, with the statements that follow it in its block
 pub record Standing : Type 0 where
   pub line : ℕ
   pub returns : Returns
@@ -16,23 +16,23 @@ pub record Standing : Type 0 where
   pub stmt : Stmt
   pub behind : Block
 
--- the local names in a loop of a line over this variable
+-- the local names in a loop with this variable
 abbrev pub in_loop : (line : ℕ) → (x : List ℕ) → List Declared → List Declared
 in_loop line x locals = with_local x Integer line locals
 
--- the local names in a cut of a line into these parts
+-- the local names in a cut with these parts
 abbrev pub in_cut : (line : ℕ) → (l r : List ℕ) → List Declared → List Declared
 in_cut line l r locals = with_local r Array line (with_local l Array line locals)
 
 abbrev mutual
-  -- the statements of a block where these returns may stand and these names are known, and all that is inside of them
+  -- the statements of a block in this context, including all inner statements
   pub standing_in : Returns → List Declared → Block → List Standing
   standing_in returns locals End = []
   standing_in returns locals (Then line s b) =
       record { line = line; returns = returns; locals = locals; stmt = s; behind = b }
       ∷ (standing_inside returns locals line s ++ standing_in returns (after_stmt line s locals) b)
 
-  -- the statements inside of one of a line
+  -- the inner statements of a statement in this line
   pub standing_inside : Returns → List Declared → ℕ → Stmt → List Standing
   standing_inside returns locals line (If e b) = standing_in returns locals b
   standing_inside returns locals line (IfElse e b c) = standing_in returns locals b ++ standing_in returns locals c
@@ -48,7 +48,7 @@ abbrev mutual
 abbrev pub standing_of : Function → List Standing
 standing_of f = standing_in (returns_in f) (with_params f.line f.params []) f.body
 
--- a statement of the code, where it stands
+-- a statement of the code in its context
 abbrev pub standing_at : Returns → List Declared → Line → List Line → Standing
 standing_at returns locals line behind =
     record { line = line.line; returns = returns; locals = locals; stmt = stmt_of line.stmt; behind = block_of behind }

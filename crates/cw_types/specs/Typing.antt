@@ -1,4 +1,4 @@
--- The rules of names and types by the parts that the code tests them in.
+-- The rules of names and types, divided into the parts that the code tests.
 use Rattle.std.specs.Prelude.{ℕ, nat_le, Bool, true, false, not, ◌&&◌, ◌||◌, List, [], ◌∷◌, ◌++◌}
 use Rattle.std.specs.Prelude.{Some, if◌then◌else◌}
 use Rattle.std.specs.List.{list_any}
@@ -24,7 +24,7 @@ is_head program known h =
 abbrev pub calls : Program → Known → Made → Bool
 calls program known c = is_call known c.target (called c.callee program.functions) (exprs_of c.arguments.items)
 
--- it does so as a call of this function
+-- a call of this function keeps the rules
 abbrev pub calls_of : Known → Function → Made → Bool
 calls_of known f c = is_call known c.target (Some f) (exprs_of c.arguments.items)
 
@@ -32,7 +32,7 @@ calls_of known f c = is_call known c.target (Some f) (exprs_of c.arguments.items
 abbrev pub cuts : Program → Known → Parts → Bool
 cuts program known c = is_cut program known c.array (expr_of c.at) c.left c.right
 
--- what stands in the line of a statement itself keeps the rules, the blocks in it aside
+-- a statement keeps the rules, apart from its inner blocks
 abbrev pub keeps_rules : Program → Returns → Known → Stmt → Bool
 keeps_rules program returns known (Declare x e) = is_fine known e && is_new program known x
 keeps_rules program returns known (DeclareArray a e) = is_fine known e && is_new program known a
@@ -54,7 +54,7 @@ keeps_rules program returns known (Region tag b) = true
 keeps_rules program returns known (Print e) = is_fine known e
 keeps_rules program returns known (Return e) = may_return returns known e
 
--- the lines of the blocks in a statement that break a rule
+-- the lines of the inner blocks of a statement that break a rule
 abbrev pub faults_inside : Program → Returns → Known → Stmt → List ℕ
 faults_inside program returns known (If e b) = faults_in_block program returns known b
 faults_inside program returns known (IfElse e b c) =
@@ -68,16 +68,16 @@ faults_inside program returns known (Cut a e l r b) =
 faults_inside program returns known (Region tag b) = faults_in_block program Nowhere known b
 faults_inside program returns known _ = []
 
--- parameters are new names that differ, where these names are known
+-- parameters are new and distinct names, if these names are known
 abbrev pub are_new : Program → Known → List Param → Bool
 are_new program known [] = true
 are_new program known (p ∷ ps) = is_new program known p.name && are_new program ((p.name, p.kind) ∷ known) ps
 
--- a function that gives an integer surely returns
+-- a function that returns an integer surely returns
 abbrev pub returns_well : Function → Bool
 returns_well f = not f.gives_int || block_returns f.body
 
--- main is an int function of integers
+-- main returns an integer and takes integers
 abbrev pub is_right_main : Function → Bool
 is_right_main f = not (same_name f.name main_name) || (f.gives_int && not (list_any (λ p. wants_array p) f.params))
 

@@ -1,4 +1,4 @@
--- The names that stand where an integer or an array must.
+-- The names that must be integers or arrays where they are used.
 use Rattle.std.specs.Prelude.{List, [], ◌∷◌, ◌++◌, Option, Some, None, map}
 use Rattle.cw_model.specs.declared.syntax.NameKind.{NameKind}
 use Rattle.cw_model.specs.declared.syntax.NameKind.TheVariants.{Integer, Array, Const}
@@ -7,11 +7,11 @@ use Rattle.cw_model.specs.Syntax.{DeclareArray, Assign, AssignElement, Reduce, C
 use Rattle.cw_model.specs.Syntax.{Return, Param, Function, Program}
 use Rattle.cw_model.specs.Typing.{called}
 
--- a name, and what must stand there: an integer, an array that may be written, or one that is read
+-- a name and its required kind: an integer, an array that may be written, or an array that is read
 abbrev pub Use : Type 0
 Use = Name × NameKind
 
--- in an expression of integers
+-- the uses in an expression of integers
 abbrev pub uses_in : Expr → List Use
 uses_in (Number n) = []
 uses_in (Variable x) = (x, Integer) ∷ []
@@ -21,34 +21,34 @@ uses_in (Negative e) = uses_in e
 uses_in (Not e) = uses_in e
 uses_in (Binary operator d e) = uses_in d ++ uses_in e
 
--- in an argument for a parameter of this kind
+-- the uses in an argument for a parameter of this kind
 abbrev pub uses_in_argument : NameKind → Expr → List Use
 uses_in_argument Integer e = uses_in e
 uses_in_argument Array (Variable a) = (a, Array) ∷ []
 uses_in_argument Const (Variable a) = (a, Const) ∷ []
 uses_in_argument _ _ = []
 
--- in the arguments for these parameters
+-- the uses in the arguments for these parameters
 abbrev pub uses_in_arguments : List Param → List Expr → List Use
 uses_in_arguments [] es = []
 uses_in_arguments (p ∷ ps) [] = []
 uses_in_arguments (p ∷ ps) (e ∷ es) = uses_in_argument p.kind e ++ uses_in_arguments ps es
 
--- in the arguments of a call of this function, if there is one
+-- the uses in the arguments of a call of this function, if there is one
 abbrev pub uses_in_call : Option Function → List Expr → List Use
 uses_in_call None es = []
 uses_in_call (Some f) es = uses_in_arguments f.params es
 
--- of the name that a result goes to
+-- the use of the name that receives a result
 abbrev pub uses_as_target : Option Name → List Use
 uses_as_target None = []
 uses_as_target (Some x) = (x, Integer) ∷ []
 
--- of names that must be arrays, and may be written
+-- uses of names as arrays that may be written
 abbrev pub as_arrays : List Name → List Use
 as_arrays names = map (λ a. (a, Array)) names
 
--- in a statement, its blocks aside
+-- the uses in a statement, apart from its inner blocks
 abbrev pub uses : Program → Stmt → List Use
 uses program (Declare x e) = uses_in e
 uses program (DeclareArray a e) = uses_in e

@@ -1,4 +1,4 @@
--- Rules of names and types, and reasons, within a program that the code holds.
+-- Rules of names and types, and reasons, in the program that the code holds.
 use Rattle.std.specs.Prelude.{ℕ, List, flat_map, Result}
 use Rattle.cw_model.specs.Syntax.{Program}
 use Rattle.cw_model.specs.Typing as rule
@@ -25,51 +25,51 @@ program_in globals = program_of globals.ast.now
 abbrev pub faults_of_all : Program → List ℕ
 faults_of_all program = flat_map (faults_of program) program.functions
 
--- those of one function
+-- the lines that break a rule in one function
 abbrev pub faults_in_function : Globals → Function → List ℕ
 faults_in_function globals f = faults_of (program_in globals) (function_of f)
 
--- the lines of a block that break a rule, where these returns may stand and these names are known
+-- the lines of a block that break a rule, in this context
 abbrev pub block_faults : Globals → Returns → List Declared → List Line → List ℕ
 block_faults globals returns known lines =
     faults_in_block (program_in globals) (returns_of returns) (kinds known) (block_of lines)
 
--- those of the blocks in the statement of a line
+-- the lines of the inner blocks of a statement that break a rule
 abbrev pub inner_faults : Globals → Returns → List Declared → Line → List ℕ
 inner_faults globals returns known line =
     faults_inside (program_in globals) (returns_of returns) (kinds known) (stmt_of line.stmt)
 
--- the lines of a block that break a rule were noted, where memory did not run out
+-- the lines of a block that break a rule are recorded if the result is `Ok`
 abbrev pub NotesBlock : {R E : Type 0} → Globals → Returns → List Declared → List Line →
     (before after : Reasons IllTyped) → Result R E → Type 0
 NotesBlock globals returns known lines before after r = Notes (block_faults globals returns known lines) before after r
 
--- the same of those of the blocks in the statement of a line
+-- the lines of the inner blocks of a statement that break a rule are recorded if the result is `Ok`
 abbrev pub NotesInner : {R E : Type 0} → Globals → Returns → List Declared → Line →
     (before after : Reasons IllTyped) → Result R E → Type 0
 NotesInner globals returns known line before after r = Notes (inner_faults globals returns known line) before after r
 
--- the reason is true of one of these statements, at its line
+-- the reason is correct for one of these statements, in its line
 abbrev pub IsAmong : Globals → List Standing → (ℕ → IllTyped → Type 0)
 IsAmong globals statements = λ line r. IsToldAmong (program_in globals) line statements r
 
--- the reason is true of this function, at a line of it
+-- the reason is correct for this function, in one of its lines
 abbrev pub IsToldIn : Globals → Function → (ℕ → IllTyped → Type 0)
 IsToldIn globals f = λ line r. IsToldOf (program_in globals) line (function_of f) r
 
--- what is told of such statements
+-- each new reason is correct for one of these statements
 abbrev pub TellsAmong : Globals → List Standing → (before after : Reasons IllTyped) → Type 0
 TellsAmong globals statements before after = Tells (IsAmong globals statements) before after
 
--- the statements of a block, and all that is inside of them
+-- the statements of a block, including all inner statements
 abbrev pub all_in : Returns → List Declared → List Line → List Standing
 all_in returns known lines = standing_in (returns_of returns) known (block_of lines)
 
--- the statements inside of that of a line
+-- the inner statements of the statement of a line
 abbrev pub all_inside : Returns → List Declared → Line → List Standing
 all_inside returns known line = standing_inside (returns_of returns) known line.line (stmt_of line.stmt)
 
--- what stands behind a line is never reached, wherever both stand
+-- the statements after a line are never reached, in every context
 abbrev pub NeverReached : Line → List Line → IllTyped → Type 0
 NeverReached line behind r =
     (returns : rule.Returns) → (known : List Declared) → IsNeverReached (standing_at returns known line behind) r

@@ -1,4 +1,4 @@
-//! The rules of names and types in whole bodies.
+//! Checks the rules of names and types in whole bodies.
 
 ghost use Rattle.std.specs.Prelude.{◌≡◌, not, ◌||◌, IfSome, OnOk, is_some};
 ghost use Rattle.cw_model.specs.Typing.{surely_returns, ends_block};
@@ -15,7 +15,12 @@ use cw_reasons::Reasons;
 use cw_tree::syntax::{Line, Stmt};
 use std::alloc::AllocError;
 
-/// Notes the lines of a block that break a rule, where these names are known before it and after it.
+/// Records the lines of a block that break a rule. `known` holds the names known before the block, and it is
+/// unchanged after it.
+///
+/// # Errors
+///
+/// Returns an error if memory runs out.
 #[cycle(bodies)]
 pub fn block<'a>(
     globals: &Globals<'a>,
@@ -41,7 +46,7 @@ pub fn block<'a>(
     Ok(())
 }
 
-// Notes the lines of the blocks in a statement that break a rule.
+// Records the lines of the inner blocks of a statement that break a rule.
 #[cycle(bodies)]
 fn inside<'a>(
     globals: &Globals<'a>,
@@ -89,7 +94,7 @@ fn inside<'a>(
     }
 }
 
-// The line of what follows a statement that surely returns: nothing may.
+// Returns the line after a statement that surely returns: no statement may follow it.
 #[tactic(auto, using(crate::proofs::Noting::ends, std::proofs::lemmas::Grind::common_steps))]
 fn never_reached<'a>(line: &Line, behind: &[Line]) -> Option<IllTyped<'a>>
     ensures decides { is_some result

@@ -10,7 +10,7 @@ ghost use Rattle.cw_types.specs.Locals.{lists_view};
 use crate::lists::Lists;
 use cw_tree::syntax::{Function, Param};
 
-// The first function of a name, if there is one.
+// Returns the first function with this name, if there is one.
 fn function<'a>(lists: &Lists<'a>, name: &[u8]) -> Option<&'a Function>
     ensures { option_function result ≡ called name.now (map function_of lists.now.callees.now) }
 {
@@ -18,7 +18,7 @@ fn function<'a>(lists: &Lists<'a>, name: &[u8]) -> Option<&'a Function>
     lists.callees.get(index)
 }
 
-/// The parameters of the first function of a name; none where there is no such function.
+/// Returns the parameters of the first function with this name, or an empty slice if there is no such function.
 #[tactic(auto, using(crate::proofs::Noting::params_of_found))]
 pub fn params_of<'a>(lists: &Lists<'a>, name: &[u8]) -> &'a [Param]
     ensures { map param_of result.now ≡ spec.params_of (lists_view lists.now) name.now }
@@ -27,7 +27,7 @@ pub fn params_of<'a>(lists: &Lists<'a>, name: &[u8]) -> &'a [Param]
     params_in(found)
 }
 
-// The parameters of a function, or none.
+// Returns the parameters of the function, or an empty slice.
 fn params_in<'a>(found: Option<&'a Function>) -> &'a [Param]
     ensures { map param_of result.now ≡ params_in (option_function found.entry) }
 {

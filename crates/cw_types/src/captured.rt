@@ -1,4 +1,4 @@
-//! The integers from outside that the body of a loop reads.
+//! The outer integers that the body of a loop reads.
 #![tactic(auto, using(crate::proofs::Reading::uses, std::proofs::lemmas::Grind::common_steps))]
 
 ghost use Rattle.std.specs.Prelude.{◌≡◌, map, IfOk, OnOk};
@@ -10,8 +10,12 @@ ghost use Rattle.cw_tree.specs.ResolvedView.{use_of, expr_of, argument_of, head_
 use cw_tree::resolved::{Argument, Expr, Head, Line, Stmt, Use};
 use std::alloc::{AllocError, Global};
 
-/// The integers that a body reads of those that have the first so many slots, each once and in the
-/// order of their first use.
+/// Returns the integers with slots below `count` that a body reads, without duplicates and in the order of their
+/// first use.
+///
+/// # Errors
+///
+/// Returns an error if memory runs out.
 pub fn captured(alloc: Global, count: u32, body: &[Line]) -> Result<Vec<Use>, AllocError>
     ensures { IfOk result (AreCaptured count body.now) }
 {
@@ -20,7 +24,7 @@ pub fn captured(alloc: Global, count: u32, body: &[Line]) -> Result<Vec<Use>, Al
     Ok(found)
 }
 
-// Whether one of the uses has the slot.
+// Reports whether one of the uses has this slot.
 fn has_slot(found: &[Use], slot: u32) -> bool
     ensures { result ≡ is_slot_in slot (map (λ w. w.slot) (map use_of found.now)) }
 {
@@ -32,7 +36,7 @@ fn has_slot(found: &[Use], slot: u32) -> bool
     false
 }
 
-// One use more.
+// Adds one use, if its slot is below `count` and new.
 fn note(alloc: Global, count: u32, found: &mut Vec<Use>, used: &Use) -> Result<(), AllocError>
     ensures { OnOk result (FindsOne count (use_of used.now) found.old found.new) }
 {
@@ -44,7 +48,7 @@ fn note(alloc: Global, count: u32, found: &mut Vec<Use>, used: &Use) -> Result<(
     Ok(())
 }
 
-// Uses in order.
+// Adds uses in order.
 fn notes(alloc: Global, count: u32, found: &mut Vec<Use>, uses: &[Use]) -> Result<(), AllocError>
     ensures { OnOk result (FindsUses count (map use_of uses.now) found.old found.new) }
 {
@@ -54,7 +58,7 @@ fn notes(alloc: Global, count: u32, found: &mut Vec<Use>, uses: &[Use]) -> Resul
     Ok(())
 }
 
-// What an expression reads.
+// Adds the integers that an expression reads.
 fn expression(alloc: Global, count: u32, found: &mut Vec<Use>, e: &Expr) -> Result<(), AllocError>
     ensures { OnOk result (FindsUses count (reads (expr_of e.now)) found.old found.new) }
 {
@@ -72,7 +76,7 @@ fn expression(alloc: Global, count: u32, found: &mut Vec<Use>, e: &Expr) -> Resu
     }
 }
 
-// What an argument reads.
+// Adds the integers that an argument reads.
 fn argument(alloc: Global, count: u32, found: &mut Vec<Use>, e: &Argument) -> Result<(), AllocError>
     ensures { OnOk result
         (FindsUses count (argument_reads (argument_of e.now)) found.old found.new) }
@@ -83,7 +87,7 @@ fn argument(alloc: Global, count: u32, found: &mut Vec<Use>, e: &Argument) -> Re
     }
 }
 
-// What arguments read.
+// Adds the integers that arguments read.
 fn arguments(
     alloc: Global,
     count: u32,
@@ -98,7 +102,7 @@ fn arguments(
     Ok(())
 }
 
-// What the head of a loop reads, and what its body takes from outside.
+// Adds the integers that the head of a loop reads and the integers that its body captures.
 fn head(alloc: Global, count: u32, found: &mut Vec<Use>, head: &Head) -> Result<(), AllocError>
     ensures { OnOk result (FindsUses count (head_reads (head_of head.now)) found.old found.new) }
 {
@@ -108,7 +112,7 @@ fn head(alloc: Global, count: u32, found: &mut Vec<Use>, head: &Head) -> Result<
     Ok(())
 }
 
-// What statements in order read.
+// Adds the integers that the statements of a block read, in order.
 #[cycle(reading)]
 fn block(alloc: Global, count: u32, found: &mut Vec<Use>, lines: &[Line]) -> Result<(), AllocError>
     ensures { OnOk result
@@ -120,7 +124,7 @@ fn block(alloc: Global, count: u32, found: &mut Vec<Use>, lines: &[Line]) -> Res
     Ok(())
 }
 
-// What a statement reads.
+// Adds the integers that a statement reads.
 #[cycle(reading)]
 fn statement(alloc: Global, count: u32, found: &mut Vec<Use>, stmt: &Stmt) -> Result<(), AllocError>
     ensures { OnOk result (FindsUses count (reads_in (stmt_of stmt.now)) found.old found.new) }

@@ -1,4 +1,4 @@
-//! The test of limits, names and types.
+//! The check of limits, names and types, and the resolution of names.
 
 ghost use Rattle.std.specs.Prelude.{◌≡◌, MatchOption, MatchResult, IfOk, IfSome, None, [], is_some, not};
 ghost use Rattle.cw_model.specs.Answers.{main_name};
@@ -28,13 +28,14 @@ use cw_tree::laws::{plain_of_resolved, resolved_is_fitting, resolved_is_right};
 use cw_tree::syntax::Ast;
 use std::alloc::{AllocError, Global};
 
-/// The tree with each name looked up.
+/// Checks limits, names and types, and returns the tree with each name looked up. Drops the syntax tree in each case.
 ///
-/// Answers `Size` at the least line that passes a limit (1,024 functions, 32 reducers, 16 parameters
-/// of a function, 256 names that a function declares, 64 different tags, 32 bytes of a tag), else
-/// `Types` at the least line that breaks a rule of names and types, and `Memory` where there is none
-/// for the resolved tree. A program without `main` breaks a rule in line 1. The tree that was given
-/// is let go in each case.
+/// # Errors
+///
+/// Returns `Size` at the least line that exceeds a limit (1,024 functions, 32 reducers, 16 parameters of a function,
+/// 256 names that a function declares, 64 distinct tags, 32 bytes of a tag), otherwise `Types` at the least line that
+/// breaks a rule of names and types, and `Memory` if there is no memory for the resolved tree. A program without
+/// `main` breaks a rule in line 1.
 pub fn check(alloc: Global, ast: Ast) -> Result<Typed, Fault>
     ensures { MatchResult result (IsTypedOf (program_of ast)) (IsIllTyped (program_of ast)) }
 {
@@ -51,8 +52,12 @@ pub fn check(alloc: Global, ast: Ast) -> Result<Typed, Fault>
     Ok(Typed { tree })
 }
 
-/// The least line of a tree that passes a limit on its parts, with a limit that it passes; none where none is passed. An
-/// error where memory is refused.
+/// Returns the least line of a tree that exceeds a limit on its parts, with a limit that it exceeds; `None` if no
+/// limit is exceeded.
+///
+/// # Errors
+///
+/// Returns an error if memory runs out.
 pub fn too_large(alloc: Global, ast: &Ast) -> Result<Option<At<TooLarge<'_>>>, AllocError>
     ensures { IfOk result (λ told. MatchOption told (IsWithin (program_of ast.now))
         (IsPassedAt (program_of ast.now))) }
@@ -61,8 +66,12 @@ pub fn too_large(alloc: Global, ast: &Ast) -> Result<Option<At<TooLarge<'_>>>, A
     Ok(size.first)
 }
 
-/// The lines of a tree that break a rule of names and types, the least twenty of them, rising, each with the reason that
-/// was found for it first, which is true there; none where a limit is passed. An error where memory is refused.
+/// Returns the least twenty lines of a tree that break a rule of names and types, increasing, each with the first
+/// reason found for it, which is true there; no lines if a limit is exceeded.
+///
+/// # Errors
+///
+/// Returns an error if memory runs out.
 pub fn ill_typed(alloc: Global, ast: &Ast) -> Result<Reasons<IllTyped<'_>>, AllocError>
     ensures lines { IfOk result (AreLeast (refused_lines (program_of ast.now))) }
     ensures holds { IfOk result (AreOf (IsTold (program_of ast.now))) }
@@ -76,7 +85,7 @@ pub fn ill_typed(alloc: Global, ast: &Ast) -> Result<Reasons<IllTyped<'_>>, Allo
     }
 }
 
-// The least line that breaks a rule of names and types.
+// Returns the least line that breaks a rule of names and types.
 fn first_line(alloc: Global, ast: &Ast) -> Result<Option<u32>, AllocError>
     requires { limit_faults (program_of ast.now) ≡ [] }
     ensures { IfOk result (λ line. line ≡ lowest None (type_faults (program_of ast.now))) }
@@ -88,7 +97,7 @@ fn first_line(alloc: Global, ast: &Ast) -> Result<Option<u32>, AllocError>
     }
 }
 
-// The least lines that break a rule of names and types, and which.
+// Returns the least lines that break a rule of names and types, with the reasons.
 fn faults<'a>(alloc: Global, ast: &'a Ast) -> Result<Reasons<IllTyped<'a>>, AllocError>
     requires { limit_faults (program_of ast.now) ≡ [] }
     ensures lines { IfOk result (λ told.
@@ -105,7 +114,7 @@ fn faults<'a>(alloc: Global, ast: &'a Ast) -> Result<Reasons<IllTyped<'a>>, Allo
     Ok(told)
 }
 
-// There is no function main.
+// Returns a reason if there is no function `main`.
 fn no_main<'a>(globals: &Globals<'a>) -> Option<IllTyped<'a>>
     ensures decides { is_some result
         ≡ not (is_among main_name (function_names (program_in globals.now).functions)) }

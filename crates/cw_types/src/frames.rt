@@ -1,4 +1,4 @@
-//! How many slots the locals of a body take.
+//! The number of slots that the locals of a body need.
 
 ghost use Rattle.std.specs.Prelude.{◌≡◌, max, suc};
 ghost use Rattle.cw_tree.specs.Resolved.{ints_in, ints_in_block, arrays_in, arrays_in_block};
@@ -6,7 +6,7 @@ ghost use Rattle.cw_tree.specs.ResolvedView.{use_of, stmt_of, block_of};
 
 use cw_tree::resolved::{Line, Stmt, Use};
 
-// So many slots, and enough for one more local.
+// Returns the number of slots, increased if the slot of this use is not among them.
 fn with_slot(slots: u64, used: &Use) -> u64
     ensures { result ≡ max slots (suc (use_of used.now).slot) }
 {
@@ -14,7 +14,7 @@ fn with_slot(slots: u64, used: &Use) -> u64
     if slots < needed { needed } else { slots }
 }
 
-/// How many slots the integers of a block take, where so many are there already.
+/// Returns the number of slots for integers after a block, if there were `slots` before.
 #[cycle(ints)]
 pub fn ints_of_block(slots: u64, lines: &[Line]) -> u64
     ensures { result ≡ ints_in_block slots (block_of lines.now) }
@@ -26,7 +26,7 @@ pub fn ints_of_block(slots: u64, lines: &[Line]) -> u64
     needed
 }
 
-// The same of a statement.
+// Returns the number of slots for integers after a statement, if there were `slots` before.
 #[cycle(ints)]
 fn ints_of(slots: u64, stmt: &Stmt) -> u64
     ensures { result ≡ ints_in slots (stmt_of stmt.now) }
@@ -57,7 +57,7 @@ fn ints_of(slots: u64, stmt: &Stmt) -> u64
     }
 }
 
-/// How many slots the arrays of a block take, where so many are there already.
+/// Returns the number of slots for arrays after a block, if there were `slots` before.
 #[cycle(arrays)]
 pub fn arrays_of_block(slots: u64, lines: &[Line]) -> u64
     ensures { result ≡ arrays_in_block slots (block_of lines.now) }
@@ -69,7 +69,7 @@ pub fn arrays_of_block(slots: u64, lines: &[Line]) -> u64
     needed
 }
 
-// The same of a statement.
+// Returns the number of slots for arrays after a statement, if there were `slots` before.
 #[cycle(arrays)]
 fn arrays_of(slots: u64, stmt: &Stmt) -> u64
     ensures { result ≡ arrays_in slots (stmt_of stmt.now) }

@@ -1,4 +1,4 @@
-//! The rules of names and types in functions.
+//! Checks the rules of names and types in functions.
 
 ghost use Rattle.std.specs.Prelude.{◌≡◌, [], Contains, IfOk, IfSome, OnOk, is_some, map, not, true};
 ghost use Rattle.std.specs.List.{list_any};
@@ -23,7 +23,11 @@ use cw_reasons::Reasons;
 use cw_tree::syntax::{Function, Name, Param};
 use std::alloc::{AllocError, Global};
 
-/// Notes the lines of all functions that break a rule.
+/// Records the lines of all functions that break a rule.
+///
+/// # Errors
+///
+/// Returns an error if memory runs out.
 pub fn functions_faults<'a>(
     alloc: Global,
     globals: &Globals<'a>,
@@ -38,7 +42,7 @@ pub fn functions_faults<'a>(
     Ok(())
 }
 
-// The same of one function.
+// Records the lines of one function that break a rule.
 fn function_faults<'a>(
     alloc: Global,
     globals: &Globals<'a>,
@@ -61,7 +65,7 @@ fn function_faults<'a>(
     Ok(())
 }
 
-// The parameters of a function, at the line of its head.
+// Returns the parameters of a function as known names, at the line of its head.
 fn known_in<'a>(alloc: Global, function: &'a Function) -> Result<Known<'a>, AllocError>
     ensures { IfOk result (λ known.
         known ≡ with_params function.now.line (map param_of function.now.params.items) []) }
@@ -73,7 +77,7 @@ fn known_in<'a>(alloc: Global, function: &'a Function) -> Result<Known<'a>, Allo
     Ok(known)
 }
 
-// Which returns may stand in the body of a function.
+// Returns the kind of `return` that the body of a function may contain.
 fn returns_of(function: &Function) -> Returns
     ensures { returned.returns_of result ≡ returned.returns_in (function_of function.now) }
 {
@@ -83,7 +87,7 @@ fn returns_of(function: &Function) -> Returns
     Returns::Alone
 }
 
-// A rule that the head of a function breaks.
+// Returns a rule that the head of a function breaks.
 fn of_head<'a>(globals: &Globals<'a>, function: &'a Function) -> Option<IllTyped<'a>>
     ensures decides { is_some result
         ≡ not (rule.is_head (program_of globals.now.ast.now) (function_of function.now)) }
@@ -102,7 +106,7 @@ fn of_head<'a>(globals: &Globals<'a>, function: &'a Function) -> Option<IllTyped
     None
 }
 
-// Whether an int function does not surely return.
+// Reports whether a function returns an integer but may end without a return.
 fn may_end(function: &Function) -> bool
     ensures { result ≡ not (returns_well (function_of function.now)) }
 {
@@ -110,7 +114,7 @@ fn may_end(function: &Function) -> bool
     function.gives_int && !returns
 }
 
-// A rule that a parameter of a function breaks.
+// Returns a rule that a parameter of a function breaks.
 fn of_params<'a>(globals: &Globals<'a>, params: &'a [Param]) -> Option<IllTyped<'a>>
     ensures decides { is_some result
         ≡ not (are_new (program_of globals.now.ast.now) [] (map param_of params.now)) }
@@ -129,7 +133,7 @@ fn of_params<'a>(globals: &Globals<'a>, params: &'a [Param]) -> Option<IllTyped<
     None
 }
 
-// Whether one of these parameters has the name.
+// Reports whether one of these parameters has this name.
 fn is_param(params: &[Param], name: &Name) -> bool
     ensures { result ≡ is_among name.now (param_names (map param_of params.now)) }
 {
@@ -141,7 +145,7 @@ fn is_param(params: &[Param], name: &Name) -> bool
     false
 }
 
-// A rule that the head of main breaks.
+// Returns a rule that the head of `main` breaks.
 fn of_main(function: &Function) -> Option<IllTyped<'_>>
     ensures decides { is_some result ≡ not (is_right_main (function_of function.now)) }
     ensures holds { IfSome result (IsWrongMain (function_of function.now)) }
@@ -156,7 +160,7 @@ fn of_main(function: &Function) -> Option<IllTyped<'_>>
     Some(IllTyped::MainTakesArray(array))
 }
 
-// The first of these parameters that is an array.
+// Returns the first of these parameters that is an array.
 fn first_array(params: &[Param]) -> Option<&Name>
     ensures decides { is_some result
         ≡ list_any (λ p. model.wants_array p) (map param_of params.now) }

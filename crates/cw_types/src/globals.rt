@@ -12,19 +12,23 @@ use crate::table::Table;
 use cw_tree::syntax::{Ast, Function, Reducer};
 use std::alloc::{AllocError, Global};
 
-/// A program, and its functions and reducers by their names.
+/// Holds a program with tables of the names of its functions and reducers.
 #[derive(Drop)]
 pub struct Globals<'a> {
     pub ast: &'a Ast,
     pub functions: Table<'a>,
     pub reducers: Table<'a>,
-    // Each table has the names in the order of the program.
+    // Each table holds the names in the order of the program.
     pub ghost functions_named: { functions ≡ spec.function_names (program_of ast.now).functions },
     pub ghost reducers_named: { reducers ≡ spec.reducer_names (program_of ast.now).reducers },
 }
 
 impl<'a> Globals<'a> {
-    /// The tables of a program.
+    /// Returns the tables of a program.
+    ///
+    /// # Errors
+    ///
+    /// Returns an error if memory runs out.
     pub fn new(alloc: Global, ast: &'a Ast) -> Result<Globals<'a>, AllocError>
         requires few_functions { length ast.now.functions.items < 2 ^ 32 }
         requires few_reducers { length ast.now.reducers.items < 2 ^ 32 }
@@ -39,14 +43,14 @@ impl<'a> Globals<'a> {
         })
     }
 
-    /// Whether a function or a reducer has the name.
+    /// Reports whether a function or a reducer has this name.
     pub fn has(&self, name: &[u8]) -> bool
         ensures { result ≡ is_among name.now (globals_of (program_of self.now.ast.now)) }
     {
         self.functions.has(name) || self.reducers.has(name)
     }
 
-    /// The first function of a name, if there is one.
+    /// Returns the first function with this name, if there is one.
     pub fn function(&self, name: &[u8]) -> Option<&'a Function>
         ensures there { is_some result
             ≡ is_among name.now (names_of_functions (program_of self.now.ast.now).functions) }
@@ -59,7 +63,7 @@ impl<'a> Globals<'a> {
         self.ast.functions.get(index)
     }
 
-    /// The first reducer of a name, if there is one.
+    /// Returns the first reducer with this name, if there is one.
     pub fn reducer(&self, name: &[u8]) -> Option<&'a Reducer>
         ensures there { is_some result
             ≡ is_among name.now (map (λ r. r.name) (program_of self.now.ast.now).reducers) }
@@ -74,7 +78,11 @@ impl<'a> Globals<'a> {
     }
 }
 
-/// The names of functions in their order.
+/// Returns a table of the names of functions, in order.
+///
+/// # Errors
+///
+/// Returns an error if memory runs out.
 pub fn function_names<'a>(alloc: Global, functions: &'a [Function]) -> Result<Table<'a>, AllocError>
     requires { length functions.now < 2 ^ 32 }
     ensures { IfOk result (λ names. names ≡ spec.function_names (map function_of functions.now)) }
@@ -86,7 +94,11 @@ pub fn function_names<'a>(alloc: Global, functions: &'a [Function]) -> Result<Ta
     Ok(names)
 }
 
-/// The names of reducers in their order.
+/// Returns a table of the names of reducers, in order.
+///
+/// # Errors
+///
+/// Returns an error if memory runs out.
 pub fn reducer_names<'a>(alloc: Global, reducers: &'a [Reducer]) -> Result<Table<'a>, AllocError>
     requires { length reducers.now < 2 ^ 32 }
     ensures { IfOk result (λ names. names ≡ spec.reducer_names (map reducer_of reducers.now)) }

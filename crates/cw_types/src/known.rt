@@ -1,4 +1,4 @@
-//! The names that are known, the newest before older ones of its spelling.
+//! The known names; a newer name hides older names of the same spelling.
 
 ghost use Rattle.std.specs.Prelude.{◌≡◌, ◌≤◌, ◌-◌, [], length, is_some, option_map};
 ghost use Rattle.std.specs.Prelude.{MatchOption, None, Some};
@@ -12,24 +12,24 @@ use std::alloc::{AllocError, Global};
 use std::collections::HashMap;
 use std::marker::Model;
 
-/// What a name stands for, and the line of its declaration.
+/// Holds the kind of a known name and the line of its declaration.
 #[derive(Clone, Copy)]
 pub struct Local {
     pub kind: NameKind,
     pub line: u32,
 }
 
-// A name that is known.
+// Holds a known name.
 #[derive(Clone, Copy)]
 struct Entry<'a> {
     name: &'a [u8],
     local: Local,
-    // An older name of this spelling.
+    // The older name of this spelling that it hides.
     shadowed: Option<Local>,
 }
 
-/// Names in the order in which they came to be known, each with what it stands for, and the newest of
-/// a spelling found by its bytes.
+/// Holds names in the order of their declaration, each with its kind, and finds the newest name of a spelling by its
+/// bytes.
 #[derive(Drop)]
 pub struct Known<'a> {
     entries: Vec<Entry<'a>>,
@@ -49,7 +49,7 @@ impl<'a> Model for Known<'a> {
 }
 
 impl<'a> Known<'a> {
-    /// No name.
+    /// Returns a value without names.
     pub fn new(alloc: Global) -> Known<'a>
         ensures { result ≡ [] }
     {
@@ -59,7 +59,7 @@ impl<'a> Known<'a> {
         }
     }
 
-    /// What the newest name of this spelling stands for, if there is one.
+    /// Returns the kind and the line of the newest name of this spelling, if there is one.
     pub fn newest(&self, name: &[u8]) -> Option<Local>
         ensures there { is_some result ≡ is_among name.now (known_names (kinds self.now)) }
         ensures kinds { MatchOption result (IsUnknown name.now (kinds self.now))
@@ -71,21 +71,25 @@ impl<'a> Known<'a> {
         self.newest.get(name).copied()
     }
 
-    /// Whether a name of this spelling is there.
+    /// Reports whether a name of this spelling is known.
     pub fn has(&self, name: &[u8]) -> bool
         ensures { result ≡ is_among name.now (known_names (kinds self.now)) }
     {
         self.newest.contains_key(name)
     }
 
-    /// How many names there are.
+    /// Returns the number of names.
     pub fn len(&self) -> usize
         ensures { result ≡ length self.now }
     {
         self.entries.len()
     }
 
-    /// One name more. Where memory runs out the names are as they were.
+    /// Declares a name.
+    ///
+    /// # Errors
+    ///
+    /// Returns an error if memory runs out; the names are unchanged then.
     pub fn declare(&mut self, name: &'a [u8], kind: NameKind, line: u32) -> Result<(), AllocError>
         ensures { Becomes (with_local name.now kind line self.old) self.old self.new result }
     {
@@ -105,7 +109,8 @@ impl<'a> Known<'a> {
         }
     }
 
-    /// The newest name is gone, and an older one of its spelling is found again. It asks that there is one.
+    /// Removes the newest name, so that it no longer hides an older name of its spelling. Requires that there is a
+    /// name.
     pub fn forget(&mut self)
         requires { 1 ≤ length self.old }
         ensures { self.new ≡ oldest (length self.old - 1) self.old }
@@ -113,7 +118,7 @@ impl<'a> Known<'a> {
         if let Some(entry) = self.entries.pop() {
             match entry.shadowed {
                 Some(local) => {
-                    // the spelling has an entry, so this cannot fail
+                    // the spelling has an entry, so the insertion cannot fail
                     let _again = self.newest.insert(entry.name, local);
                 }
                 None => {
@@ -123,7 +128,7 @@ impl<'a> Known<'a> {
         }
     }
 
-    /// The names after the oldest so many are gone.
+    /// Removes all names except the oldest `len`.
     pub fn leave(&mut self, len: usize)
         requires { len ≤ length self.old }
         ensures { self.new ≡ oldest len self.old }

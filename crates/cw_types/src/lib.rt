@@ -1,4 +1,4 @@
-//! Names and types: which sources break a rule, and the tree with each name looked up.
+//! Names and types: finds the sources that break a rule, and builds the tree with each name looked up.
 #![tactic(auto)]
 
 mod bodies;

@@ -1,4 +1,4 @@
-//! The limits of a program.
+//! The limits on the parts of a program.
 
 ghost use Rattle.std.specs.Prelude.{◌≡◌, ◌∷◌, [], None, map, flat_map, is_some, length, nat_le, not, IfOk, IfSome};
 ghost use Rattle.cw_model.specs.Lines.{lowest};
@@ -25,10 +25,13 @@ use cw_text::LeastLine;
 use cw_tree::syntax::{Ast, Function, Line, Param, Reducer, Stmt};
 use std::alloc::{AllocError, Global};
 
-/// The least line that passes a limit, and which: that of the 1,025th function or a later one, of the
-/// 33rd reducer or a later one, of a function with more than 16 parameters, of what declares the 257th
-/// name of a function or a later one, of a tag with more than 32 bytes, or of the first place of the
-/// 65th different tag or a later one.
+/// Returns the least line that exceeds a limit, with the limit: the line of a function after the 1,024th, of a
+/// reducer after the 32nd, of a function with more than 16 parameters, of the declaration of a name after the 256th
+/// of a function, of a tag with more than 32 bytes, or of the first region of a distinct tag after the 64th.
+///
+/// # Errors
+///
+/// Returns an error if memory runs out.
 pub fn limits<'a>(alloc: Global, ast: &'a Ast) -> Result<Told<TooLarge<'a>>, AllocError>
     ensures lines { IfOk result (λ told.
         line_told told ≡ lowest None (limit_faults (program_of ast.now))) }
@@ -44,7 +47,7 @@ pub fn limits<'a>(alloc: Global, ast: &'a Ast) -> Result<Told<TooLarge<'a>>, All
     Ok(told)
 }
 
-// The least line of the functions behind the most of them.
+// Returns the least line of the functions past the limit.
 fn functions_beyond(functions: &[Function]) -> LeastLine
     ensures { result.line ≡ lowest None (functions_past functions.now) }
 {
@@ -56,7 +59,7 @@ fn functions_beyond(functions: &[Function]) -> LeastLine
     least
 }
 
-// The least line of the reducers behind the most of them.
+// Returns the least line of the reducers past the limit.
 fn reducers_beyond(reducers: &[Reducer]) -> LeastLine
     ensures { result.line ≡ lowest None (reducers_past reducers.now) }
 {
@@ -68,7 +71,7 @@ fn reducers_beyond(reducers: &[Reducer]) -> LeastLine
     least
 }
 
-// Notes the lines that pass a limit of one function.
+// Records the lines at which a function exceeds a limit.
 fn functions_limits<'a>(functions: &'a [Function], told: &mut Told<TooLarge<'a>>)
     ensures lines { Noted (flat_map limits_of (map function_of functions.now)) told.old told.new }
     ensures told { Tells (IsPassedByOne (map function_of functions.now)) told.old told.new }
@@ -78,7 +81,7 @@ fn functions_limits<'a>(functions: &'a [Function], told: &mut Told<TooLarge<'a>>
     }
 }
 
-// The same of one of the functions.
+// Records the lines at which this function exceeds a limit.
 fn function_limits<'a>(function: &'a Function, told: &mut Told<TooLarge<'a>>)
     ensures lines { Noted (limits_of (function_of function.now)) told.old told.new }
     ensures told { Tells (IsPassedByFunction (function_of function.now)) told.old told.new }
@@ -90,7 +93,7 @@ fn function_limits<'a>(function: &'a Function, told: &mut Told<TooLarge<'a>>)
     );
 }
 
-// A function has too many parameters.
+// Returns a reason if a function has too many parameters.
 fn many_params<'a>(function: &'a Function) -> Option<TooLarge<'a>>
     ensures decides { is_some result
         ≡ not (nat_le (length (function_of function.now).params) MOST_PARAMETERS) }
@@ -104,7 +107,7 @@ fn many_params<'a>(function: &'a Function) -> Option<TooLarge<'a>>
     Some(TooLarge::Parameters(&function.name, count))
 }
 
-// The least line of what a function declares behind the most of it, its parameters first.
+// Returns the least line of the names past the limit that a function declares, its parameters first.
 fn declared_beyond(function: &Function) -> LeastLine
     ensures { result.line ≡ lowest None (declared_past (function_of function.now)) }
 {
@@ -114,7 +117,7 @@ fn declared_beyond(function: &Function) -> LeastLine
     least
 }
 
-// What room is left after the parameters.
+// Returns the room that is left after the parameters.
 fn params_beyond(room: usize, line: u32, params: &[Param], least: &mut LeastLine) -> usize
     ensures { TakesRoom room result (map (λ _. line) params.now) least.old least.new }
 {
@@ -125,7 +128,7 @@ fn params_beyond(room: usize, line: u32, params: &[Param], least: &mut LeastLine
     left
 }
 
-// What room is left after what the statements declare; notes the line of what has no room.
+// Records the lines of the declarations of a block that have no room, and returns the room that is left after them.
 #[cycle(declaring)]
 fn block_beyond(room: usize, lines: &[Line], least: &mut LeastLine) -> usize
     ensures { TakesRoom room result (declaring_lines_in (block_of lines.now)) least.old least.new }
@@ -137,7 +140,8 @@ fn block_beyond(room: usize, lines: &[Line], least: &mut LeastLine) -> usize
     left
 }
 
-// The same of a statement of a line.
+// Records the lines of the declarations of a statement that have no room, and returns the room that is left after
+// them.
 #[cycle(declaring)]
 fn statement_beyond(room: usize, line: u32, stmt: &Stmt, least: &mut LeastLine) -> usize
     ensures { TakesRoom room result (declaring_lines line (stmt_of stmt.now)) least.old least.new }
@@ -170,7 +174,7 @@ fn statement_beyond(room: usize, line: u32, stmt: &Stmt, least: &mut LeastLine) 
     }
 }
 
-// Notes the lines of regions whose tags are too long.
+// Records the lines of regions whose tags are too long.
 fn long_tags<'a>(regions: &[Marked<'a>], told: &mut Told<TooLarge<'a>>)
     ensures lines { Noted (flat_map long_tag (regions_of regions.now)) told.old told.new }
     ensures told { Tells (IsPassedByRegions (regions_of regions.now)) told.old told.new }
@@ -180,7 +184,7 @@ fn long_tags<'a>(regions: &[Marked<'a>], told: &mut Told<TooLarge<'a>>)
     }
 }
 
-// The tag of a region is too long.
+// Returns a reason if the tag of a region is too long.
 fn long_tag<'a>(region: Marked<'a>) -> Option<TooLarge<'a>>
     ensures decides { is_some result ≡ not (nat_le (length region.entry.tag.now) MOST_TAG_BYTES) }
     ensures holds { IfSome result (IsLongTag region.entry.tag.now) }
@@ -191,7 +195,7 @@ fn long_tag<'a>(region: Marked<'a>) -> Option<TooLarge<'a>>
     Some(TooLarge::TagBytes(region.tag))
 }
 
-// The least line of the first places of tags behind the most of them.
+// Returns the least line of the first regions of the tags past the limit.
 fn tags_beyond(alloc: Global, regions: &[Marked]) -> Result<LeastLine, AllocError>
     ensures { IfOk result (λ least.
         least.line ≡ lowest None (tags_past (regions_of regions.now))) }
@@ -205,7 +209,7 @@ fn tags_beyond(alloc: Global, regions: &[Marked]) -> Result<LeastLine, AllocErro
     Ok(least)
 }
 
-// One region more; what room for tags is left then.
+// Records one region, and returns the room for tags that is left after it.
 fn tag_beyond<'a>(
     seen: &mut Known<'a>,
     room: usize,

@@ -1,4 +1,4 @@
-//! The locals that are known.
+//! The known locals.
 
 ghost use Rattle.std.specs.Prelude.{◌≡◌, ◌<◌, ◌+◌, ◌^◌, [], OnOk};
 ghost use Rattle.cw_tree.specs.SyntaxView.{stmt_of};
@@ -10,7 +10,7 @@ use crate::table::Table;
 use cw_tree::syntax::Stmt;
 use std::alloc::{AllocError, Global};
 
-/// The integers and the arrays that are known, each in the order of their declaration.
+/// Holds the known integers and the known arrays, each in the order of declaration.
 #[derive(Drop)]
 pub struct Locals<'a> {
     pub ints: Table<'a>,
@@ -18,7 +18,7 @@ pub struct Locals<'a> {
 }
 
 impl<'a> Locals<'a> {
-    /// No local.
+    /// Returns a value without locals.
     pub fn new(alloc: Global) -> Locals<'a>
         ensures ints { result.ints ≡ [] }
         ensures arrays { result.arrays ≡ [] }
@@ -31,6 +31,10 @@ impl<'a> Locals<'a> {
 }
 
 /// Declares the local that the statement declares, if it declares one.
+///
+/// # Errors
+///
+/// Returns an error if memory runs out.
 pub fn declare<'a>(locals: &mut Locals<'a>, stmt: &'a Stmt) -> Result<(), AllocError>
     requires { locals_count locals.old + declares_in (stmt_of stmt.now) < 2 ^ 32 }
     ensures { OnOk result (Declared stmt.now locals.old locals.new) }

@@ -1,4 +1,4 @@
-//! Names looked up in a whole program.
+//! Looks up the names of a whole program.
 
 ghost use Rattle.std.specs.Prelude.{◌≡◌, ◌<◌, ◌+◌, ◌^◌, [], map, length, All, IfOk, OnOk};
 ghost use Rattle.cw_model.specs.Sizes.{limit_faults};
@@ -23,7 +23,11 @@ use cw_tree::resolved as tree;
 use cw_tree::syntax::{Ast, Function, Param, Reducer};
 use std::alloc::{AllocError, Global};
 
-/// The resolved tree of a program that passes no limit.
+/// Returns the resolved tree of a program that exceeds no limit.
+///
+/// # Errors
+///
+/// Returns an error if memory runs out.
 pub fn resolve(alloc: Global, ast: &Ast) -> Result<tree::Tree, AllocError>
     requires { limit_faults (parsed.program_of ast.now) ≡ [] }
     ensures { IfOk result (λ tree. resolved_of tree ≡ spec.resolved (parsed.program_of ast.now)) }
@@ -42,7 +46,7 @@ pub fn resolve(alloc: Global, ast: &Ast) -> Result<tree::Tree, AllocError>
     })
 }
 
-// The first region of each tag.
+// Returns the first region of each tag.
 fn marked<'a>(alloc: Global, functions: &'a [Function]) -> Result<Vec<Marked<'a>>, AllocError>
     ensures { IfOk result (AreFirstOfAll functions.now) }
 {
@@ -51,7 +55,7 @@ fn marked<'a>(alloc: Global, functions: &'a [Function]) -> Result<Vec<Marked<'a>
     Ok(found)
 }
 
-// What a program lists, whose first regions these are.
+// Returns the names that a program lists; `marked` holds the first region of each tag.
 fn lists<'a>(alloc: Global, ast: &'a Ast, marked: &[Marked<'a>]) -> Result<Lists<'a>, AllocError>
     requires limits { limit_faults (parsed.program_of ast.now) ≡ [] }
     requires few { length marked.now < 2 ^ 32 }
@@ -68,7 +72,7 @@ fn lists<'a>(alloc: Global, ast: &'a Ast, marked: &[Marked<'a>]) -> Result<Lists
     })
 }
 
-// The reducers in their order.
+// Copies the reducers in order.
 fn reducers(alloc: Global, reducers: &[Reducer]) -> Result<Vec<tree::Reducer>, AllocError>
     ensures { IfOk result (λ found. AreReducers reducers.now found.items) }
 {
@@ -82,7 +86,7 @@ fn reducers(alloc: Global, reducers: &[Reducer]) -> Result<Vec<tree::Reducer>, A
     Ok(found)
 }
 
-// The functions in their order, each name looked up.
+// Resolves the functions in order.
 fn functions(
     alloc: Global,
     lists: &Lists,
@@ -99,7 +103,7 @@ fn functions(
     Ok(found)
 }
 
-// One function, each name looked up.
+// Resolves a function.
 fn function(alloc: Global, lists: &Lists, f: &Function) -> Result<tree::Function, AllocError>
     requires { DeclaresFew f.now }
     ensures { IfOk result (IsFunction lists.now f.now) }
@@ -140,7 +144,7 @@ fn declare_params<'a>(locals: &mut Locals<'a>, params: &'a [Param]) -> Result<()
     Ok(())
 }
 
-// The parameters in their order.
+// Copies the parameters in order.
 fn params(alloc: Global, params: &[Param]) -> Result<Vec<tree::Param>, AllocError>
     ensures { IfOk result (λ found. map param_of found.items ≡ map parsed.param_of params.now) }
 {

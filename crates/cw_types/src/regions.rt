@@ -1,4 +1,4 @@
-//! The regions of a program in their order.
+//! The regions of a program, in order.
 
 ghost use Rattle.std.specs.Prelude.{◌≡◌, IfOk, OnOk};
 ghost use Rattle.cw_model.specs.Sizes.{regions_in, regions_in_block};
@@ -8,14 +8,18 @@ ghost use Rattle.cw_types.specs.Regions.{regions_of, regions_of_all, Adds};
 use cw_tree::syntax::{Function, Line, Stmt};
 use std::alloc::{AllocError, Global};
 
-/// A region by its tag, and the line of its first token.
+/// Represents a region by its tag and the line of its first token.
 #[derive(Clone, Copy)]
 pub struct Marked<'a> {
     pub tag: &'a [u8],
     pub line: u32,
 }
 
-/// All regions of these functions.
+/// Returns all regions of these functions.
+///
+/// # Errors
+///
+/// Returns an error if memory runs out.
 pub fn regions<'a>(alloc: Global, functions: &'a [Function]) -> Result<Vec<Marked<'a>>, AllocError>
     ensures { IfOk result (λ found. regions_of found.items ≡ regions_of_all functions.now) }
 {
@@ -26,7 +30,7 @@ pub fn regions<'a>(alloc: Global, functions: &'a [Function]) -> Result<Vec<Marke
     Ok(found)
 }
 
-// Adds the regions of statements in order.
+// Appends the regions of a block.
 #[cycle(marking)]
 fn block<'a>(found: &mut Vec<Marked<'a>>, lines: &'a [Line]) -> Result<(), AllocError>
     ensures { OnOk result (Adds (regions_in_block (block_of lines.now)) found.old found.new) }
@@ -37,7 +41,7 @@ fn block<'a>(found: &mut Vec<Marked<'a>>, lines: &'a [Line]) -> Result<(), Alloc
     Ok(())
 }
 
-// Adds the regions of a statement of a line.
+// Appends the regions of a statement.
 #[cycle(marking)]
 fn statement<'a>(found: &mut Vec<Marked<'a>>, line: u32, stmt: &'a Stmt) -> Result<(), AllocError>
     ensures { OnOk result (Adds (regions_in line (stmt_of stmt.now)) found.old found.new) }

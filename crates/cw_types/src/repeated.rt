@@ -1,4 +1,4 @@
-//! Names of functions and reducers that are there twice.
+//! Finds repeated names of functions and reducers.
 
 ghost use Rattle.std.specs.Prelude.{ℕ, ◌≡◌, ◌++◌, [], Contains, IfSome, List, OnOk, is_some};
 ghost use Rattle.cw_model.specs.Names.{is_among, same_name};
@@ -18,7 +18,11 @@ use cw_reasons::Reasons;
 use cw_tree::syntax::{Function, Name, Reducer};
 use std::alloc::{AllocError, Global};
 
-/// Notes the line of each function whose name an earlier one has.
+/// Records the line of each function that has the name of an earlier function.
+///
+/// # Errors
+///
+/// Returns an error if memory runs out.
 pub fn repeated_functions<'a>(
     alloc: Global,
     functions: &'a [Function],
@@ -36,7 +40,11 @@ pub fn repeated_functions<'a>(
     Ok(())
 }
 
-/// Notes the line of each reducer whose name an earlier one has.
+/// Records the line of each reducer that has the name of an earlier reducer.
+///
+/// # Errors
+///
+/// Returns an error if memory runs out.
 pub fn repeated_reducers<'a>(
     alloc: Global,
     reducers: &'a [Reducer],
@@ -54,7 +62,7 @@ pub fn repeated_reducers<'a>(
     Ok(())
 }
 
-// An earlier one has the name.
+// Returns a reason if an earlier function or reducer has this name.
 fn repeated<'a>(earlier: &Known<'a>, name: &'a Name) -> Option<IllTyped<'a>>
     ensures decides { is_some result ≡ is_among name.now (known_names (kinds earlier.now)) }
     ensures holds { IfSome result (IsRepeatedOf earlier.now name.now) }
@@ -63,7 +71,7 @@ fn repeated<'a>(earlier: &Known<'a>, name: &'a Name) -> Option<IllTyped<'a>>
     Some(IllTyped::Repeated(name, first.line))
 }
 
-/// Notes of each reducer and each function of its name the later line.
+/// Records, for each reducer and each function with the same name, the later line of the two.
 pub fn shared_names<'a>(
     functions: &'a [Function],
     reducers: &'a [Reducer],
@@ -79,7 +87,7 @@ pub fn shared_names<'a>(
     }
 }
 
-// The same of one reducer.
+// Records, for this reducer and each function with the same name, the later line of the two.
 fn shared_name<'a>(
     functions: &'a [Function],
     reducer: &'a Reducer,
@@ -98,7 +106,7 @@ fn shared_name<'a>(
     }
 }
 
-// A function has the name of a reducer.
+// Returns a reason if the function and the reducer have the same name.
 fn shared<'a>(function: &Function, reducer: &'a Reducer) -> Option<IllTyped<'a>>
     ensures decides { is_some result ≡ same_name reducer.now.name function.now.name }
     ensures holds { IfSome result (IsRepeating reducer.now.name
@@ -111,14 +119,14 @@ fn shared<'a>(function: &Function, reducer: &'a Reducer) -> Option<IllTyped<'a>>
     Some(IllTyped::Repeated(&reducer.name, first))
 }
 
-// The later of two lines.
+// Returns the later of two lines.
 fn later(line: u32, other: u32) -> u32
     ensures { result ≡ later_line line other }
 {
     if line <= other { other } else { line }
 }
 
-// The earlier of two lines.
+// Returns the earlier of two lines.
 fn earlier(line: u32, other: u32) -> u32
     ensures { result ≡ earlier_line line other }
 {

@@ -1,4 +1,4 @@
-//! Names looked up, in what stands in a statement beside its blocks.
+//! Looks up the names in the parts of a statement outside of its blocks.
 
 ghost use Rattle.std.specs.Prelude.{◌≡◌, ◌<◌, ◌+◌, ◌^◌, length, map, drop, IfOk};
 ghost use Rattle.cw_types.specs.Found as looked;
@@ -16,7 +16,11 @@ use cw_tree::resolved as tree;
 use cw_tree::syntax::{Call, Cut, Expr, Head, Name, Param};
 use std::alloc::{AllocError, Global};
 
-/// A copy of a name.
+/// Returns a copy of a name.
+///
+/// # Errors
+///
+/// Returns an error if memory runs out.
 pub fn copy(alloc: Global, name: &Name) -> Result<Name, AllocError>
     ensures { IfOk result (λ copied. copied ≡ name.now) }
 {
@@ -24,7 +28,11 @@ pub fn copy(alloc: Global, name: &Name) -> Result<Name, AllocError>
     Ok(shared)
 }
 
-/// A use of a name among these.
+/// Returns a use of a name among these names.
+///
+/// # Errors
+///
+/// Returns an error if memory runs out.
 pub fn use_of(alloc: Global, names: &Table, name: &Name) -> Result<tree::Use, AllocError>
     ensures { IfOk result (λ used. use_of used ≡ spec.use_of names.now name.now) }
 {
@@ -33,7 +41,11 @@ pub fn use_of(alloc: Global, names: &Table, name: &Name) -> Result<tree::Use, Al
     Ok(tree::Use { name, slot })
 }
 
-/// The declaration of a name behind these.
+/// Returns the declaration of a name after these names.
+///
+/// # Errors
+///
+/// Returns an error if memory runs out.
 pub fn next_use(alloc: Global, names: &Table, name: &Name) -> Result<tree::Use, AllocError>
     ensures { IfOk result (λ used. use_of used ≡ spec.next_use names.now name.now) }
 {
@@ -42,7 +54,11 @@ pub fn next_use(alloc: Global, names: &Table, name: &Name) -> Result<tree::Use, 
     Ok(tree::Use { name, slot })
 }
 
-/// A use of a name that a program lists.
+/// Returns a use of a name that a program lists.
+///
+/// # Errors
+///
+/// Returns an error if memory runs out.
 pub fn listed(alloc: Global, names: &Table, name: &Name) -> Result<tree::Listed, AllocError>
     ensures { IfOk result (λ used. listed_of used ≡ spec.listed_in names.now name.now) }
 {
@@ -51,7 +67,11 @@ pub fn listed(alloc: Global, names: &Table, name: &Name) -> Result<tree::Listed,
     Ok(tree::Listed { name, index })
 }
 
-/// An expression with each name looked up.
+/// Returns an expression with each name looked up.
+///
+/// # Errors
+///
+/// Returns an error if memory runs out.
 #[cycle(expressions)]
 pub fn expression(alloc: Global, locals: &Locals, e: &Expr) -> Result<tree::Expr, AllocError>
     ensures { IfOk result (looked.IsExpr locals.now e.now) }
@@ -87,7 +107,11 @@ pub fn expression(alloc: Global, locals: &Locals, e: &Expr) -> Result<tree::Expr
     }
 }
 
-/// Such an expression in a box.
+/// Returns an expression with each name looked up, in a box.
+///
+/// # Errors
+///
+/// Returns an error if memory runs out.
 #[cycle(expressions)]
 pub fn boxed(alloc: Global, locals: &Locals, e: &Expr) -> Result<Box<tree::Expr>, AllocError>
     ensures { IfOk result (λ found. looked.IsExpr locals.now e.now found.value) }
@@ -97,7 +121,7 @@ pub fn boxed(alloc: Global, locals: &Locals, e: &Expr) -> Result<Box<tree::Expr>
     Ok(found)
 }
 
-// Whether the first of these parameters only reads an array.
+// Reports whether the first of these parameters is a read-only array.
 fn is_reader(params: &[Param]) -> bool
     ensures { result ≡ spec.is_reader (map param_of params.now) }
 {
@@ -107,7 +131,7 @@ fn is_reader(params: &[Param]) -> bool
     }
 }
 
-// The parameters behind the first one.
+// Returns the parameters after the first one.
 fn behind_first(params: &[Param]) -> &[Param]
     ensures { map param_of result.now ≡ drop 1 (map param_of params.now) }
 {
@@ -117,7 +141,7 @@ fn behind_first(params: &[Param]) -> &[Param]
     }
 }
 
-// A name alone in the place of an argument for the first of these parameters.
+// Returns a name as an argument for the first of these parameters.
 fn name_alone(
     alloc: Global,
     locals: &Locals,
@@ -142,7 +166,7 @@ fn name_alone(
     }
 }
 
-// An argument for the first of these parameters, with each name looked up.
+// Returns an argument for the first of these parameters, with each name looked up.
 fn argument(
     alloc: Global,
     locals: &Locals,
@@ -168,7 +192,7 @@ fn argument(
     }
 }
 
-// The arguments for these parameters, in their order.
+// Returns the arguments for these parameters, in order.
 fn arguments(
     alloc: Global,
     locals: &Locals,
@@ -187,7 +211,7 @@ fn arguments(
     Ok(found)
 }
 
-// The integer that takes the result of a call, if one does.
+// Returns the integer that receives the result of a call, if there is one.
 fn target(
     alloc: Global,
     names: &Table,
@@ -204,7 +228,11 @@ fn target(
     }
 }
 
-/// What is returned, if anything is.
+/// Returns the expression that a return evaluates, if there is one.
+///
+/// # Errors
+///
+/// Returns an error if memory runs out.
 pub fn returned(
     alloc: Global,
     locals: &Locals,
@@ -221,7 +249,11 @@ pub fn returned(
     }
 }
 
-/// A call with its names and its callee looked up.
+/// Returns a call with its names and its callee looked up.
+///
+/// # Errors
+///
+/// Returns an error if memory runs out.
 pub fn call(
     alloc: Global,
     lists: &Lists,
@@ -243,7 +275,7 @@ pub fn call(
     })
 }
 
-// The arrays of a loop.
+// Returns the arrays of a loop.
 fn arrays(alloc: Global, names: &Table, over: &[Name]) -> Result<Vec<tree::Use>, AllocError>
     ensures { IfOk result (λ found. map use_of found.items ≡ map (spec.use_of names.now) over.now) }
 {
@@ -255,7 +287,11 @@ fn arrays(alloc: Global, names: &Table, over: &[Name]) -> Result<Vec<tree::Use>,
     Ok(found)
 }
 
-/// The head of a loop, whose body is already resolved.
+/// Returns the head of a loop, for its resolved body.
+///
+/// # Errors
+///
+/// Returns an error if memory runs out.
 pub fn head(
     alloc: Global,
     locals: &Locals,
@@ -279,7 +315,11 @@ pub fn head(
     })
 }
 
-/// A cut with each name looked up.
+/// Returns a cut with each name looked up.
+///
+/// # Errors
+///
+/// Returns an error if memory runs out.
 pub fn cut(alloc: Global, locals: &Locals, cut: &Cut) -> Result<tree::Cut, AllocError>
     requires { length locals.now.arrays + 1 < 2 ^ 32 }
     ensures { IfOk result (looked.IsCut locals.now cut.now) }

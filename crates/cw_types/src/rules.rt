@@ -1,4 +1,4 @@
-//! The rules of names and types, statement by statement: for which reason one is broken.
+//! Checks the rules of names and types, statement by statement, and returns the reason why a rule is broken.
 
 ghost use Rattle.std.specs.Prelude.{
   ◌≡◌,
@@ -47,10 +47,10 @@ use cw_model::limits::MOST_GRAIN;
 use cw_model::syntax::{NameKind, Reduction};
 use cw_tree::syntax::{Call, Cut, Expr, Function, Head, Line, Name, Param, Stmt};
 
-/// The name of the function that a run begins with.
+/// The name of the function that a run starts with.
 pub const MAIN: &[u8] = b"main";
 
-/// Which returns may stand in a block.
+/// Represents the kind of `return` that a block may contain.
 #[derive(Clone, Copy)]
 pub enum Returns {
     Nowhere,
@@ -58,7 +58,8 @@ pub enum Returns {
     Alone,
 }
 
-/// A rule that a statement breaks, the blocks in it aside, where these returns may stand.
+/// Returns a rule that a statement breaks, apart from its inner blocks. `returns` is the kind of `return` that the
+/// block may contain.
 pub fn of_stmt<'a>(
     globals: &Globals<'a>,
     returns: Returns,
@@ -90,7 +91,7 @@ pub fn of_stmt<'a>(
     }
 }
 
-// A name stands where an integer or an array must, and is none.
+// Returns a reason if the name is not of the required kind, an integer or an array.
 fn of_use<'a>(
     globals: &Globals<'a>,
     known: &Known<'a>,
@@ -134,7 +135,7 @@ fn of_use<'a>(
     }
 }
 
-// A name that no local has stands where an integer or an array must.
+// Returns the reason why a name that no local has is not of the required kind.
 fn of_unknown<'a>(globals: &Globals<'a>, name: &'a Name, wanted: NameKind) -> IllTyped<'a>
     ensures { (locals : List Declared) → IsUnknown name.now (kinds locals) →
         IsMisuse (program_of globals.now.ast.now) locals (name.now, wanted) result }
@@ -148,7 +149,7 @@ fn of_unknown<'a>(globals: &Globals<'a>, name: &'a Name, wanted: NameKind) -> Il
     IllTyped::Unknown(name)
 }
 
-// A name is something else than what must stand there.
+// Returns the reason why a name is not of the required kind, but of another kind.
 fn misused<'a>(
     globals: &Globals<'a>,
     name: &'a Name,
@@ -166,7 +167,7 @@ fn misused<'a>(
     }
 }
 
-// A name in an expression is not what must stand there.
+// Returns a reason if a name in an expression is not of the required kind.
 fn of_expr<'a>(globals: &Globals<'a>, known: &Known<'a>, e: &'a Expr) -> Option<IllTyped<'a>>
     ensures decides { is_some result
         ≡ not (rule.is_fine (kinds known.now) (expr_of e.now)) }
@@ -202,7 +203,7 @@ fn of_expr<'a>(globals: &Globals<'a>, known: &Known<'a>, e: &'a Expr) -> Option<
     }
 }
 
-// A name may not be declared.
+// Returns a reason if the name must not be declared.
 fn of_declared<'a>(globals: &Globals<'a>, known: &Known<'a>, name: &'a Name) -> Option<IllTyped<'a>>
     ensures decides { is_some result
         ≡ not (rule.is_new (program_of globals.now.ast.now) (kinds known.now) name.now) }
@@ -218,7 +219,7 @@ fn of_declared<'a>(globals: &Globals<'a>, known: &Known<'a>, name: &'a Name) -> 
     }
 }
 
-/// A function or a reducer has the name.
+/// Returns a reason if a function or a reducer has this name.
 #[tactic(auto, using(cw_tree::specs::lemmas::Names::among_append))]
 pub fn of_global<'a>(globals: &Globals<'a>, name: &'a Name) -> Option<IllTyped<'a>>
     ensures decides { is_some result
@@ -235,7 +236,7 @@ pub fn of_global<'a>(globals: &Globals<'a>, name: &'a Name) -> Option<IllTyped<'
     None
 }
 
-// A declaration names what it may not, or declares what it may not.
+// Returns a reason if a declaration declares a name that it must not, or misuses a name in its value.
 fn of_declare<'a>(
     globals: &Globals<'a>,
     known: &Known<'a>,
@@ -255,7 +256,7 @@ fn of_declare<'a>(
     Some(reason)
 }
 
-// A name that must be an array, or an integer, or an expression beside it is not what must stand there.
+// Returns a reason if the name or a name in the expression is not of the required kind.
 fn of_name_and<'a>(
     globals: &Globals<'a>,
     known: &Known<'a>,
@@ -276,7 +277,8 @@ fn of_name_and<'a>(
     Some(reason)
 }
 
-// The array, the index or the value of an element that is assigned to names what it may not.
+// Returns a reason if a name in an assignment to an element is not of the required kind: the array, or a name in the
+// index or the value.
 fn of_assign_element<'a>(
     globals: &Globals<'a>,
     known: &Known<'a>,
@@ -298,7 +300,7 @@ fn of_assign_element<'a>(
     Some(reason)
 }
 
-// One of two expressions names what it may not.
+// Returns a reason if a name in one of two expressions is not of the required kind.
 fn of_two<'a>(
     globals: &Globals<'a>,
     known: &Known<'a>,
@@ -318,7 +320,7 @@ fn of_two<'a>(
     Some(reason)
 }
 
-// One way to reduce is another.
+// Reports whether two reductions are the same.
 fn same_reduction(how: Reduction, other: Reduction) -> bool
     ensures { result ≡ rule.same_reduction how other }
 {
@@ -329,7 +331,7 @@ fn same_reduction(how: Reduction, other: Reduction) -> bool
     }
 }
 
-// A name is that of no reducer which reduces so.
+// Returns a reason if no reducer with this name has this reduction.
 fn of_reducer<'a>(globals: &Globals<'a>, how: Reduction, name: &'a Name) -> Option<IllTyped<'a>>
     ensures decides { is_some result
         ≡ not (rule.is_reducer (program_of globals.now.ast.now) how name.now) }
@@ -346,7 +348,7 @@ fn of_reducer<'a>(globals: &Globals<'a>, how: Reduction, name: &'a Name) -> Opti
     }
 }
 
-// A value is told to no reducer that reduces so, or names what it may not.
+// Returns a reason if no reducer with this name has this reduction, or if the value misuses a name.
 fn of_reduce<'a>(
     globals: &Globals<'a>,
     known: &Known<'a>,
@@ -367,7 +369,7 @@ fn of_reduce<'a>(
     Some(reason)
 }
 
-// A call is of no function, or does not fit it.
+// Returns a reason if a call names no function or does not fit its function.
 fn of_call<'a>(globals: &Globals<'a>, known: &Known<'a>, call: &'a Call) -> Option<IllTyped<'a>>
     ensures decides { is_some result
         ≡ not (calls (program_of globals.now.ast.now) (kinds known.now) call.now) }
@@ -380,14 +382,14 @@ fn of_call<'a>(globals: &Globals<'a>, known: &Known<'a>, call: &'a Call) -> Opti
     }
 }
 
-/// Whether a run begins with the function.
+/// Reports whether a run starts with this function.
 pub fn is_main(function: &Function) -> bool
     ensures { result ≡ same_name (function_of function.now).name main_name }
 {
     function.name.as_bytes() == MAIN
 }
 
-// A call does not fit its function.
+// Returns a reason if a call does not fit its function.
 fn of_called<'a>(
     globals: &Globals<'a>,
     known: &Known<'a>,
@@ -411,7 +413,7 @@ fn of_called<'a>(
     Some(reason)
 }
 
-// The target of a call is no integer, or its function gives none.
+// Returns a reason if the target of a call is not an integer or its function returns nothing.
 fn of_target<'a>(
     globals: &Globals<'a>,
     known: &Known<'a>,
@@ -437,7 +439,7 @@ fn of_target<'a>(
     None
 }
 
-// Arguments do not fit the parameters.
+// Returns a reason if the arguments do not fit the parameters.
 fn of_arguments<'a>(
     globals: &Globals<'a>,
     known: &Known<'a>,
@@ -469,7 +471,7 @@ fn of_arguments<'a>(
     None
 }
 
-/// Whether a name of this kind is an array.
+/// Reports whether a name of this kind is an array.
 pub fn is_array(kind: NameKind) -> bool
     ensures { result ≡ model.is_array_kind kind }
 {
@@ -479,7 +481,7 @@ pub fn is_array(kind: NameKind) -> bool
     }
 }
 
-// Whether an expression is a name alone.
+// Reports whether an expression is only a name.
 fn is_name(e: &Expr) -> bool
     ensures { result ≡ is_name (expr_of e.now) }
 {
@@ -489,7 +491,7 @@ fn is_name(e: &Expr) -> bool
     }
 }
 
-// A name in an argument is not what must stand there.
+// Returns a reason if a name in an argument is not of the required kind.
 #[tactic(auto, using(crate::proofs::Misuse::argument_named))]
 fn of_argument<'a>(
     globals: &Globals<'a>,
@@ -513,7 +515,7 @@ fn of_argument<'a>(
     }
 }
 
-// The head of a loop breaks a rule.
+// Returns a rule that the head of a loop breaks.
 fn of_loop<'a>(globals: &Globals<'a>, known: &Known<'a>, head: &'a Head) -> Option<IllTyped<'a>>
     ensures decides { is_some result
         ≡ not (is_head (program_of globals.now.ast.now) (kinds known.now) head.now) }
@@ -538,7 +540,7 @@ fn of_loop<'a>(globals: &Globals<'a>, known: &Known<'a>, head: &'a Head) -> Opti
     Some(reason)
 }
 
-// The head of a loop has another name in place of its variable's.
+// Returns a reason if the head of a loop has another name instead of its variable.
 fn of_other_name<'a>(head: &'a Head) -> Option<IllTyped<'a>>
     ensures decides { is_some result
         ≡ not (same_name head.now.tested head.now.variable
@@ -556,7 +558,7 @@ fn of_other_name<'a>(head: &'a Head) -> Option<IllTyped<'a>>
     None
 }
 
-// One of these names is no array.
+// Returns a reason if one of these names is not an array that may be written.
 fn of_arrays<'a>(
     globals: &Globals<'a>,
     known: &Known<'a>,
@@ -575,7 +577,7 @@ fn of_arrays<'a>(
     None
 }
 
-// A cut breaks a rule.
+// Returns a rule that a cut breaks.
 fn of_cut<'a>(globals: &Globals<'a>, known: &Known<'a>, cut: &'a Cut) -> Option<IllTyped<'a>>
     ensures decides { is_some result
         ≡ not (cuts (program_of globals.now.ast.now) (kinds known.now) cut.now) }
@@ -595,7 +597,7 @@ fn of_cut<'a>(globals: &Globals<'a>, known: &Known<'a>, cut: &'a Cut) -> Option<
     Some(reason)
 }
 
-// A return may not stand here.
+// Returns a reason if this return is not allowed here.
 fn of_return<'a>(
     globals: &Globals<'a>,
     returns: Returns,
@@ -621,7 +623,7 @@ fn of_return<'a>(
     }
 }
 
-/// Whether a statement is a return, or an if with two branches that surely return.
+/// Reports whether a statement is a return, or an `if` whose two branches surely return.
 #[cycle(returning)]
 pub fn surely_returns(stmt: &Stmt) -> bool
     ensures { result ≡ rule.surely_returns (stmt_of stmt.now) }
@@ -650,7 +652,7 @@ pub fn surely_returns(stmt: &Stmt) -> bool
     }
 }
 
-/// Whether the last statement of a block is such.
+/// Reports whether the last statement of a block surely returns.
 #[cycle(returning)]
 pub fn block_returns(lines: &[Line]) -> bool
     ensures { result ≡ rule.block_returns (block_of lines.now) }

@@ -1,4 +1,4 @@
-//! Names looked up in statements and blocks.
+//! Looks up the names in statements and blocks.
 
 ghost use Rattle.std.specs.Prelude.{◌≡◌, ◌<◌, ◌+◌, ◌^◌, true, IfOk};
 ghost use Rattle.cw_tree.specs.SyntaxView as parsed;
@@ -13,7 +13,12 @@ use cw_tree::resolved as tree;
 use cw_tree::syntax::{Cut, Head, Line, Stmt};
 use std::alloc::{AllocError, Global};
 
-/// The statements of a block, each name looked up; the names that it declares are gone after it.
+/// Returns the statements of a block with each name looked up; the names that the block declares are removed after
+/// it.
+///
+/// # Errors
+///
+/// Returns an error if memory runs out.
 #[cycle(statements)]
 pub fn block<'a>(
     alloc: Global,
@@ -41,7 +46,7 @@ pub fn block<'a>(
     Ok(found)
 }
 
-// A statement, each name looked up; what it declares is not known after it yet.
+// Returns a statement with each name looked up; does not yet add the name that it declares.
 #[cycle(statements)]
 fn statement<'a>(
     alloc: Global,
@@ -85,7 +90,7 @@ fn statement<'a>(
     }
 }
 
-// A parallel loop, each name looked up; its variable is known in its body alone.
+// Returns a parallel loop with each name looked up; its variable is known only in its body.
 #[cycle(statements)]
 fn turns<'a>(
     alloc: Global,
@@ -104,7 +109,7 @@ fn turns<'a>(
     Ok(tree::Stmt::For(Box::new(alloc, head)?, body))
 }
 
-// A cut, each name looked up; the parts are known in its block alone.
+// Returns a cut with each name looked up; the parts are known only in its block.
 #[cycle(statements)]
 fn with_parts<'a>(
     alloc: Global,
@@ -125,7 +130,7 @@ fn with_parts<'a>(
     Ok(tree::Stmt::Cut(Box::new(alloc, parts)?, body))
 }
 
-// A statement without blocks, each name looked up.
+// Returns a statement without inner blocks, with each name looked up.
 fn plain(
     alloc: Global,
     lists: &Lists,

@@ -1,4 +1,4 @@
-//! Names by their places.
+//! Tables of names.
 
 ghost use Rattle.std.specs.Prelude.{◌≡◌, ◌<◌, ◌≤◌, ◌+◌, ◌-◌, ◌^◌, [], ◌∷◌, ◌++◌, IfSome, is_some, length, take};
 ghost use Rattle.cw_model.specs.Names.{is_among};
@@ -9,7 +9,7 @@ use std::alloc::{AllocError, Global};
 use std::collections::HashMap;
 use std::marker::Model;
 
-/// Names in order, each found by its bytes: fewer than 2^32 of them.
+/// Holds fewer than 2^32 names in order, and finds each by its bytes.
 #[derive(Drop)]
 pub struct Table<'a> {
     names: Vec<&'a [u8]>,
@@ -28,7 +28,7 @@ impl<'a> Model for Table<'a> {
 }
 
 impl<'a> Table<'a> {
-    /// A table with no name.
+    /// Returns an empty table.
     pub fn new(alloc: Global) -> Table<'a>
         ensures { result ≡ [] }
     {
@@ -38,7 +38,7 @@ impl<'a> Table<'a> {
         }
     }
 
-    /// The first place of a name, from 0, or how many names there are.
+    /// Returns the first position of a name, from 0, or the number of names if it is not found.
     #[tactic(auto, using(crate::proofs::Places::found, std::proofs::lemmas::Grind::common_steps))]
     pub fn find(&self, name: &[u8]) -> u32
         ensures { result ≡ slot_of name.now self.now }
@@ -49,7 +49,7 @@ impl<'a> Table<'a> {
         }
     }
 
-    /// The first place of a name, from 0, if the name is there.
+    /// Returns the first position of a name, from 0, if the name is found.
     pub fn place(&self, name: &[u8]) -> Option<u32>
         ensures there { is_some result ≡ is_among name.now self.now }
         ensures first { IfSome result (λ place. place ≡ slot_of name.now self.now) }
@@ -57,21 +57,25 @@ impl<'a> Table<'a> {
         self.places.get(name).copied()
     }
 
-    /// How many names there are.
+    /// Returns the number of names.
     pub fn len(&self) -> u32
         ensures { result ≡ length self.now }
     {
         self.names.len() as u32
     }
 
-    /// Whether a name is there.
+    /// Reports whether the table has this name.
     pub fn has(&self, name: &[u8]) -> bool
         ensures { result ≡ is_among name.now self.now }
     {
         self.places.contains_key(name)
     }
 
-    /// One name more, at the end. Where memory runs out the table is as it was.
+    /// Appends a name.
+    ///
+    /// # Errors
+    ///
+    /// Returns an error if memory runs out; the table is unchanged then.
     pub fn add(&mut self, name: &'a [u8]) -> Result<(), AllocError>
         requires { length self.old + 1 < 2 ^ 32 }
         ensures { Becomes (self.old ++ name.now ∷ []) self.old self.new result }
@@ -90,7 +94,7 @@ impl<'a> Table<'a> {
         }
     }
 
-    /// The last name is gone. It asks that there is one.
+    /// Removes the last name. Requires that there is a name.
     pub fn forget(&mut self)
         requires { 1 ≤ length self.old }
         ensures { self.new ≡ take (length self.old - 1) self.old }
@@ -105,7 +109,7 @@ impl<'a> Table<'a> {
         }
     }
 
-    /// The names after the first so many are gone.
+    /// Removes all names except the first `len`.
     pub fn leave(&mut self, len: u32)
         requires { len ≤ length self.old }
         ensures { self.new ≡ take len self.old }

@@ -1,4 +1,4 @@
-//! The different tags of a program.
+//! The distinct tags of a program.
 
 ghost use Rattle.std.specs.Prelude.{◌≡◌, ◌<◌, ◌^◌, length, IfOk};
 ghost use Rattle.cw_types.specs.Regions.{AreFirst, tags_of};
@@ -10,7 +10,11 @@ use cw_model::syntax::NameKind;
 use cw_tree::syntax::Name;
 use std::alloc::{AllocError, Global};
 
-/// The first region of each tag.
+/// Returns the first region of each tag.
+///
+/// # Errors
+///
+/// Returns an error if memory runs out.
 pub fn different<'a>(alloc: Global, regions: &[Marked<'a>]) -> Result<Vec<Marked<'a>>, AllocError>
     ensures { IfOk result (AreFirst regions.now) }
 {
@@ -25,7 +29,11 @@ pub fn different<'a>(alloc: Global, regions: &[Marked<'a>]) -> Result<Vec<Marked
     Ok(found)
 }
 
-/// The tags of regions by their places.
+/// Returns a table of the tags of these regions.
+///
+/// # Errors
+///
+/// Returns an error if memory runs out.
 pub fn tag_table<'a>(alloc: Global, regions: &[Marked<'a>]) -> Result<Table<'a>, AllocError>
     requires { length regions.now < 2 ^ 32 }
     ensures { IfOk result (λ names. names ≡ tags_of regions.now) }
@@ -37,7 +45,11 @@ pub fn tag_table<'a>(alloc: Global, regions: &[Marked<'a>]) -> Result<Table<'a>,
     Ok(names)
 }
 
-/// Copies of the tags of regions.
+/// Returns copies of the tags of these regions.
+///
+/// # Errors
+///
+/// Returns an error if memory runs out.
 pub fn tag_names(alloc: Global, regions: &[Marked]) -> Result<Vec<Name>, AllocError>
     ensures { IfOk result (λ names. names.items ≡ tags_of regions.now) }
 {

@@ -1,4 +1,4 @@
-//! The least line that passes a limit, and which.
+//! The least line that exceeds a limit, with the limit.
 
 ghost use Rattle.std.specs.Prelude.{◌≡◌, None, is_some, not};
 ghost use Rattle.cw_model.specs.Lines.{unless};
@@ -7,21 +7,21 @@ ghost use Rattle.cw_types.specs.Telling.{IsTheLeast, IsTheOne, Noted, NotesLeast
 use cw_reasons::At;
 use cw_text::LeastLine;
 
-/// The least line so far that passes a limit, with the one that was found for it first.
+/// Holds the least line so far that exceeds a limit, with the first limit found for it.
 #[derive(Clone, Copy)]
 pub struct Told<R> {
     pub first: Option<At<R>>,
 }
 
 impl<R: Copy> Told<R> {
-    /// No line so far.
+    /// Returns a value without a line.
     pub fn new() -> Told<R>
         ensures { result.first ≡ None }
     {
         Told { first: None }
     }
 
-    /// One line more, where there is a reason against it.
+    /// Records a line, if there is a reason against it.
     pub fn note(&mut self, found: Option<R>, line: u32)
         ensures lines { Noted (unless (not (is_some found)) line) self.old self.new }
         ensures told { Tells (IsTheOne line found) self.old self.new }
@@ -39,7 +39,7 @@ impl<R: Copy> Told<R> {
         }
     }
 
-    /// The least of some lines more, where there is one; this is the reason against each of them.
+    /// Records the least of some lines, if there is one; `reason` applies to each of them.
     pub fn note_least(&mut self, least: LeastLine, reason: R)
         ensures lines { NotesLeast least.line self.old self.new }
         ensures told { Tells (IsTheLeast least.line reason) self.old self.new }

@@ -1,8 +1,8 @@
--- Lists that are read and written at a place.
+-- Reading and writing a list at an index.
 use Rattle.std.proofs.Common.{◌≡◌, ℕ, zero, suc, Some, List, [], ◌∷◌, ◌++◌, length, refl, ap, arith}
 use Rattle.std.specs.Prelude.{drop, slice_get}
 
--- the rest from a place on begins with what stands there
+-- the rest of a list from an index on begins with the element there
 pub drop_at : {A : Type 0} (xs : List A) (k : ℕ) (x : A) → slice_get xs k ≡ Some x → drop k xs ≡ x ∷ drop (suc k) xs
 drop_at [] k x e = cc
 drop_at (y ∷ xs) zero x e = let same : y ≡ x = cc in ap (λ z. z ∷ drop 0 xs) same

@@ -1,4 +1,4 @@
--- Names that are there once.
+-- Names that occur once.
 use Rattle.std.proofs.Common.{◌≡◌, ℕ, suc, ◌+◌, ◌<◌, ◌≤◌, true, false, not, ◌||◌, ◌&&◌, Some, List, [], length, get_or, sym, ap, ◌∙◌, arith}
 use Rattle.std.specs.Prelude.{drop, slice_get, option_map}
 use Rattle.std.proofs.lemmas.List.{length-map, drop_all}
@@ -18,7 +18,7 @@ pub named_at : (reducers : List Reducer) (k : ℕ) (r d : Reducer) → k < lengt
 named_at reducers k r d lt e =
     slice_get-map (λ (r : Reducer). r.name) reducers k ∙ ap (option_map (λ (r : Reducer). r.name)) (slice_get-get_or reducers k d lt ∙ ap Some (sym e))
 
--- behind the last reducer there is no name
+-- after the last reducer there is no name
 pub none_behind : (reducers : List Reducer) (k : ℕ) → length reducers ≤ k → drop k (reducer_names reducers) ≡ []
 none_behind reducers k le = drop_all k (reducer_names reducers) (let n = length-map reducers (λ (r : Reducer). r.name) in omega (arith, n, le))
 

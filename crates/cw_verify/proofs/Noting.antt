@@ -1,4 +1,4 @@
--- Places that are noted, in any order.
+-- Work lists, in any order.
 use Rattle.std.proofs.Common.{◌≡◌, ◌⊎◌, inl, inr, ℕ, zero, suc, Some, List, ◌∷◌, refl, sym, ap, ◌∙◌, arith}
 use Rattle.std.specs.List.{Contains}
 use Rattle.std.specs.List.Sorted.{IsPermutation}
@@ -12,11 +12,11 @@ is_in_of xs x h = (h.0, slice_get-get_or xs h.0 x h.1 ∙ ap Some h.2)
 of_is_in : (xs : List ℕ) (x : ℕ) → IsIn x xs → Contains xs x
 of_is_in xs x h = (h.0, slice_get_within xs h.0 x h.1, get_or_from_slice_get xs h.0 x x h.1)
 
--- what is in one list is in each other one of the same numbers
+-- permuted lists have the same elements
 moved : (xs ys : List ℕ) (x : ℕ) → IsPermutation xs ys → IsIn x xs → IsIn x ys
 moved xs ys x p h = is_in_of ys x (Contains-permutation xs ys x p (of_is_in xs x h))
 
--- a number more
+-- a permutation of a longer list adds one number
 pub noted : (k : ℕ) (xs ys : List ℕ) → IsPermutation (k ∷ xs) ys → IsNoted k xs ys
 noted k xs ys p = record {
   kept = λ j h. moved (k ∷ xs) ys j p (suc h.0, h.1);

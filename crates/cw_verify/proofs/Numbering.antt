@@ -1,4 +1,4 @@
--- Numbers for the blocks round places.
+-- Numbers for lists of enclosing blocks.
 use Rattle.std.proofs.Common.{◌≡◌, ◌⊎◌, inl, inr, ⊎_elim, ℕ, zero, suc, ◌<◌, ◌≤◌, Bool, true, false, ◌||◌, if◌then◌else◌, nat_eq, List, [], ◌∷◌, Some, None, refl, sym, ap, subst, ◌∙◌, arith}
 use Rattle.std.specs.Prelude.{Option, replicate, slice_get, slice_set}
 use Rattle.cw_facts.specs.Lists.{set_other}
@@ -22,7 +22,7 @@ use Rattle.cw_verify.proofs.Rounds.{each_stays, each_comes}
 use Rattle.cw_verify.proofs.Spreading.{shapes_set}
 use Rattle.cw_verify.proofs.Tables.{is_alike_of}
 
--- nothing is brought by what is there
+-- a row brings nothing to itself
 brings_self : (row : Row) → brings row row ≡ false
 brings_self [] = refl
 brings_self (true ∷ row) = brings_self row
@@ -41,17 +41,17 @@ are_alike_self : (xs : List Outer) → are_alike xs xs ≡ true
 are_alike_self [] = refl
 are_alike_self (x ∷ xs) = both_true (is_alike x x) (are_alike xs xs) (is_alike_self x) (are_alike_self xs)
 
--- how blocks meet, by what was found out
+-- the meeting of alike blocks depends only on which of them marks more
 meets_alike : (xs ys : List Outer) → are_alike xs ys ≡ true → meeting_of xs ys ≡ (if each_brings xs ys then (if each_brings ys xs then meeting.Both else meeting.Comes) else meeting.Stays)
 meets_alike xs ys a = ap (λ b. if b then (if each_brings xs ys then (if each_brings ys xs then meeting.Both else meeting.Comes) else meeting.Stays) else meeting.Apart) a
 
--- blocks of one number
+-- blocks with the same number meet as `Stays`
 pub meets_self : (xs ys : List Outer) → xs ≡ ys → meeting_of xs ys ≡ meeting.Stays
 meets_self xs ys e =
     ap (meeting_of xs) (sym e) ∙ meets_alike xs xs (are_alike_self xs)
     ∙ ap (λ b. if b then (if each_brings xs xs then meeting.Both else meeting.Comes) else meeting.Stays) (each_brings_self xs)
 
--- what is told by a meeting
+-- blocks can be merged if and only if they are alike
 pub tells_alike : (xs ys : List Outer) → meets (meeting_of xs ys) ≡ are_alike xs ys
 tells_alike xs ys = at (are_alike xs ys) (each_brings xs ys) (each_brings ys xs)
   where
@@ -88,7 +88,7 @@ tells_both xs ys e = at (are_alike xs ys) (each_brings xs ys) (each_brings ys xs
     at true true false e = cc
     at true true true e = refl
 
--- the number of what blocks come to
+-- the number of merged blocks
 none : (names : Names) (last : ℕ) (blocks : List Outer) → HasNumber names last 0 blocks
 none names last blocks = (omega arith, λ lt. absurd (omega (arith, lt)))
 
@@ -101,7 +101,7 @@ after_meeting names last a b xs ys meeting.Comes e h k =
     subst (HasNumber names last b) (sym (each_comes xs ys told.0 told.2)) k
 after_meeting names last a b xs ys meeting.Both e h k = none names last (either_each xs ys)
 
--- a number that a place was given
+-- the number that was assigned to a pc
 set_number : (numbers : List ℕ) (k n : ℕ) → (number_of (slice_set numbers k n) k ≡ n) ⊎ (number_of (slice_set numbers k n) k ≡ 0)
 set_number [] k n = inr refl
 set_number (x ∷ numbers) zero n = inl refl
@@ -112,7 +112,7 @@ has_set names last numbers k n blocks h =
     ⊎_elim (λ (e : number_of (slice_set numbers k n) k ≡ n). subst (λ m. HasNumber names last m blocks) (sym e) h)
     (λ (e : number_of (slice_set numbers k n) k ≡ 0). subst (λ m. HasNumber names last m blocks) (sym e) (none names last blocks)) (set_number numbers k n)
 
--- a place was given a shape and its number
+-- assigning a state and its number to a pc keeps `AreNumbered`
 pub numbered_set : (names : Names) (shapes : Shapes) (numbers : List ℕ) (last k n : ℕ) (s : Shape) → AreNumbered names shapes numbers last → HasNumber names last n s.outer →
     AreNumbered names (slice_set shapes k (Some s)) (slice_set numbers k n) last
 numbered_set names shapes numbers last k n s h i = λ j t e. ⊎_elim (λ (q : j ≡ k). here j t e q) (λ (q : j ≡ k → ⊥). other j t e q) (cases_eq j k)
@@ -132,7 +132,7 @@ numbered_set names shapes numbers last k n s h i = λ j t e. ⊎_elim (λ (q : j
     other j t e q =
         subst (λ m. HasNumber names last m t.outer) (sym (ap given (set_other numbers k j n q))) (h j t (sym (set_other shapes k j (Some s) q) ∙ e))
 
--- one name more
+-- the names extended by one number
 abbrev pub with_name : Names → (n : ℕ) → List Outer → Names
 with_name names n blocks = λ m. if nat_eq m n then blocks else names m
 
@@ -161,7 +161,7 @@ pair_still names last last' n blocks (Some p) new more h = (
 pub has_new : (names : Names) (last n : ℕ) (blocks : List Outer) → n ≤ last → HasNumber (with_name names n blocks) last n blocks
 has_new names last n blocks le = (le, λ lt. sym (named_here names n blocks))
 
--- where the last number grows alone
+-- if only the last number increases, all numbers remain right
 has_more : (names : Names) (last last' n : ℕ) (xs : List Outer) → last ≤ last' → HasNumber names last n xs → HasNumber names last' n xs
 has_more names last last' n xs more h = (omega (arith, h.0, more), h.1)
 
@@ -175,7 +175,7 @@ pair_more names last last' (Some p) more h = (omega (arith, h.0, more), omega (a
 pub has_none : (names : Names) (last n : ℕ) (xs : List Outer) → n ≡ 0 → HasNumber names last n xs
 has_none names last n xs e = (omega (arith, e), λ lt. absurd (omega (arith, lt, e)))
 
--- no number yet
+-- at the beginning no pc has a number
 none_given : (count k : ℕ) → number_of (replicate count 0) k ≡ 0
 none_given zero k = refl
 none_given (suc count) zero = refl
@@ -192,7 +192,7 @@ kept_blocks code s (instr.Open kind) e = cc
 kept_blocks code s instr.Close e = cc
 kept_blocks code s _ e = refl
 
--- what a shape comes to has the blocks of both
+-- a merged state has the merged blocks
 pub joined_outer : (t s r : Shape) → joined (Some t) s ≡ Some r → r.outer ≡ either_each t.outer s.outer
 joined_outer t s r e = at (can_meet t s) e
   where
@@ -200,7 +200,7 @@ joined_outer t s r e = at (can_meet t s) e
     at true e = sym (ap (λ u. u.outer) (same_Some (met t s) r e))
     at false e = cc
 
--- what is known once a place has another shape and its number
+-- the numbers remain right after a pc has another state and its number
 pub known_set : (names : Names) (items items' : List (Option Found)) (numbers numbers' : List ℕ) (last last' k n : ℕ) (y : Option Found) (r : Found)
     → items' ≡ slice_set (slice_set items k y) k (Some r) → numbers' ≡ slice_set numbers k n → last' ≡ last →
     AreNumbered names (shapes_of items) numbers last → HasNumber names last n (rounds_of r.outer.value) → AreNumbered names (shapes_of items') numbers' last'
@@ -213,7 +213,7 @@ known_set names items items' numbers numbers' last last' k n y r e f g h i =
 pub pair_same : (names : Names) (last last' : ℕ) (p p' : Option Pair) → last' ≡ last → p' ≡ p → IsPair names last p → IsPair names last' p'
 pair_same names last last' p p' e f h = subst (λ l. IsPair names l p') (sym e) (subst (IsPair names last) (sym f) h)
 
--- what is known once what an instruction leaves has a number
+-- the numbers remain right after the state that an instruction leaves is numbered
 pub known_next : (code : Code) (s : Search) (n : Numbers) (k number : ℕ) (i : Instr) (t : Shape) (left : Found) → IsKnown s
     → slice_get (shapes_of s.found.items) k ≡ Some (Some t) → IsNext k i number s.numbers n → shape_view left ≡ leaves code t i →
     IsKnownWith number left (record s { numbers = n })

@@ -1,4 +1,4 @@
--- Blocks that meet, and what each of them has.
+-- Facts about merged blocks.
 use Rattle.std.proofs.Common.{◌≡◌, ◌<◌, ◌≤◌, Bool, true, false, ◌||◌, nat_eq, List, [], ◌∷◌, refl, sym, ap, ◌∙◌, arith}
 use Rattle.std.proofs.lemmas.Bool.{or_parts}
 use Rattle.cw_facts.specs.Tests.{first_true, second_true}
@@ -7,7 +7,7 @@ use Rattle.cw_verify.specs.Table.{blocks_of, can_meet, either_empty, either_roun
 use Rattle.cw_verify.proofs.Rows.{either_stays, either_within, either_fewer, either_comes}
 use Rattle.cw_verify.proofs.Tables.{alike}
 
--- a block that is brought nothing stays
+-- a block to which nothing is brought stays
 round_stays : (x y : Outer) → round_brings x y ≡ false → either_round x y ≡ x
 round_stays x y h =
     let both = or_parts (brings x.empty y.empty) (brings x.gone y.gone || brings x.frozen y.frozen) h in
@@ -23,7 +23,7 @@ each_stays (x ∷ xs) (y ∷ ys) h =
     let both = or_parts (round_brings x y) (each_brings xs ys) h in
     ap (λ l. either_round x y ∷ l) (each_stays xs ys both.1) ∙ ap (λ r. r ∷ xs) (round_stays x y both.0)
 
--- what is brought leaves fewer slots full
+-- a merge that brings something leaves fewer slots unmarked
 round_within : (x y : Outer) → unmarked_round (either_round x y) ≤ unmarked_round x
 round_within x y = omega (arith, either_within x.empty y.empty, either_within x.gone y.gone, either_within x.frozen y.frozen)
 
@@ -50,7 +50,7 @@ each_fewer [] ys h = cc
 each_fewer (x ∷ xs) [] h = cc
 each_fewer (x ∷ xs) (y ∷ ys) h = one_fewer x y xs ys (round_brings x y) refl h (each_fewer xs ys)
 
--- what brings all that is there is what both come to
+-- if the new block marks everything that the old one marks, it is the merged block
 round_comes : (x y : Outer) → is_alike x y ≡ true → round_brings y x ≡ false → either_round x y ≡ y
 round_comes x y e h =
     let a = alike x y e in
@@ -70,7 +70,7 @@ each_comes (x ∷ xs) (y ∷ ys) e h =
     ap (λ l. either_round x y ∷ l) (each_comes xs ys (second_true (is_alike x y) (are_alike xs ys) e) both.1)
     ∙ ap (λ r. r ∷ ys) (round_comes x y (first_true (is_alike x y) (are_alike xs ys) e) both.0)
 
--- blocks that have met others, by what was found out
+-- blocks merged according to how they meet
 pub are_there : (xs ys : List Outer) → each_brings xs ys ≡ false → IsEach xs ys xs false
 are_there xs ys h = record { items = sym (each_stays xs ys h); same = λ e. refl; fewer = λ e. cc }
 
@@ -82,7 +82,7 @@ are_come xs ys zs h alike none e =
 pub are_both : (xs ys zs : List Outer) → each_brings xs ys ≡ true → zs ≡ either_each xs ys → IsEach xs ys zs true
 are_both xs ys zs h e = record { items = e; same = λ f. cc; fewer = λ f. omega (arith, ap unmarked_each e, each_fewer xs ys h) }
 
--- of shapes that can meet the blocks round the innermost one are alike
+-- if two shapes can be merged, their enclosing blocks are alike
 pub meet_alike : (t s : Shape) → can_meet t s ≡ true → are_alike t.outer s.outer ≡ true
 meet_alike t s h =
     let blocks = second_true (nat_eq t.operands s.operands) (are_alike (blocks_of t) (blocks_of s)) h in

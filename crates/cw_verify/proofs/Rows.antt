@@ -1,4 +1,4 @@
--- Rows of slots: rows that meet, and slots that are marked one after another.
+-- Rows of slots: merged rows, and slots that are marked one at a time.
 use Rattle.std.proofs.Common.{◌≡◌, ℕ, zero, suc, ◌+◌, ◌<◌, ◌≤◌, Bool, true, false, not, ◌||◌, ◌&&◌, if◌then◌else◌, nat_eq}
 use Rattle.std.proofs.Common.{nat_lt, List, [], ◌∷◌, Some, length, get_or, refl, sym, ap, ◌∙◌, ⊎_elim, arith}
 use Rattle.std.specs.Prelude.{take, drop, slice_get, slice_set}
@@ -14,7 +14,7 @@ use Rattle.cw_verify.specs.Views.{frozen_by, with_loans}
 use Rattle.cw_verify.specs.Table.{either_empty, brings, has_all, any_empty, are_unmarked, unmarked, IsEither}
 use Rattle.cw_verify.proofs.Lists.{drop_at}
 
--- a row that is brought nothing stays
+-- a row to which nothing is brought stays
 pub either_stays : (xs ys : Row) → brings xs ys ≡ false → either_empty xs ys ≡ xs
 either_stays [] ys h = refl
 either_stays (x ∷ xs) [] h = refl
@@ -27,7 +27,7 @@ either_stays (x ∷ xs) (y ∷ ys) h =
     stays false true h = cc
     stays false false h = refl
 
--- what is brought leaves fewer slots full
+-- a merge that brings something leaves fewer slots unmarked
 pub either_within : (xs ys : Row) → unmarked (either_empty xs ys) ≤ unmarked xs
 either_within [] ys = omega arith
 either_within (x ∷ xs) [] = omega arith
@@ -42,7 +42,7 @@ either_fewer (true ∷ xs) (y ∷ ys) h = either_fewer xs ys h
 either_fewer (false ∷ xs) (true ∷ ys) h = omega (arith, either_within xs ys)
 either_fewer (false ∷ xs) (false ∷ ys) h = omega (arith, either_fewer xs ys h)
 
--- what brings all that is there is what both come to
+-- if the new row marks everything that the old one marks, it is the merged row
 pub either_comes : (xs ys : Row) → length xs ≡ length ys → brings ys xs ≡ false → either_empty xs ys ≡ ys
 either_comes [] [] e h = refl
 either_comes [] (y ∷ ys) e h = absurd (omega (arith, e))
@@ -56,7 +56,7 @@ either_comes (x ∷ xs) (y ∷ ys) e h =
     comes true false h = cc
     comes false y h = refl
 
--- a row that has met another one, by what was found out
+-- rows merged according to what the second one brings
 pub is_there : (xs ys : Row) → brings xs ys ≡ false → IsEither xs ys xs false
 is_there xs ys h = record { items = sym (either_stays xs ys h); same = λ e. refl; fewer = λ e. cc }
 
@@ -82,7 +82,7 @@ brings_done (x ∷ xs) [] (suc a) n = none_brought (drop a xs)
 brings_done (x ∷ xs) (y ∷ ys) zero n = absurd (n (omega arith) (omega arith))
 brings_done (x ∷ xs) (y ∷ ys) (suc a) n = brings_done xs ys a (λ p q. n (omega (arith, p)) (omega (arith, q)))
 
--- a row with no empty slot
+-- a row without a marked slot
 pub none_marked : (row : Row) → any_empty row ≡ false → row ≡ none_empty (length row)
 none_marked [] h = refl
 none_marked (x ∷ row) h =
@@ -97,7 +97,7 @@ same_either : (b : Bool) (xs : Row) → xs ≡ (if b then xs else xs)
 same_either true xs = refl
 same_either false xs = refl
 
--- one slot more
+-- one more slot is merged into a row
 pub either_more : (xs ys : Row) (a : ℕ) (d : Bool) → a < length ys → either_empty xs (take (suc a) ys)
     ≡ (if get_or ys a d then slice_set (either_empty xs (take a ys)) a true else either_empty xs (take a ys))
 either_more xs [] a d lt = absurd (omega (arith, lt))
@@ -116,7 +116,7 @@ either_more (x ∷ xs) (y ∷ ys) (suc a) d lt = ap (λ l. (x || y) ∷ l) (eith
     out true = refl
     out false = refl
 
--- slots that are marked one after another
+-- the order in which slots are marked does not matter
 set_swap : (row : Row) (a b : ℕ) (d : Bool) → slice_set (slice_set row a d) b d ≡ slice_set (slice_set row b d) a d
 set_swap [] a b d = refl
 set_swap (x ∷ row) zero zero d = refl
@@ -128,13 +128,13 @@ gone_first : (slots : List ℕ) (a : ℕ) (row : Row) → slice_set (with_gone s
 gone_first [] a row = refl
 gone_first (b ∷ slots) a row = set_swap (with_gone slots row) b a true ∙ ap (λ l. slice_set l b true) (gone_first slots a row)
 
--- one slot more
+-- one more slot is marked in a row
 pub gone_on : (slots : List ℕ) (k a : ℕ) (row : Row) → slice_get slots k ≡ Some a → with_gone (drop k slots) row ≡ with_gone (drop (k + 1) slots) (slice_set row a true)
 gone_on slots k a row e =
     let n : suc k ≡ k + 1 = omega arith in
     ap (λ l. with_gone l row) (drop_at slots k a e) ∙ gone_first (drop (suc k) slots) a row ∙ ap (λ j. with_gone (drop j slots) (slice_set row a true)) n
 
--- one loan more
+-- marking the slot of one more loan
 pub lent_on : (loans : List Loan) (k : ℕ) (loan : Loan) (row : Row) → slice_get loans k ≡ Some loan → with_loans (drop k loans) row ≡ with_loans (drop (k + 1) loans) (frozen_by loan row)
 lent_on loans k loan row e =
     let n : suc k ≡ k + 1 = omega arith in
@@ -144,7 +144,7 @@ lent_on loans k loan row e =
     one (Array a) rest = gone_first (slots_lent rest) a row
     one (Reader r) rest = refl
 
--- a test of all elements, from one on
+-- a test of all elements from an index on
 module _ {A : Type 0} (test : A → Bool) (all : List A → Bool) (each : (x : A) (xs : List A) → all (x ∷ xs) ≡ (test x && all xs)) where
   pub all_not : (xs : List A) (k : ℕ) (x : A) → slice_get xs k ≡ Some x → test x ≡ false → all (drop k xs) ≡ false
   all_not xs k x e f = ap all (drop_at xs k x e) ∙ each x (drop (suc k) xs) ∙ first_false (test x) (all (drop (suc k) xs)) f
@@ -154,7 +154,7 @@ module _ {A : Type 0} (test : A → Bool) (all : List A → Bool) (each : (x : A
       let n : suc k ≡ k + 1 = omega arith in
       ap all (drop_at xs k x e) ∙ each x (drop (suc k) xs) ∙ ap (λ b. b && all (drop (suc k) xs)) f ∙ ap (λ j. all (drop j xs)) n
 
--- array slots that a place has, from one of a list on
+-- the array slots of a list from an index on
 pub arrays_not : (s : Shape) (slots : List ℕ) (k a : ℕ) → slice_get slots k ≡ Some a → has_array s a ≡ false → has_arrays s (drop k slots) ≡ false
 arrays_not s slots k a e f = ap (has_arrays s) (drop_at slots k a e) ∙ first_false (has_array s a) (has_arrays s (drop (suc k) slots)) f
 
@@ -163,12 +163,12 @@ arrays_on s slots k a e f =
     let n : suc k ≡ k + 1 = omega arith in
     ap (has_arrays s) (drop_at slots k a e) ∙ ap (λ b. b && has_arrays s (drop (suc k) slots)) f ∙ ap (λ j. has_arrays s (drop j slots)) n
 
--- slots that a row has full
+-- a row marks none of these slots
 abbrev all_full : Row → List ℕ → Bool
 all_full row [] = true
 all_full row (a ∷ slots) = is_full_in (slice_get row a) && all_full row slots
 
--- a slot that is marked is not full then, and each other one is as it was
+-- after a slot is marked, it is not full, and each other slot is unchanged
 marked_full : (row : Row) (a b : ℕ) → is_full_in (slice_get row a) ≡ true → is_full_in (slice_get (slice_set row a true) b) ≡ (not (nat_eq a b) && is_full_in (slice_get row b))
 marked_full row a b f =
     ⊎_elim (λ (q : a ≡ b).
@@ -190,7 +190,7 @@ three true r m = refl
 three false true m = refl
 three false false m = refl
 
--- slots that can be marked one after another are full, and none is there twice
+-- slots can be marked one at a time if they are full and none occurs twice
 unmarked_named : (row : Row) (slots : List ℕ) → are_unmarked row slots ≡ (all_full row slots && names_arrays (length row) slots)
 unmarked_named row [] = refl
 unmarked_named row (a ∷ slots) = at (is_full_in (slice_get row a)) refl (unmarked_named (slice_set row a true) slots)
@@ -217,7 +217,7 @@ named_full n (a ∷ slots) h =
     both_true (is_full_in (slice_get (none_empty n) a)) (all_full (none_empty n) slots) (none_full n a (lt_of a n (first_true (nat_lt a n) (is_none_of a slots && names_arrays n slots) h)))
     (named_full n slots (second_true (is_none_of a slots) (names_arrays n slots) rest))
 
--- from a row with none empty
+-- slots are marked in a row without a marked slot
 pub unmarked_from_none : (n : ℕ) (slots : List ℕ) → are_unmarked (none_empty n) slots ≡ names_arrays n slots
 unmarked_from_none n slots =
     unmarked_named (none_empty n) slots ∙ ap (λ m. all_full (none_empty n) slots && names_arrays m slots) (length-replicate n false) ∙ at (names_arrays n slots) refl

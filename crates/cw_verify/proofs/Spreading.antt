@@ -1,4 +1,4 @@
--- What a step of a search changes, and what it keeps.
+-- The changes that a step of a search makes, and the facts that it keeps.
 use Rattle.std.proofs.Common.{◌≡◌, ◌⊎◌, inl, inr, ⊎_elim, ℕ, zero, suc, ◌+◌, ◌-◌, ◌<◌, ◌≤◌, Bool, true, false, ◌||◌, Option}
 use Rattle.std.proofs.Common.{Some, None, List, [], ◌∷◌, length, get_or, refl, sym, ap, ◌∙◌, subst, arith}
 use Rattle.std.specs.Prelude.{replicate, slice_get, slice_set, option_map, Result, Ok, Err}
@@ -20,7 +20,7 @@ use Rattle.cw_verify.specs.Table.{Shapes, shape_view, shapes_of, may_act, joined
 use Rattle.cw_verify.specs.Table.{IsNoted, Notes, left_to_do, Spread, Tells, table_of, IsDone, IsSearch, Fails, AllNamed, blocks_of}
 use Rattle.cw_verify.proofs.Tables.{may_ready, may_thawed, leads_at, Visited, visits, visit_done, leads_grown, done_grown, held}
 
--- places as shapes
+-- the states of pcs as shapes
 pub shapes_length : (items : List (Option Found)) → length (shapes_of items) ≡ length items
 shapes_length items = length-map items (option_map shape_view)
 
@@ -33,7 +33,7 @@ shapes_set items k y z = ap shapes_of (set-set items k y z) ∙ map-set (option_
 nowhere : {k : ℕ} → IsIn k [] → ⊥
 nowhere (j, e) = cc
 
--- what is left to do
+-- a pc that is reached for the first time reduces the number of unreached pcs by one
 unreached_new : (shapes : Shapes) (k : ℕ) (s : Shape) → slice_get shapes k ≡ Some None → suc (unreached (slice_set shapes k (Some s))) ≡ unreached shapes
 unreached_new [] k s e = cc
 unreached_new (None ∷ shapes) zero s e = refl
@@ -68,7 +68,7 @@ module _ (shapes : Shapes) (k : ℕ) (s : Shape) (work work' : List ℕ) (n : Is
   from_one : k < length shapes → (j : ℕ) → IsIn j work' → IsIn j work ⊎ (j < length shapes)
   from_one lt j h = ⊎_elim (λ (q : IsIn j work). inl q) (λ (q : j ≡ k). inr (omega (arith, q, lt))) (n.from j h)
 
-  -- a place is reached
+  -- a pc is reached
   pub spread_new : slice_get shapes k ≡ Some None → Spread shapes changed work work' true
   spread_new e = record {
     kept = n.kept;
@@ -79,7 +79,7 @@ module _ (shapes : Shapes) (k : ℕ) (s : Shape) (work work' : List ℕ) (n : Is
     shrinks = λ q. cc;
   }
 
-  -- more comes to a place
+  -- more flows to a pc
   pub spread_more : (t : Shape) → slice_get shapes k ≡ Some (Some t) → unmarked_at (Some s) < unmarked_at (Some t) → Spread shapes changed work work' false
   spread_more t e less = record {
     kept = n.kept;
@@ -90,7 +90,7 @@ module _ (shapes : Shapes) (k : ℕ) (s : Shape) (work work' : List ℕ) (n : Is
     shrinks = λ q. omega (arith, unmarked_less shapes k t s e less, n.longer);
   }
 
--- two steps
+-- two steps together are one step
 pub spread_both : (a b c : Shapes) (u v w : List ℕ) (p q : Bool) → length b ≡ length a → Spread a b u v p → Spread b c v w q → Spread a c u w (p || q)
 spread_both a b c u v w p q n h k = record {
   kept = λ j i. k.kept j (h.kept j i);
@@ -112,7 +112,7 @@ spread_both a b c u v w p q n h k = record {
     neither false true x y e = cc
     neither false false x y e = omega (arith, x refl, y refl)
 
--- a shape has come to a place that had none
+-- a shape flowed to a pc that was not reached
 pub come_new : (items : List (Option Found)) (work work' : List ℕ) (k : ℕ) (y o d : Option Found) (r : Found) → IsNoted k work work' → k < length items → o ≡ get_or items k d → o ≡ None →
     (come (shapes_of items) k (shape_view r) ≡ Some (shapes_of (slice_set (slice_set items k y) k (Some r))))
     × Spread (shapes_of items) (shapes_of (slice_set (slice_set items k y) k (Some r))) work work' true
@@ -123,7 +123,7 @@ come_new items work work' k y o d r n lt e none =
       subst (λ l. Spread (shapes_of items) l work work' true) (sym set) (spread_new (shapes_of items) k (shape_view r) work work' n at),
     )
 
--- and to one that had one
+-- a shape flowed to a pc that was reached
 pub come_more : (items : List (Option Found)) (work work' : List ℕ) (k : ℕ) (y o d : Option Found) (t r : Found) (s : Shape) (more : Bool)
     → Notes more k work work' → k < length items → o ≡ get_or items k d → o ≡ Some t → joined (Some (shape_view t)) s ≡ Some (shape_view r) →
     (more ≡ false → shape_view r ≡ shape_view t) → (more ≡ true → unmarked_at (Some (shape_view r)) < unmarked_at (Some (shape_view t))) →
@@ -148,7 +148,7 @@ come_more items work work' k y o d t r s more n lt e some is same fewer = (
         subst (λ l. Spread (shapes_of items) l work work' false) (sym (ap (λ x. slice_set (shapes_of items) k (Some x)) (h refl) ∙ kept))
         (subst (λ w. Spread (shapes_of items) (shapes_of items) work w false) (sym n) (spread_none (shapes_of items) work))
 
--- a search goes on with a place that was noted
+-- a search continues after the visit of a pc from the work list
 pub visit_search : (code : Code) (f : Func) (old new : Shapes) (work rest work' : List ℕ) (k : ℕ) (i : Instr) (reached : Bool)
     → f.end ≤ length code.instrs → AllNamed code f → IsSearch code f old work → IsNoted k rest work →
     slice_get code.instrs (f.start + k) ≡ Some i → visited code f.start old k i ≡ Some new → Spread old new rest work' reached → IsSearch code f new work'
@@ -182,7 +182,7 @@ visit_search code f old new work rest work' k i reached inside named h e is v sp
         (λ (d : IsDone code f.start old j). inr (done_grown code f old new j (named_at j lt') made.grows same d)) (h.done j lt'))
         (cases_eq j k)
 
--- what is found is a table, once nothing is noted
+-- when the work list is empty, what was found is a table
 pub closed_is_table : (code : Code) (f : Func) (shapes : Shapes) → f.end ≤ length code.instrs → IsSearch code f shapes [] → IsTable code f (table_of f.start shapes)
 closed_is_table code f shapes inside h = record {
   starts = h.starts;
@@ -203,13 +203,13 @@ closed_is_table code f shapes inside h = record {
         (λ (d : IsDone code f.start shapes (place - f.start)). d) (h.done (place - f.start) lt) in
         subst (λ n. (may_act code s i ≡ true) × FlowsIntoEach (table_of f.start shapes) (leaves code s i) (nexts n i)) same (d s i p.1 is')
 
--- why there is no answer
+-- why a step has no result
 pub fails_from : (e : Fault) (found : Option Shapes) (old new : Search) (none : Type 0) → Tells (Err e) found old new → (found ≡ None → none) → Fails none e
 fails_from fault.Code found old new none h go = go h
 fails_from fault.Memory found old new none h go = tt
 fails_from _ found old new none h go = absurd h
 
--- the numbers of blocks are no part of what a step tells
+-- `Tells` does not depend on the numbers of blocks
 pub tells_from : (result : Result Bool Fault) (found : Option Shapes) (old new : Search) (n : Numbers) → Tells result found (record old { numbers = n }) new → Tells result found old new
 tells_from (Ok reached) found old new n h = h
 tells_from (Err fault.Code) found old new n h = h
@@ -257,7 +257,7 @@ begins code f shapes work order e w = subst (λ l. IsSearch code f l work) (sym 
     done zero = inl w.here
     done (suc k) = inr (λ s i q is. absurd (nothing (f.end - f.start - 1) k s q))
 
--- the first place is all that a search begins with
+-- at the beginning only the first pc is reached
 pub begun : (items : List (Option Found)) (first : Found) (n : ℕ) (f : Func) → items ≡ Some first ∷ replicate n None
     → shape_view first ≡ first_shape f → shapes_of items ≡ Some (first_shape f) ∷ replicate n None
 begun items first n f e is = ap shapes_of e ∙ ap (λ s. Some s ∷ shapes_of (replicate n None)) is ∙ ap (λ l. Some (first_shape f) ∷ l) (none n)

@@ -1,4 +1,4 @@
--- A table that is found step by step has no more than any table of the function.
+-- A table that is found step by step marks no more than any table of the function.
 use Rattle.std.proofs.Common.{◌≡◌, ⊎_elim, ℕ, zero, suc, ◌+◌, ◌-◌, ◌<◌, ◌≤◌, Bool, true, false, ◌&&◌, nat_le, nat_eq}
 use Rattle.std.proofs.Common.{if◌then◌else◌, Option, Some, None, List, [], ◌∷◌, length, refl, sym, ap, ◌∙◌, subst, arith}
 use Rattle.std.specs.Prelude.{map, is_none, slice_get, slice_set, option_map}
@@ -26,7 +26,7 @@ use Rattle.cw_verify.specs.Table.{Shapes, either_empty, either_each, same_cut, i
 use Rattle.cw_verify.specs.Table.{then_come, come_all, next_distances, visited_at, visited, shape_at, table_of, Below, Grows, IsDone}
 use Rattle.cw_verify.proofs.Decided.{let_through, both_less}
 
--- rows that cover
+-- a row that covers two rows covers the merged row
 covers_either : (xs ys zs : Row) → Covers xs ys → Covers xs zs → Covers xs (either_empty ys zs)
 covers_either [] [] zs c d = tt
 covers_either [] (y ∷ ys) zs c d = absurd c
@@ -69,7 +69,7 @@ covers_uncut : (cut : Option Halves) (xs ys : Row) → Covers xs ys → Covers (
 covers_uncut None xs ys c = c
 covers_uncut (Some h) xs ys c = covers_unset xs ys h.array c
 
--- cuts that are the same
+-- cuts with the same array and the same parts are equal
 halves_equal : (g h : Halves) → g.array ≡ h.array → g.left ≡ h.left → g.right ≡ h.right → g ≡ h
 halves_equal g h a l r = λ i. record { array = a i; left = l i; right = r i }
 
@@ -88,7 +88,7 @@ cut_same (Some h) =
     both_true (nat_eq h.array h.array) (nat_eq h.left h.left && nat_eq h.right h.right) (equal h.array h.array refl)
     (both_true (nat_eq h.left h.left) (nat_eq h.right h.right) (equal h.left h.left refl) (equal h.right h.right refl))
 
--- the same, block by block
+-- blocks that cover two lists of blocks cover the merged list
 each_either : (xs ys zs : List Outer) → CoversEach xs ys → CoversEach xs zs → CoversEach xs (either_each ys zs)
 each_either [] [] zs c d = tt
 each_either [] (y ∷ ys) zs c d = absurd c
@@ -107,7 +107,7 @@ each_first [] zs = tt
 each_first (y ∷ ys) [] = each_covers_itself (y ∷ ys)
 each_first (y ∷ ys) (z ∷ zs) = (either_first y.empty z.empty, either_first y.gone z.gone, either_first y.frozen z.frozen, refl, each_first ys zs)
 
--- what it is for two blocks to be alike
+-- two blocks are alike
 pub record Alike (y z : Outer) : Type 0 where
   pub as_wide : length y.empty ≡ length z.empty
   pub as_wide_gone : length y.gone ≡ length z.gone
@@ -149,7 +149,7 @@ each_second (y ∷ ys) (z ∷ zs) e =
       each_second ys zs (second_true (is_alike y z) (are_alike ys zs) e),
     )
 
--- blocks that the same blocks cover are alike
+-- lists of blocks that one list covers are alike
 each_alike : (xs ys zs : List Outer) → CoversEach xs ys → CoversEach xs zs → are_alike ys zs ≡ true
 each_alike [] [] [] c d = refl
 each_alike [] [] (z ∷ zs) c d = absurd d
@@ -233,14 +233,14 @@ each_no_part (x ∷ xs) (y ∷ ys) a c = ap (λ d. is_no_half a d && is_no_part 
 each_no_parts : (xs ys : List Outer) (h : Halves) → CoversEach xs ys → are_no_parts h xs ≡ are_no_parts h ys
 each_no_parts xs ys h c = ap (λ b. b && is_no_part h.right xs) (each_no_part xs ys h.left c) ∙ ap (λ b. is_no_part h.left ys && b) (each_no_part xs ys h.right c)
 
--- a place of a table takes what its shape covers
+-- a table takes a state that its own state covers
 pub leads_of : (t : Table) (place : ℕ) (there s : Shape) → t place ≡ Some there → there.operands ≡ s.operands → CoversEach (blocks_of there) (blocks_of s) → FlowsInto t place s
 leads_of t place there s e n c = record { there = there; found = e; as_many = n; covers = c.0; covers_gone = c.1; covers_frozen = c.2; covers_outer = c.4 }
 
 pub covers_all : {t : Table} {place : ℕ} {s : Shape} (l : FlowsInto t place s) → CoversEach (blocks_of l.there) (blocks_of s)
 covers_all l = (l.covers, l.covers_gone, l.covers_frozen, refl, l.covers_outer)
 
--- what comes to a place of a table from a shape that it covers
+-- a table that takes a state takes each state that it covers
 pub leads_less : (t : Table) (place : ℕ) (big small : Shape) → big.operands ≡ small.operands → CoversEach (blocks_of big) (blocks_of small) → FlowsInto t place big → FlowsInto t place small
 leads_less t place big small e c l = leads_of t place l.there small l.found (l.as_many ∙ e) (each_covers_after (blocks_of l.there) (blocks_of big) (blocks_of small) (covers_all l) c)
 
@@ -248,12 +248,12 @@ all_less : (t : Table) (places : List ℕ) (big small : Shape) → big.operands 
 all_less t [] big small e c l = tt
 all_less t (p ∷ ps) big small e c l = (leads_less t p big small e c l.0, all_less t ps big small e c l.1)
 
--- what an instruction leaves of more covers what it leaves of less
+-- the first state covers the second one, with equally many operands
 pub record Less (big small : Shape) : Type 0 where
   pub as_many : big.operands ≡ small.operands
   pub covers : CoversEach (blocks_of big) (blocks_of small)
 
--- an instruction may act where it finds what it needs and changes nothing that is frozen
+-- an instruction may act if it has what it requires and changes nothing that is frozen
 pub may_both : (code : Code) (s : Shape) (i : Instr) → is_ready code s i ≡ true → is_thawed code s i ≡ true → may_act code s i ≡ true
 unfolding may_act
 may_both code s i h k = both_true (is_ready code s i) (is_thawed code s i) h k
@@ -274,7 +274,7 @@ frozen : (code : Code) (s : Shape) (i : Instr) → is_thawed code s i ≡ false 
 unfolding may_act
 frozen code s i h = second_false (is_ready code s i) (is_thawed code s i) h
 
--- an instruction finds in less what it finds in more
+-- an instruction has in a smaller state what it has in a larger one
 module _ (code : Code) (big small : Shape) (e : big.operands ≡ small.operands) (c : CoversEach (blocks_of big) (blocks_of small)) where
   slot_less : (a : ℕ) → has_slot big a ≡ true → has_slot small a ≡ true
   slot_less a h = each_full (blocks_of big) (blocks_of small) a c h
@@ -429,7 +429,7 @@ pub leads_at : (start : ℕ) (shapes : Shapes) (k : ℕ) (there s : Shape) → s
     → CoversEach (blocks_of there) (blocks_of s) → FlowsInto (table_of start shapes) (start + k) s
 leads_at start shapes k there s e n c = leads_of (table_of start shapes) (start + k) there s (table_at start shapes k ∙ ap shape_at e) n c
 
--- a shape has come to a place
+-- a shape flowed to a pc
 pub record Came (shapes : Shapes) (k : ℕ) (s : Shape) (new : Shapes) : Type 0 where
   pub was : Option Shape
   pub is : Shape
@@ -448,7 +448,7 @@ came shapes k s new e = at (slice_get shapes k) refl e
         by None j e = cc
         by (Some is) j e = record { was = was; is = is; found = f; by = j; new_is = sym (same_Some (slice_set shapes k (Some is)) new e) }
 
--- what is had once a shape has come
+-- the facts about a merged shape
 record Joins (was : Option Shape) (s is : Shape) : Type 0 where
   pub as_many : is.operands ≡ s.operands
   pub covers : CoversEach (blocks_of is) (blocks_of s)
@@ -514,7 +514,7 @@ module _ (start : ℕ) (shapes : Shapes) (k : ℕ) (s : Shape) (new : Shapes) (e
       (λ (q : i ≡ k → ⊥). below i x (sym (set_other shapes k i (Some c.is) q) ∙ ap (λ l. slice_get l i) (sym c.new_is) ∙ f))
       (cases_eq i k)
 
--- a shape that a table takes can come
+-- a shape that a table takes can be merged
 come_goes : (start : ℕ) (shapes : Shapes) (k : ℕ) (s : Shape) (t : Table) → Below start shapes t → FlowsInto t (start + k) s → k < length shapes → come shapes k s ≡ None → ⊥
 come_goes start shapes k s t below l lt e = at (slice_get shapes k) refl e
   where
@@ -544,12 +544,12 @@ grows_trans start a b c g h = λ k s f.
     let m = h k l.there was in
     leads_less (table_of start c) (start + k) l.there s l.as_many (covers_all l) m
 
--- each place is at or after another
+-- each of these pcs is at or after `start`
 abbrev AllFrom : ℕ → List ℕ → Type 0
 AllFrom start [] = Unit {0}
 AllFrom start (p ∷ ps) = (start ≤ p) × AllFrom start ps
 
--- what a table that has grown takes
+-- a state that flows into a table still flows into it after the table has grown
 pub leads_grown : (start : ℕ) (old new : Shapes) (place : ℕ) (s : Shape) → start ≤ place → Grows start old new → FlowsInto (table_of start old) place s → FlowsInto (table_of start new) place s
 leads_grown start old new place s le g l =
     let same : start + (place - start) ≡ place = omega (arith, le) in
@@ -564,7 +564,7 @@ all_grown start old new s (p ∷ ps) from g l = (leads_grown start old new p s f
 grows_refl : (start : ℕ) (shapes : Shapes) → Grows start shapes shapes
 grows_refl start shapes = λ k s f. leads_at start shapes k s s f refl (each_covers_itself (blocks_of s))
 
--- what is had once a shape has come to several places
+-- the facts after a shape flowed to several pcs
 record CameAll (start : ℕ) (shapes : Shapes) (ps : List ℕ) (s : Shape) (new : Shapes) : Type 0 where
   pub as_many : length new ≡ length shapes
   pub grows : Grows start shapes new
@@ -591,7 +591,7 @@ came_all start (p ∷ ps) shapes s new from e = by (λ mid e'. came_all start ps
           below = λ t b l. rest.below t (come_below start shapes (p - start) s mid f t b (subst (λ q. FlowsInto t q s) (sym same) l.0)) l.1;
         }
 
--- shapes that a table takes can come to several places
+-- shapes that a table takes can be merged at several pcs
 all_come : (start : ℕ) (ps : List ℕ) (shapes : Shapes) (s : Shape) (t : Table) → AllFrom start ps
     → ((p : ℕ) (x : Shape) → FlowsInto t p x → p < start + length shapes) → Below start shapes t → FlowsIntoEach t s ps
     → come_all shapes (map (λ p. p - start) ps) s ≡ None → ⊥
@@ -609,7 +609,7 @@ all_come start (p ∷ ps) shapes s t from within below l e = by (λ mid w b e'. 
         let n = come_length start shapes (p - start) s mid f in
         go mid (λ q x m. omega (arith, within q x m, n)) (come_below start shapes (p - start) s mid f t below (subst (λ q. FlowsInto t q s) (sym same) l.0)) e
 
--- an instruction goes on to places of its function
+-- the successors of an instruction are in its function
 nexts_from : (code : Code) (f : Func) (place : ℕ) (i : Instr) → f.start ≤ place → names_well code f place i ≡ true → AllFrom f.start (nexts place i)
 nexts_from code f place (instr.SkipIfZero k) le n = (omega (arith, le), (omega (arith, le), tt))
 nexts_from code f place (instr.GoBack k) le n = (omega (arith, le_of (f.start + k) place n), tt)
@@ -617,12 +617,12 @@ nexts_from code f place instr.ReturnValue le n = tt
 nexts_from code f place instr.Return le n = tt
 nexts_from code f place _ le n = (omega (arith, le), tt)
 
--- a visit of a place that has a shape
+-- a visit of a reached pc
 pub visited_ready : (code : Code) (start : ℕ) (shapes : Shapes) (k : ℕ) (i : Instr) (s : Shape) → slice_get shapes k ≡ Some (Some s)
     → may_act code s i ≡ true → visited code start shapes k i ≡ come_all shapes (next_distances start k i) (leaves code s i)
 visited_ready code start shapes k i s e h = ap (visited_at code start shapes k i) e ∙ taken (may_act code s i) (come_all shapes (next_distances start k i) (leaves code s i)) None h
 
--- a visit of a place whose instruction may not act
+-- a visit of a pc whose instruction may not act
 visited_none : (code : Code) (start : ℕ) (shapes : Shapes) (k : ℕ) (i : Instr) (s : Shape) → slice_get shapes k ≡ Some (Some s) → may_act code s i ≡ false → visited code start shapes k i ≡ None
 visited_none code start shapes k i s e h = ap (visited_at code start shapes k i) e ∙ not_taken (may_act code s i) (come_all shapes (next_distances start k i) (leaves code s i)) None h
 
@@ -634,7 +634,7 @@ pub visited_frozen : (code : Code) (start : ℕ) (shapes : Shapes) (k : ℕ) (i 
     → is_thawed code s i ≡ false → visited code start shapes k i ≡ None
 visited_frozen code start shapes k i s e h = visited_none code start shapes k i s e (frozen code s i h)
 
--- what is had once an instruction was visited
+-- the facts after an instruction was visited
 pub record Visited (code : Code) (f : Func) (shapes new : Shapes) : Type 0 where
   pub as_many : length new ≡ length shapes
   pub grows : Grows f.start shapes new
@@ -644,7 +644,7 @@ module _ (code : Code) (f : Func) (shapes : Shapes) (k : ℕ) (i : Instr) (is : 
   abbrev come_after : Bool → Shape → Option Shapes
   come_after b s = if b then come_all shapes (next_distances f.start k i) (leaves code s i) else None
 
-  -- what a table says of a shape that it takes
+  -- the facts that a table states about a state that flows into it
   taken_as : (t : Table) (s : Shape) → IsTable code f t → FlowsInto t (f.start + k) s → (may_act code s i ≡ true) × FlowsIntoEach t (leaves code s i) (nexts (f.start + k) i)
   taken_as t s table l =
       let ready = table.ready (f.start + k) l.there i l.found is in
@@ -658,7 +658,7 @@ module _ (code : Code) (f : Func) (shapes : Shapes) (k : ℕ) (i : Instr) (is : 
   from : AllFrom f.start (nexts (f.start + k) i)
   from = nexts_from code f (f.start + k) i (omega arith) named
 
-  -- what is had once an instruction that may act was visited
+  -- the facts after an instruction that may act was visited
   act_visits : (s : Shape) (new : Shapes) → slice_get shapes k ≡ Some (Some s) → come_all shapes (next_distances f.start k i) (leaves code s i) ≡ Some new → Visited code f shapes new
   act_visits s new found e =
       let c = came_all f.start (nexts (f.start + k) i) shapes (leaves code s i) new from e in
@@ -687,7 +687,7 @@ module _ (code : Code) (f : Func) (shapes : Shapes) (k : ℕ) (i : Instr) (is : 
           all_come f.start (nexts (f.start + k) i) shapes (leaves code s i) t from (λ p x l. omega (arith, (table.within p l.there l.found).1, whole)) below h.1
           (sym (taken (may_act code s i) (come_all shapes (next_distances f.start k i) (leaves code s i)) None h.0) ∙ e)
 
-  -- an instruction that was visited has what it needs, and the places after it have what it leaves
+  -- a visited instruction has what it requires, and its successors have the state after it
   pub visit_done : (s : Shape) (new : Shapes) → slice_get shapes k ≡ Some (Some s) → visited code f.start shapes k i ≡ Some new
       → (may_act code s i ≡ true) × FlowsIntoEach (table_of f.start new) (leaves code s i) (nexts (f.start + k) i)
   visit_done s new found e = by (may_act code s i) refl (sym (ap (visited_at code f.start shapes k i) found) ∙ e)
@@ -703,7 +703,7 @@ held start shapes place s e = by (nat_le start place) refl e
     by false b e = cc
     by true b e = (le_of start place b, had (slice_get shapes (place - start)) e)
 
--- a place that was done is done still, once others have more
+-- a pc that was done remains done when other pcs mark more
 pub done_grown : (code : Code) (f : Func) (old new : Shapes) (k : ℕ)
     → ((i : Instr) → slice_get code.instrs (f.start + k) ≡ Some i → names_well code f (f.start + k) i ≡ true) → Grows f.start old new
     → slice_get new k ≡ slice_get old k → IsDone code f.start old k → IsDone code f.start new k

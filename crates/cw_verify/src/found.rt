@@ -1,4 +1,4 @@
-//! What a place finds.
+//! The abstract state at a pc, and what an instruction requires of it.
 
 ghost use Rattle.std.specs.Prelude.{◌≡◌};
 ghost use Rattle.cw_code.specs.Fits as fits;
@@ -15,36 +15,36 @@ use cw_text::Fault;
 use std::alloc::Global;
 use std::rc::Rc;
 
-/// What a place finds. Its rows and blocks are shared with places that find the same.
+/// The abstract state at a pc. Its rows and blocks are shared with other pcs that have the same ones.
 #[derive(Drop)]
 pub struct Found {
-    /// How many operands lie there.
+    /// The number of operands.
     pub operands: usize,
-    /// For each slot of integers whether it may be empty up to the next join of the innermost sync block.
+    /// For each integer slot, whether it may be empty until the next join of the innermost sync block.
     pub empty: Rc<Row>,
-    /// The same for each array slot.
+    /// For each array slot, whether it may be empty until that join.
     pub gone: Rc<Row>,
-    /// For each array slot whether it may be frozen up to that join: it was lent to a spawned call.
+    /// For each array slot, whether it may be frozen until that join because it was lent to a spawned call.
     pub frozen: Rc<Row>,
-    /// The sync blocks round that one in the same call.
+    /// The sync blocks that enclose the innermost one in the same call.
     pub outer: Rc<Rounds>,
 }
 
-// Whether a slot is there and not empty.
+// Returns whether an integer slot exists and is not empty.
 fn has_slot(found: &Found, a: u32) -> bool
     ensures { result ≡ fits.has_slot (table.shape_view found.now) a }
 {
     row::is_full_in(&found.empty, a as usize) && round::full_in_all(&found.outer, a as usize)
 }
 
-// Whether an array slot is there and not empty.
+// Returns whether an array slot exists and is not empty.
 fn has_array(found: &Found, a: u32) -> bool
     ensures { result ≡ fits.has_array (table.shape_view found.now) a }
 {
     row::is_full_in(&found.gone, a as usize) && round::there_in_all(&found.outer, a as usize)
 }
 
-// Whether these array slots are there and not empty.
+// Returns whether each of these array slots exists and is not empty.
 fn has_arrays(found: &Found, passed: &[u32]) -> bool
     ensures { result ≡ fits.has_arrays (table.shape_view found.now) passed.now }
 {
@@ -56,7 +56,7 @@ fn has_arrays(found: &Found, passed: &[u32]) -> bool
     true
 }
 
-// Whether what a loan names is there and not empty.
+// Returns whether the array that a loan names exists and its slot is not empty.
 fn has_loan(found: &Found, loan: Loan) -> bool
     ensures { result ≡ fits.has_loan (table.shape_view found.now) loan }
 {
@@ -66,7 +66,7 @@ fn has_loan(found: &Found, loan: Loan) -> bool
     }
 }
 
-// Whether what each of these loans names is there and not empty.
+// Returns whether the array that each loan names exists and its slot is not empty.
 fn has_loans(found: &Found, loans: &[Loan]) -> bool
     ensures { result ≡ fits.has_loans (table.shape_view found.now) loans.now }
 {
@@ -78,7 +78,7 @@ fn has_loans(found: &Found, loans: &[Loan]) -> bool
     true
 }
 
-// Whether the slot of a result, if there is one, is there and not empty.
+// Returns whether the slot of a result, if there is one, exists and is not empty.
 fn has_target(found: &Found, target: Option<u32>) -> bool
     ensures { result ≡ fits.has_target (table.shape_view found.now) target }
 {
@@ -88,7 +88,7 @@ fn has_target(found: &Found, target: Option<u32>) -> bool
     }
 }
 
-// Whether a call finds its arguments; a spawn no other operand.
+// Returns whether a call has its arguments; a spawn must have no other operand.
 fn has_arguments(kind: CallKind, params: usize, operands: usize) -> bool
     ensures { result ≡ fits.has_arguments kind params operands }
 {
@@ -98,7 +98,7 @@ fn has_arguments(kind: CallKind, params: usize, operands: usize) -> bool
     }
 }
 
-// Whether a call finds what it needs.
+// Returns whether a call has what it requires.
 fn has_call(code: &Code, found: &Found, kind: CallKind, c: &Callee) -> bool
     ensures { result ≡ views.is_ready code.now found.now (instr.Call kind c.now) }
 {
@@ -107,7 +107,7 @@ fn has_call(code: &Code, found: &Found, kind: CallKind, c: &Callee) -> bool
         && has_loans(found, lent_of(code, c.lent))
 }
 
-// Whether no sync block is open inside the call.
+// Returns whether no sync block is open in the call.
 fn none_open(rounds: &Rounds) -> bool
     ensures { result ≡ fits.none_open (table.rounds_of rounds.now) }
 {
@@ -117,7 +117,7 @@ fn none_open(rounds: &Rounds) -> bool
     }
 }
 
-// Whether a sync block is open inside the call, and no cut began it.
+// Returns whether a sync block is open in the call that no cut began.
 fn can_close(rounds: &Rounds) -> bool
     ensures { result ≡ fits.can_close (table.rounds_of rounds.now) }
 {
@@ -127,7 +127,7 @@ fn can_close(rounds: &Rounds) -> bool
     }
 }
 
-// Whether no sync block has the parts of a cut as empty.
+// Returns whether no sync block marks the slots of the parts of a cut as empty.
 fn has_parts(rounds: &Rounds, cut: Option<Halves>) -> bool
     ensures { result ≡ fits.has_parts (fits.gone_rows (table.rounds_of rounds.now)) cut }
 {
@@ -140,7 +140,7 @@ fn has_parts(rounds: &Rounds, cut: Option<Halves>) -> bool
     }
 }
 
-// Whether a cut began the innermost sync block, and no block round it has its parts as empty.
+// Returns whether a cut began the innermost sync block, and no enclosing block marks the slots of its parts as empty.
 fn can_uncut(rounds: &Rounds) -> bool
     ensures { result ≡ fits.can_uncut (table.rounds_of rounds.now) }
 {
@@ -150,7 +150,8 @@ fn can_uncut(rounds: &Rounds) -> bool
     }
 }
 
-// Whether a cut finds its array and the slots of its parts, and these hold no part of another one.
+// Returns whether a cut has its array, the slots of its parts and its position, and these slots hold no part of
+// another cut.
 fn can_cut(found: &Found, h: Halves) -> bool
     ensures { result ≡ table.can_cut (table.shape_view found.now) h }
 {
@@ -161,7 +162,7 @@ fn can_cut(found: &Found, h: Halves) -> bool
     ((array && parts) && 1 <= found.operands) && (left && right)
 }
 
-/// Whether an instruction finds what it needs.
+/// Returns whether an instruction has what it requires.
 pub fn is_ready(code: &Code, found: &Found, i: &Instr) -> bool
     ensures { result ≡ views.is_ready code.now found.now i.now }
 {
@@ -203,14 +204,14 @@ pub fn is_ready(code: &Code, found: &Found, i: &Instr) -> bool
     }
 }
 
-// Whether an array slot is there, and no sync block has it as frozen.
+// Returns whether an array slot exists and no sync block marks it as frozen.
 fn is_thawed_slot(found: &Found, a: u32) -> bool
     ensures { result ≡ table.is_thawed_slot (table.shape_view found.now) a }
 {
     row::is_full_in(&found.frozen, a as usize) && round::thawed_in_all(&found.outer, a as usize)
 }
 
-// Whether these array slots are there, and no sync block has them as frozen.
+// Returns whether each of these array slots exists and no sync block marks it as frozen.
 fn are_thawed(found: &Found, slots: &[u32]) -> bool
     ensures { result ≡ table.are_thawed (table.shape_view found.now) slots.now }
 {
@@ -222,7 +223,7 @@ fn are_thawed(found: &Found, slots: &[u32]) -> bool
     true
 }
 
-// Whether no sync block has the slots of a cut as frozen.
+// Returns whether no sync block marks the slots of a cut as frozen.
 fn is_cut_thawed(rounds: &Rounds, cut: Option<Halves>) -> bool
     ensures { result ≡ table.is_cut_thawed (table.rounds_of rounds.now) cut }
 {
@@ -236,7 +237,7 @@ fn is_cut_thawed(rounds: &Rounds, cut: Option<Halves>) -> bool
     }
 }
 
-// Whether the slots of the cut that ends here are not frozen round its own sync block.
+// Returns whether no block that encloses the innermost one marks the slots of the cut that ends here as frozen.
 fn is_uncut_thawed(rounds: &Rounds) -> bool
     ensures { result ≡ table.is_uncut_thawed (table.rounds_of rounds.now) }
 {
@@ -246,7 +247,7 @@ fn is_uncut_thawed(rounds: &Rounds) -> bool
     }
 }
 
-/// Whether an instruction changes nothing that is frozen.
+/// Returns whether an instruction changes nothing that is frozen.
 pub fn is_thawed(code: &Code, found: &Found, i: &Instr) -> bool
     ensures { result ≡ views.is_thawed code.now found.now i.now }
 {
@@ -262,7 +263,11 @@ pub fn is_thawed(code: &Code, found: &Found, i: &Instr) -> bool
     }
 }
 
-/// A shape like this one.
+/// Returns an abstract state with the same shape.
+///
+/// # Errors
+///
+/// `Fault::Memory` if there is not enough memory.
 pub fn copy(found: &Found) -> Result<Found, Fault>
     ensures { table.FindsShape result (table.shape_view found.now) }
 {
@@ -279,7 +284,11 @@ pub fn copy(found: &Found) -> Result<Found, Fault>
     })
 }
 
-/// What a function begins with.
+/// Returns the abstract state at the first instruction of a function.
+///
+/// # Errors
+///
+/// `Fault::Memory` if there is not enough memory.
 pub fn first(alloc: Global, f: &Func) -> Result<Found, Fault>
     ensures { table.FindsShape result (fits.first_shape f.now) }
 {

@@ -1,4 +1,4 @@
-//! What an instruction leaves.
+//! The abstract state after an instruction.
 
 ghost use Rattle.std.specs.Prelude.{◌≡◌, ◌+◌, ◌-◌, ◌≤◌, true};
 ghost use Rattle.cw_code.specs.Fits as fits;
@@ -17,7 +17,7 @@ use cw_text::Fault;
 use std::alloc::Global;
 use std::rc::Rc;
 
-// One operand more. So many that they can't be counted have no room anywhere.
+// Adds one operand. If their number overflows, no memory could hold them.
 fn one_more(found: Found) -> Result<Found, Fault>
     ensures { table.FindsShape result (views.holding (found.operands + 1) found) }
 {
@@ -27,7 +27,7 @@ fn one_more(found: Found) -> Result<Found, Fault>
     }
 }
 
-// Fewer operands.
+// Removes operands.
 fn less(found: Found, count: usize) -> Found
     requires { count ≤ found.operands }
     ensures { table.shape_view result ≡ views.holding (found.operands - count) found }
@@ -36,7 +36,7 @@ fn less(found: Found, count: usize) -> Found
     Found { operands, ..found }
 }
 
-// The row after a spawn took the slot of its result, if there is one.
+// Returns the row after a spawn marked the slot of its result, if there is one, as empty.
 fn with_target(alloc: Global, row: Rc<Row>, target: Option<u32>) -> Result<Rc<Row>, Fault>
     ensures { OrMemory result (λ r. r.value.items ≡ views.after_spawn target row.value.items) }
 {
@@ -51,7 +51,7 @@ fn with_target(alloc: Global, row: Rc<Row>, target: Option<u32>) -> Result<Rc<Ro
     }
 }
 
-// The row after arrays were taken out of these slots.
+// Returns the row after arrays were taken out of these slots.
 fn with_gone(alloc: Global, row: Rc<Row>, passed: &[u32]) -> Result<Rc<Row>, Fault>
     ensures { OrMemory result (λ r. r.value.items ≡ fits.with_gone passed.now row.value.items) }
 {
@@ -64,7 +64,7 @@ fn with_gone(alloc: Global, row: Rc<Row>, passed: &[u32]) -> Result<Rc<Row>, Fau
     Ok(taken)
 }
 
-// The row after the array slots among these loans were lent.
+// Returns the row after the array slots among these loans were lent.
 fn with_lent(alloc: Global, row: Rc<Row>, loans: &[Loan]) -> Result<Rc<Row>, Fault>
     ensures { OrMemory result (λ r. r.value.items ≡ views.with_loans loans.now row.value.items) }
 {
@@ -77,8 +77,8 @@ fn with_lent(alloc: Global, row: Rc<Row>, loans: &[Loan]) -> Result<Rc<Row>, Fau
     Ok(lent)
 }
 
-// A call has taken its arguments, and a spawn the slot of its result, if there is one, and its arrays; what a spawn was
-// lent is frozen.
+// Returns the state after a call took its arguments. A spawn also leaves the slot of its result and the slots of its
+// arrays empty, and what it was lent frozen.
 fn called(
     alloc: Global,
     code: &Code,
@@ -107,7 +107,7 @@ fn called(
     }
 }
 
-// A loop's function has called itself.
+// Returns the state after the function of a loop called itself.
 fn recurred(
     alloc: Global,
     code: &Code,
@@ -134,7 +134,7 @@ fn recurred(
     }
 }
 
-// A join.
+// Returns the state after a join.
 fn synced(alloc: Global, found: Found) -> Result<Found, Fault>
     ensures { table.FindsShape result (table.synced_shape (table.shape_view found)) }
 {
@@ -150,7 +150,8 @@ fn synced(alloc: Global, found: Found) -> Result<Found, Fault>
     })
 }
 
-// A sync block begins, by this cut, if any: the rows go on with the blocks round it.
+// Returns the state after a sync block began, by this cut if there is one. The current rows become the rows of the
+// enclosing block.
 fn opened(alloc: Global, found: Found, cut: Option<Halves>) -> Result<Found, Fault>
     ensures { table.FindsShape result (table.opened_by cut (table.shape_view found)) }
 {
@@ -173,7 +174,7 @@ fn opened(alloc: Global, found: Found, cut: Option<Halves>) -> Result<Found, Fau
     })
 }
 
-// A cut begins: its array is gone up to its end.
+// Returns the state after a cut began. The slot of its array is empty until its end.
 fn cut(alloc: Global, found: Found, h: Halves) -> Result<Found, Fault>
     requires { 1 ≤ found.operands }
     ensures { table.FindsShape result (table.cut_shape h (table.shape_view found)) }
@@ -186,7 +187,7 @@ fn cut(alloc: Global, found: Found, h: Halves) -> Result<Found, Fault>
     Ok(begun)
 }
 
-// A sync block ends: the one round it goes on.
+// Returns the state after a sync block ended: the rows of the enclosing block apply again.
 fn closed(found: Found) -> Result<Found, Fault>
     ensures { table.FindsShape result (views.closed found) }
 {
@@ -208,7 +209,7 @@ fn closed(found: Found) -> Result<Found, Fault>
     })
 }
 
-// The row where the array of a cut is back.
+// Returns the row after the array of a cut is back in its slot.
 fn put_back(alloc: Global, row: &Rc<Row>, cut: Option<Halves>) -> Result<Rc<Row>, Fault>
     ensures { OrMemory result (λ r. r.value.items ≡ fits.with_uncut cut row.now.value.items) }
 {
@@ -223,7 +224,7 @@ fn put_back(alloc: Global, row: &Rc<Row>, cut: Option<Halves>) -> Result<Rc<Row>
     }
 }
 
-// A cut ends: the sync block round it goes on, with the array.
+// Returns the state after a cut ended: the rows of the enclosing block apply again, and the array is back.
 fn close_cut(alloc: Global, found: Found) -> Result<Found, Fault>
     ensures { table.FindsShape result (views.cut_closed found) }
 {
@@ -244,7 +245,11 @@ fn close_cut(alloc: Global, found: Found) -> Result<Found, Fault>
     })
 }
 
-/// What an instruction leaves.
+/// Returns the abstract state after an instruction.
+///
+/// # Errors
+///
+/// `Fault::Memory` if there is not enough memory.
 pub fn leave(alloc: Global, code: &Code, found: Found, i: &Instr) -> Result<Found, Fault>
     requires { views.is_ready code.now found i.now ≡ true }
     ensures { table.FindsShape result (views.leaves code.now found i.now) }

@@ -1,4 +1,4 @@
-//! Code that a run can trust.
+//! The verifier: accepts well-formed code and decodes it into superinstructions.
 #![tactic(auto)]
 
 mod calls;

@@ -1,4 +1,4 @@
-//! What comes to a place that has something already.
+//! Merges the abstract state that flows to a pc into the one that the pc has.
 
 ghost use Rattle.std.specs.Prelude.{◌≡◌};
 ghost use Rattle.cw_verify.specs.Table as table;
@@ -12,7 +12,7 @@ use crate::row::shared_either;
 use cw_text::Fault;
 use std::alloc::Global;
 
-// Whether two shapes can come to one place, whose blocks meet so.
+// Returns whether two states can be merged at one pc, given how their blocks meet.
 fn can_meet(there: &Found, found: &Found, meeting: Meeting) -> bool
     requires { meeting ≡ views.meeting_of there.now.outer.value found.now.outer.value }
     ensures { result ≡ table.can_meet (table.shape_view there.now) (table.shape_view found.now) }
@@ -23,8 +23,12 @@ fn can_meet(there: &Found, found: &Found, meeting: Meeting) -> bool
     there.operands == found.operands && (((empty && gone) && frozen) && meets(meeting))
 }
 
-/// A shape comes to a place that has one already; whether it brings more. How their blocks meet is known. The error is
-/// `Code` where the two can't meet.
+/// Merges `found` into the state `there` of a pc, given how their blocks meet. Returns the merged state, and whether
+/// it marks more than `there`.
+///
+/// # Errors
+///
+/// `Fault::Code` if the two cannot be merged, `Fault::Memory` if there is not enough memory.
 pub fn join(
     alloc: Global,
     there: Found,

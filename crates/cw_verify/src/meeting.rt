@@ -1,22 +1,23 @@
-//! How the blocks round a place meet those that come to it.
+//! How the enclosing blocks of two states at one pc meet.
 
 ghost use Rattle.std.specs.Prelude.{◌≡◌};
 ghost use Rattle.cw_verify.specs.Meetings as meetings;
 
-/// How blocks meet others that come to their place.
+/// How the blocks of a pc meet the blocks that flow to it.
 #[derive(Clone, Copy, Debug, PartialEq, Eq)]
 pub enum Meeting {
-    /// They can't: they are not as many, or not begun by the same cuts, or a row is not as long.
+    /// The blocks cannot be merged: the number of blocks, the cuts that began them or the lengths of their rows
+    /// differ.
     Apart,
-    /// What comes brings nothing more.
+    /// The new blocks mark nothing more.
     Stays,
-    /// What comes brings more, and has all that was there.
+    /// The new blocks mark more, and everything that the old ones mark.
     Comes,
-    /// Each has what the other one has not.
+    /// Each list of blocks marks something that the other one does not.
     Both,
 }
 
-/// Whether the blocks can meet.
+/// Returns whether the blocks can be merged.
 pub fn meets(meeting: Meeting) -> bool
     ensures { result ≡ meetings.meets meeting }
 {

@@ -1,4 +1,4 @@
-//! What an instruction names is there.
+//! Whether everything that an instruction names exists.
 
 ghost use Rattle.std.specs.Prelude.{◌≡◌, ◌+◌, ◌<◌, ◌≤◌, length, drop, Some, slice_get};
 ghost use Rattle.cw_code.specs.Code.{code_view, reducer_names, site_view};
@@ -14,7 +14,7 @@ use cw_model::syntax::{CallKind, Name};
 use cw_text::Fault;
 use std::alloc::Global;
 
-/// How many arguments a function takes; 0 where there is none of this index.
+/// Returns the number of arguments of a function, 0 if there is no such function.
 pub fn params_of(code: &Code, function: u32) -> usize
     ensures { result ≡ fits.params_of (slice_get (code_view code.now).funcs function) }
 {
@@ -24,7 +24,7 @@ pub fn params_of(code: &Code, function: u32) -> usize
     }
 }
 
-/// How many arrays a function takes; 0 where there is none of this index.
+/// Returns the number of arrays that a function takes, 0 if there is no such function.
 pub fn array_params_of(code: &Code, function: u32) -> usize
     ensures { result ≡ fits.array_params_of (slice_get (code_view code.now).funcs function) }
 {
@@ -34,7 +34,7 @@ pub fn array_params_of(code: &Code, function: u32) -> usize
     }
 }
 
-/// How many arrays a function is lent; 0 where there is none of this index.
+/// Returns the number of arrays that are lent to a function, 0 if there is no such function.
 pub fn readers_of(code: &Code, function: u32) -> usize
     ensures { result ≡ fits.readers_of (slice_get (code_view code.now).funcs function) }
 {
@@ -44,7 +44,7 @@ pub fn readers_of(code: &Code, function: u32) -> usize
     }
 }
 
-/// The array slots of a list of the code; none where there is no list of this index.
+/// Returns a list of array slots by its index, an empty one if there is no such list.
 pub fn passed_of(code: &Code, list: u32) -> &[u32]
     ensures { result.now ≡ passed_by (code_view code.now) list }
 {
@@ -54,7 +54,7 @@ pub fn passed_of(code: &Code, list: u32) -> &[u32]
     }
 }
 
-/// The loans of a list of the code; none where there is no list of this index.
+/// Returns a list of loans by its index, an empty one if there is no such list.
 pub fn lent_of(code: &Code, list: u32) -> &[Loan]
     ensures { result.now ≡ lent_by (code_view code.now) list }
 {
@@ -64,7 +64,7 @@ pub fn lent_of(code: &Code, list: u32) -> &[Loan]
     }
 }
 
-/// Whether there is a function of this index whose calls give a value.
+/// Returns whether the function exists and its calls return a value.
 pub fn gives_value(code: &Code, function: u32) -> bool
     ensures { result ≡ fits.gives_value (slice_get (code_view code.now).funcs function) }
 {
@@ -74,7 +74,7 @@ pub fn gives_value(code: &Code, function: u32) -> bool
     }
 }
 
-// Whether the kinds are the same.
+// Returns whether two kinds are equal.
 fn is_kind(kind: CallKind, other: CallKind) -> bool
     ensures { result ≡ fits.is_kind kind (Of other) }
 {
@@ -86,7 +86,7 @@ fn is_kind(kind: CallKind, other: CallKind) -> bool
     }
 }
 
-// Whether a site has the number, the kind and the function of a call.
+// Returns whether a site has the number, the kind and the function of a call.
 fn is_site(kind: CallKind, c: &Callee, site: &Site) -> bool
     ensures { result ≡ fits.is_site kind c.now (Some (site_view site.now)) }
 {
@@ -94,7 +94,7 @@ fn is_site(kind: CallKind, c: &Callee, site: &Site) -> bool
     site.number == c.site && (same && site.function == c.function)
 }
 
-// Whether the site of a call is there.
+// Returns whether the site of a call exists.
 fn names_site(code: &Code, kind: CallKind, c: &Callee) -> bool
     requires { 0 < c.now.site }
     ensures { result ≡ fits.is_site kind c.now (views.site_of code.now c.now) }
@@ -105,7 +105,7 @@ fn names_site(code: &Code, kind: CallKind, c: &Callee) -> bool
     }
 }
 
-// Whether the slot of a result, if there is one, is there, and the callee gives a value.
+// Returns whether the slot of a result, if there is one, exists and the callee returns a value.
 fn names_target(code: &Code, f: &Func, c: &Callee) -> bool
     ensures { result ≡ fits.names_target (code_view code.now) f.now c.now c.now.target }
 {
@@ -115,7 +115,7 @@ fn names_target(code: &Code, f: &Func, c: &Callee) -> bool
     }
 }
 
-// Whether these slots are there and not empty in a row, and none of them twice.
+// Returns whether these slots exist, none of them is marked in the row, and none occurs twice.
 fn are_unmarked(row: Row, slots: &[u32]) -> bool
     ensures { result ≡ table.are_unmarked row.items slots.now }
 {
@@ -129,7 +129,7 @@ fn are_unmarked(row: Row, slots: &[u32]) -> bool
     true
 }
 
-// Whether these are array slots of the caller, and no slot twice.
+// Returns whether these are array slots of the caller, and none occurs twice.
 fn names_arrays(alloc: Global, arrays: usize, passed: &[u32]) -> Result<bool, Fault>
     ensures { table.Tests result (fits.names_arrays arrays passed.now) }
 {
@@ -137,7 +137,8 @@ fn names_arrays(alloc: Global, arrays: usize, passed: &[u32]) -> Result<bool, Fa
     Ok(are_unmarked(row, passed))
 }
 
-// Whether a function is there, and an array slot of the caller for each array that it takes.
+// Returns whether a function exists, and the caller names one of its array slots for each array that the function
+// takes.
 fn names_passed(
     alloc: Global,
     code: &Code,
@@ -155,7 +156,7 @@ fn names_passed(
     Ok(named)
 }
 
-// Whether the slot is none of these.
+// Returns whether the slot is not one of these.
 fn is_none_of(a: u32, slots: &[u32]) -> bool
     ensures { result ≡ fits.is_none_of a slots.now }
 {
@@ -167,7 +168,8 @@ fn is_none_of(a: u32, slots: &[u32]) -> bool
     true
 }
 
-// Whether a loan is an array slot of the caller that is none of these, or an array that the caller was lent itself.
+// Returns whether a loan is an array slot of the caller that is not one of these, or an array that was lent to the
+// caller.
 fn names_loan(f: &Func, passed: &[u32], loan: Loan) -> bool
     ensures { result ≡ fits.names_loan f.now passed.now loan }
 {
@@ -177,7 +179,7 @@ fn names_loan(f: &Func, passed: &[u32], loan: Loan) -> bool
     }
 }
 
-// Whether each of these is such a loan.
+// Returns whether `names_loan` holds for each of these loans.
 fn names_loans(f: &Func, passed: &[u32], loans: &[Loan]) -> bool
     ensures { result ≡ fits.names_loans f.now passed.now loans.now }
 {
@@ -189,21 +191,22 @@ fn names_loans(f: &Func, passed: &[u32], loans: &[Loan]) -> bool
     true
 }
 
-// Whether a function is lent as many arrays as it reads, none of which the call takes.
+// Returns whether the number of loans is the number of arrays that the function reads, and the call takes none of
+// them.
 fn names_lent(code: &Code, f: &Func, function: u32, passed: &[u32], loans: &[Loan]) -> bool
     ensures { result ≡ fits.names_lent (code_view code.now) f.now function passed.now loans.now }
 {
     loans.len() == readers_of(code, function) && names_loans(f, passed, loans)
 }
 
-// Whether the site of a call and the slot of its result are there.
+// Returns whether the site of a call and the slot of its result exist.
 fn names_call(code: &Code, f: &Func, kind: CallKind, c: &Callee) -> bool
     ensures { result ≡ table.names_call (code_view code.now) f.now kind c.now }
 {
     0 < c.site && (names_site(code, kind, c) && names_target(code, f, c))
 }
 
-// Whether what a call names is there.
+// Returns whether what a call names exists, except its loans.
 fn names_callee(
     alloc: Global,
     code: &Code,
@@ -217,7 +220,7 @@ fn names_callee(
     Ok(passed && names_call(code, f, kind, c))
 }
 
-// Whether what a call names is there, with what it lends.
+// Returns whether what a call names exists, including its loans.
 fn names_call_lent(
     alloc: Global,
     code: &Code,
@@ -233,7 +236,7 @@ fn names_call_lent(
     Ok(named && names_lent(code, f, c.function, passed, loans))
 }
 
-// Whether the function of a loop that a call names is there, with its arrays, and is lent none.
+// Returns whether the loop function that a call names exists, with its arrays, and is lent none.
 fn names_inner(alloc: Global, code: &Code, f: &Func, c: &Inner) -> Result<bool, Fault>
     ensures { table.Tests result (fits.names_inner (code_view code.now) f.now c.now) }
 {
@@ -241,7 +244,7 @@ fn names_inner(alloc: Global, code: &Code, f: &Func, c: &Inner) -> Result<bool, 
     Ok(named && names_lent(code, f, c.function, passed_of(code, c.passed), &[]))
 }
 
-// Whether what the first call of a loop's function names is there, and it takes a range.
+// Returns whether what the first call of a loop function names exists, and the function takes a range.
 fn names_start(alloc: Global, code: &Code, f: &Func, c: &Inner) -> Result<bool, Fault>
     ensures { table.Tests result (table.names_start (code_view code.now) f.now c.now) }
 {
@@ -249,7 +252,7 @@ fn names_start(alloc: Global, code: &Code, f: &Func, c: &Inner) -> Result<bool, 
     Ok(named && 2 <= params_of(code, c.function))
 }
 
-// Whether the slots of a cut are there and differ, and its parts go into none of a parameter.
+// Returns whether the slots of a cut exist and differ, and no part goes into the slot of a parameter.
 fn names_halves(f: &Func, h: Halves) -> bool
     ensures { result ≡ fits.names_halves f.now h }
 {
@@ -260,7 +263,7 @@ fn names_halves(f: &Func, h: Halves) -> bool
     (array && (left && right)) && own
 }
 
-// Whether the tag of a region is there.
+// Returns whether the tag of a region exists.
 fn names_tag(code: &Code, kind: &BlockKind) -> bool
     ensures { result ≡ fits.names_tag (code_view code.now) kind.now }
 {
@@ -270,7 +273,11 @@ fn names_tag(code: &Code, kind: &BlockKind) -> bool
     }
 }
 
-/// Whether what an instruction names is there.
+/// Returns whether everything that an instruction names exists.
+///
+/// # Errors
+///
+/// `Fault::Memory` if there is not enough memory.
 pub fn names_well(
     alloc: Global,
     code: &Code,
@@ -312,7 +319,11 @@ pub fn names_well(
     }
 }
 
-/// Whether each instruction of a function names what is there.
+/// Returns whether everything that the instructions of a function name exists.
+///
+/// # Errors
+///
+/// `Fault::Memory` if there is not enough memory.
 pub fn all_named(alloc: Global, code: &Code, f: &Func) -> Result<bool, Fault>
     requires { f.now.end ≤ length code.now.instrs.items }
     ensures { table.Decides result (table.AllNamed (code_view code.now) f.now) }
@@ -325,7 +336,7 @@ pub fn all_named(alloc: Global, code: &Code, f: &Func) -> Result<bool, Fault>
     Ok(true)
 }
 
-// Whether a name is among those from one of these on.
+// Returns whether a name is one of `names`, from index `from` on.
 fn is_among(name: &Name, names: &[Name], from: usize) -> bool
     ensures { result ≡ fits.is_among name.now (drop from names.now) }
 {
@@ -337,7 +348,7 @@ fn is_among(name: &Name, names: &[Name], from: usize) -> bool
     false
 }
 
-/// Whether no name is there twice.
+/// Returns whether no name occurs twice.
 pub fn are_apart(names: &[Name]) -> bool
     ensures { result ≡ fits.are_apart names.now }
 {
@@ -349,7 +360,7 @@ pub fn are_apart(names: &[Name]) -> bool
     true
 }
 
-// Whether a name is that of one of these reducers from one on.
+// Returns whether a name is the name of one of these reducers, from index `from` on.
 fn is_name_of(name: &Name, reducers: &[Reducer], from: usize) -> bool
     ensures { result ≡ fits.is_among name.now (drop from (reducer_names reducers.now)) }
 {
@@ -361,7 +372,7 @@ fn is_name_of(name: &Name, reducers: &[Reducer], from: usize) -> bool
     false
 }
 
-/// Whether no two reducers have one name.
+/// Returns whether no two reducers have the same name.
 pub fn are_named_apart(reducers: &[Reducer]) -> bool
     ensures { result ≡ fits.are_apart (reducer_names reducers.now) }
 {
@@ -373,7 +384,7 @@ pub fn are_named_apart(reducers: &[Reducer]) -> bool
     true
 }
 
-/// The place past so many after the next one, which lies before an end.
+/// Returns the pc that is `n` after the next one. It must be before `end`.
 pub fn past(place: usize, n: u32, end: usize) -> usize
     requires { place + 1 + n < end }
     ensures { result ≡ place + 1 + n }

@@ -1,4 +1,4 @@
-//! Numbers for the blocks round the places of a function.
+//! Numbers for lists of enclosing sync blocks.
 
 ghost use Rattle.std.specs.Prelude.{◌≡◌, replicate, slice_get};
 ghost use Rattle.cw_verify.specs.Numbers as numbers;
@@ -11,31 +11,35 @@ use cw_code::code::Instr;
 use cw_text::Fault;
 use std::alloc::Global;
 
-/// Two numbers, and how the blocks of the one met those of the other, which came.
+/// Two numbers, and how the blocks with the first number met those with the second.
 #[derive(Clone, Copy, Debug)]
 pub struct Pair {
-    /// The number of what was there, not 0.
+    /// The number of the blocks that the pc had, not 0.
     pub there: u32,
-    /// The number of what came, not 0.
+    /// The number of the blocks that flowed to it, not 0.
     pub found: u32,
-    /// How their blocks meet.
+    /// How these blocks meet.
     pub meeting: Meeting,
 }
 
-/// Where two places have one number, the same blocks lie round them: so most blocks that meet need not be compared. What
-/// comes to a straight run of instructions meets what was there in each of them the same way.
+/// Two pcs with the same number have the same enclosing blocks, so most blocks that meet need not be compared. A
+/// state that flows through straight-line code meets the recorded states in the same way at each instruction.
 #[derive(Drop)]
 pub struct Numbers {
-    /// For each place the number of the blocks round it; 0 for none.
+    /// For each pc the number of its enclosing blocks, 0 for none.
     pub places: Vec<u32>,
-    /// The last number that was given.
+    /// The last number that was assigned.
     pub last: u32,
-    /// The last two numbers whose blocks met, if any did.
+    /// The last two numbers whose blocks met, if there are any.
     pub pair: Option<Pair>,
 }
 
 impl Numbers {
-    /// No number for any of so many places.
+    /// Returns numbers for `count` pcs, none of which has one yet.
+    ///
+    /// # Errors
+    ///
+    /// `Fault::Memory` if there is not enough memory.
     pub fn new(alloc: Global, count: usize) -> Result<Numbers, Fault>
         ensures places { OrMemory result (λ n. n.places.items ≡ replicate count 0) }
         ensures pair { OrMemory result (λ n. n.pair ≡ None) }
@@ -51,7 +55,7 @@ impl Numbers {
         })
     }
 
-    // The number of the blocks round a place.
+    // Returns the number of the enclosing blocks of a pc.
     fn at(&self, k: usize) -> u32
         ensures { result ≡ numbers.number_of self.now.places.items k }
     {
@@ -61,7 +65,7 @@ impl Numbers {
         }
     }
 
-    /// A place has this number.
+    /// Assigns a number to a pc, if the pc exists.
     pub fn set(&mut self, k: usize, number: u32)
         ensures { numbers.IsSet k number self.old self.new }
     {
@@ -70,7 +74,7 @@ impl Numbers {
         }
     }
 
-    // How blocks meet others, by their numbers if they tell.
+    // Returns how two lists of blocks meet. Compares them only if their numbers do not decide it.
     fn meeting(&self, there: u32, found: u32, rounds: &Rounds, more: &Rounds) -> Meeting
         requires { numbers.KnowsBoth there found rounds.now more.now self.now }
         ensures { result ≡ views.meeting_of rounds.now more.now }
@@ -87,7 +91,7 @@ impl Numbers {
         }
     }
 
-    // Two numbers have met, if both are numbers.
+    // Records how the blocks of two numbers meet, if neither number is 0.
     fn keep(&mut self, there: u32, found: u32, meeting: Meeting)
         ensures { numbers.IsKept there found meeting self.old self.new }
     {
@@ -100,7 +104,8 @@ impl Numbers {
         }
     }
 
-    /// How the blocks round a place meet others, which have a number. The place has the number of what they come to.
+    /// Returns how the enclosing blocks of a pc meet others with the number `number`, and assigns the number of the
+    /// merged blocks to the pc.
     pub fn meet(&mut self, k: usize, number: u32, rounds: &Rounds, more: &Rounds) -> Meeting
         requires { numbers.KnowsAt k number rounds.now more.now self.old }
         ensures { numbers.HasMet k number result rounds.now more.now self.old self.new }
@@ -112,8 +117,8 @@ impl Numbers {
         meeting
     }
 
-    /// A number for what the instruction at a place leaves: that of the place where the instruction keeps the blocks, or
-    /// else a new one; 0 where there is none left.
+    /// Returns a number for the blocks after the instruction at a pc: the number of the pc if the instruction keeps
+    /// the blocks, otherwise a new one; 0 if no number is left.
     pub fn next(&mut self, k: usize, i: &Instr) -> u32
         ensures { numbers.IsNext k i.now result self.old self.new }
     {
@@ -131,7 +136,7 @@ impl Numbers {
     }
 }
 
-// The number of what blocks come to that met so; 0 where it has none.
+// Returns the number of the merged blocks, 0 if they have none.
 fn number_after(meeting: Meeting, there: u32, found: u32) -> u32
     ensures { result ≡ numbers.number_after meeting there found }
 {
@@ -143,7 +148,7 @@ fn number_after(meeting: Meeting, there: u32, found: u32) -> u32
     }
 }
 
-// Whether an instruction leaves the blocks round the innermost one as they are.
+// Returns whether an instruction does not change the blocks that enclose the innermost one.
 fn keeps_blocks(i: &Instr) -> bool
     ensures { result ≡ numbers.keeps_blocks i.now }
 {

@@ -1,4 +1,4 @@
-//! How many arrays are read at each place.
+//! The number of arrays that are read, for each pc.
 
 ghost use Rattle.std.specs.Prelude.{◌≡◌, [], IfOk, OnOk};
 ghost use Rattle.cw_runnable.specs.Reading as reading;
@@ -6,7 +6,7 @@ ghost use Rattle.cw_runnable.specs.Reading as reading;
 use cw_code::code::Func;
 use std::alloc::{AllocError, Global};
 
-// The same number for each place up to one.
+// Fills a list up to length `to` with the same number.
 fn fill(counts: &mut Vec<usize>, to: usize, readers: usize) -> Result<(), AllocError>
     ensures { OnOk result (counts.new.items ≡ reading.filled counts.old.items to readers) }
 {
@@ -17,8 +17,7 @@ fn fill(counts: &mut Vec<usize>, to: usize, readers: usize) -> Result<(), AllocE
     Ok(())
 }
 
-// For each place up to the end of the last of these functions, of which there are so many, how many arrays its own
-// function reads.
+// Returns for each pc up to the end of the last function how many arrays its function reads.
 pub(crate) fn reading_of(
     alloc: Global,
     funcs: &[Func],

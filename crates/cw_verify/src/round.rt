@@ -1,4 +1,4 @@
-//! The sync blocks round a place, in the same call.
+//! The enclosing sync blocks of a pc, in the same call.
 
 ghost use Rattle.std.specs.Prelude.{◌≡◌, true};
 ghost use Rattle.cw_code.specs.Fits as fits;
@@ -15,29 +15,29 @@ use cw_text::Fault;
 use std::alloc::Global;
 use std::rc::Rc;
 
-/// A sync block round another one. Its rows are those of the place where the inner one began.
+/// A sync block that encloses another one. Its rows are the rows of the pc at which the inner block began.
 #[derive(Drop)]
 pub struct Round {
-    /// For each slot of integers whether it may be empty up to the next join of the block.
+    /// For each integer slot, whether it may be empty until the next join of the block.
     pub empty: Rc<Row>,
-    /// The same for each array slot.
+    /// For each array slot, whether it may be empty until that join.
     pub gone: Rc<Row>,
-    /// For each array slot whether it may be frozen up to that join.
+    /// For each array slot, whether it may be frozen until that join.
     pub frozen: Rc<Row>,
     /// The cut that began the inner block, if a cut did.
     pub cut: Option<Halves>,
 }
 
-/// The sync blocks round a place, the innermost first. What the blocks round a block are is shared by all places in it.
+/// The enclosing sync blocks of a pc, the innermost first. All pcs in a block share the list of the blocks around it.
 #[derive(Drop)]
 pub enum Rounds {
-    /// There is none.
+    /// No block.
     Outermost,
-    /// A block, and those round it.
+    /// A block, and the blocks around it.
     Within(Round, Rc<Rounds>),
 }
 
-/// Whether each of these blocks has the slot of integers, and not as empty.
+/// Returns whether each of these blocks has the integer slot and none marks it as empty.
 pub fn full_in_all(rounds: &Rounds, a: usize) -> bool
     ensures { result ≡ fits.full_in_all (fits.empty_rows (table.rounds_of rounds.now)) a }
 {
@@ -47,7 +47,7 @@ pub fn full_in_all(rounds: &Rounds, a: usize) -> bool
     }
 }
 
-/// Whether each of these blocks has the array slot, and not as empty.
+/// Returns whether each of these blocks has the array slot and none marks it as empty.
 pub fn there_in_all(rounds: &Rounds, a: usize) -> bool
     ensures { result ≡ fits.full_in_all (fits.gone_rows (table.rounds_of rounds.now)) a }
 {
@@ -57,7 +57,7 @@ pub fn there_in_all(rounds: &Rounds, a: usize) -> bool
     }
 }
 
-/// Whether each of these blocks has the array slot, and not as frozen.
+/// Returns whether each of these blocks has the array slot and none marks it as frozen.
 pub fn thawed_in_all(rounds: &Rounds, a: usize) -> bool
     ensures { result ≡ fits.full_in_all (fits.frozen_rows (table.rounds_of rounds.now)) a }
 {
@@ -67,7 +67,7 @@ pub fn thawed_in_all(rounds: &Rounds, a: usize) -> bool
     }
 }
 
-// Whether the slot is no half of this cut.
+// Returns whether the slot is not a part of this cut.
 fn is_no_half(a: u32, cut: Option<Halves>) -> bool
     ensures { result ≡ fits.is_no_half a cut }
 {
@@ -77,7 +77,7 @@ fn is_no_half(a: u32, cut: Option<Halves>) -> bool
     }
 }
 
-/// Whether the slot holds no part of an array that is cut.
+/// Returns whether the slot holds no part of an array that is cut.
 pub fn is_no_part(a: u32, rounds: &Rounds) -> bool
     ensures { result ≡ fits.is_no_part a (table.rounds_of rounds.now) }
 {
@@ -87,7 +87,7 @@ pub fn is_no_part(a: u32, rounds: &Rounds) -> bool
     }
 }
 
-// A block like this one.
+// Returns a copy of a block.
 fn copy(round: &Round) -> Result<Round, Fault>
     ensures { OrMemory result (λ r. table.round_view r ≡ table.round_view round.now) }
 {
@@ -102,7 +102,7 @@ fn copy(round: &Round) -> Result<Round, Fault>
     })
 }
 
-// Whether a block brings more than another one has.
+// Returns whether a block marks more than another one.
 fn round_brings(round: &Round, more: &Round) -> bool
     ensures { result ≡ table.round_brings (table.round_view round.now) (table.round_view more.now) }
 {
@@ -110,7 +110,7 @@ fn round_brings(round: &Round, more: &Round) -> bool
         || (brings(&round.gone, &more.gone) || brings(&round.frozen, &more.frozen))
 }
 
-// Whether blocks bring more than others have.
+// Returns whether some block marks more than its counterpart.
 fn each_brings(rounds: &Rounds, more: &Rounds) -> bool
     ensures { result ≡ table.each_brings (table.rounds_of rounds.now) (table.rounds_of more.now) }
 {
@@ -123,7 +123,7 @@ fn each_brings(rounds: &Rounds, more: &Rounds) -> bool
     }
 }
 
-// What may be empty in one block or the other.
+// Returns a block that marks what either block marks.
 fn either_round(alloc: Global, round: &Round, more: &Round) -> Result<Round, Fault>
     ensures { OrMemory result (λ r. table.round_view r ≡ views.either_round round.now more.now) }
 {
@@ -138,7 +138,7 @@ fn either_round(alloc: Global, round: &Round, more: &Round) -> Result<Round, Fau
     })
 }
 
-// A block and those round it.
+// Adds a block to the blocks around it.
 fn within(alloc: Global, round: Round, outer: Rc<Rounds>) -> Result<Rc<Rounds>, Fault>
     ensures { OrMemory result (λ r. table.rounds_of r.value ≡ table.rounds_in round outer.value) }
 {
@@ -146,7 +146,7 @@ fn within(alloc: Global, round: Round, outer: Rc<Rounds>) -> Result<Rc<Rounds>, 
     Ok(rounds)
 }
 
-// The same blocks.
+// Returns the same blocks, shared.
 fn share(rounds: &Rc<Rounds>) -> Result<Rc<Rounds>, Fault>
     ensures { OrMemory result (λ r. table.rounds_of r.value ≡ table.rounds_of rounds.now.value) }
 {
@@ -154,7 +154,7 @@ fn share(rounds: &Rc<Rounds>) -> Result<Rc<Rounds>, Fault>
     Ok(rounds)
 }
 
-// What may be empty in the blocks here or there, block by block.
+// Merges two lists of blocks: each block marks what either block marks.
 fn either_each(alloc: Global, rounds: &Rounds, more: &Rounds) -> Result<Rc<Rounds>, Fault>
     ensures { OrMemory result (λ r. rounds_of r.value ≡ views.either_each rounds.now more.now) }
 {
@@ -176,8 +176,13 @@ fn either_each(alloc: Global, rounds: &Rounds, more: &Rounds) -> Result<Rc<Round
     }
 }
 
-/// What may be empty in one block or the other, block by block, to be shared; whether that is more than in the first
-/// ones, which stay where it is not. What brings all that was there comes in its place. How they meet is known.
+/// Merges two lists of blocks, given how they meet. Returns the merged list, to be shared, and whether it marks more
+/// than the first one. If it does not, the first list is returned; if the second list marks everything that the first
+/// one marks, the second one is returned.
+///
+/// # Errors
+///
+/// `Fault::Memory` if there is not enough memory.
 pub fn shared_each(
     alloc: Global,
     rounds: Rc<Rounds>,
@@ -202,14 +207,14 @@ pub fn shared_each(
     }
 }
 
-// Whether these are the same slots of a cut.
+// Returns whether the slots of two cuts are equal.
 fn same_halves(halves: Halves, other: Halves) -> bool
     ensures { result ≡ table.same_halves halves other }
 {
     halves.array == other.array && (halves.left == other.left && halves.right == other.right)
 }
 
-// Whether this is the same cut, or none.
+// Returns whether both are the same cut, or neither is a cut.
 fn same_cut(cut: Option<Halves>, other: Option<Halves>) -> bool
     ensures { result ≡ table.same_cut cut other }
 {
@@ -221,7 +226,7 @@ fn same_cut(cut: Option<Halves>, other: Option<Halves>) -> bool
     }
 }
 
-// Whether the rows of two blocks are as long, and their cut is the same.
+// Returns whether the rows of two blocks have the same lengths, and their cuts are equal.
 fn is_alike(round: &Round, other: &Round) -> bool
     ensures { result ≡ table.is_alike (table.round_view round.now) (table.round_view other.now) }
 {
@@ -230,7 +235,7 @@ fn is_alike(round: &Round, other: &Round) -> bool
     round.empty.len() == other.empty.len() && (gone && (frozen && same_cut(round.cut, other.cut)))
 }
 
-// Whether there are as many blocks, begun by the same cuts, and each row is as long.
+// Returns whether there are equally many blocks, with the same cuts and rows of the same lengths.
 fn are_alike(rounds: &Rounds, others: &Rounds) -> bool
     ensures { result ≡ table.are_alike (table.rounds_of rounds.now) (table.rounds_of others.now) }
 {
@@ -244,7 +249,7 @@ fn are_alike(rounds: &Rounds, others: &Rounds) -> bool
     }
 }
 
-/// How blocks meet others that come to their place.
+/// Returns how two lists of blocks meet.
 pub fn compare(rounds: &Rounds, more: &Rounds) -> Meeting
     ensures { result ≡ views.meeting_of rounds.now more.now }
 {

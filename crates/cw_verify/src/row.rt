@@ -1,4 +1,4 @@
-//! A row of slots: which of them may be empty.
+//! Rows of slots: which slots may be empty.
 
 ghost use Rattle.std.specs.Prelude.{◌≡◌, length, slice_get, slice_set};
 ghost use Rattle.cw_code.specs.Fits as fits;
@@ -11,10 +11,15 @@ use cw_text::Fault;
 use std::alloc::Global;
 use std::rc::Rc;
 
-/// For each slot whether it may be empty, or, of an array slot, frozen.
+/// For each slot, whether it may be empty; or, for each array slot, whether it may be frozen. Such a slot is
+/// *marked*.
 pub type Row = Vec<bool>;
 
-/// So many slots, none of them empty.
+/// Returns a row of this number of slots, none of them marked.
+///
+/// # Errors
+///
+/// `Fault::Memory` if there is not enough memory.
 pub fn none_empty(alloc: Global, slots: usize) -> Result<Row, Fault>
     ensures { OrMemory result (λ row. row.items ≡ fits.none_empty slots) }
 {
@@ -25,7 +30,11 @@ pub fn none_empty(alloc: Global, slots: usize) -> Result<Row, Fault>
     Ok(row)
 }
 
-/// The same, to be shared.
+/// Returns a shared row of this number of slots, none of them marked.
+///
+/// # Errors
+///
+/// `Fault::Memory` if there is not enough memory.
 pub fn shared_none(alloc: Global, slots: usize) -> Result<Rc<Row>, Fault>
     ensures { OrMemory result (λ row. row.value.items ≡ fits.none_empty slots) }
 {
@@ -34,7 +43,7 @@ pub fn shared_none(alloc: Global, slots: usize) -> Result<Rc<Row>, Fault>
     Ok(row)
 }
 
-// Whether a row has a slot as empty.
+// Returns whether a row marks a slot.
 fn has_empty(row: &[bool]) -> bool
     ensures { result ≡ table.any_empty row.now }
 {
@@ -45,7 +54,11 @@ fn has_empty(row: &[bool]) -> bool
     found
 }
 
-/// As many slots, none of them empty: the same row, if it has none.
+/// Returns a row of the same length with no slot marked: the same row, if it marks none.
+///
+/// # Errors
+///
+/// `Fault::Memory` if there is not enough memory.
 pub fn cleared(alloc: Global, row: Rc<Row>) -> Result<Rc<Row>, Fault>
     ensures { OrMemory result (λ r. r.value.items ≡ fits.none_empty (length row.value.items)) }
 {
@@ -55,7 +68,7 @@ pub fn cleared(alloc: Global, row: Rc<Row>) -> Result<Rc<Row>, Fault>
     shared_none(alloc, row.len())
 }
 
-/// Whether a row has the slot, and not as empty.
+/// Returns whether a row has a slot and does not mark it.
 pub fn is_full_in(row: &[bool], a: usize) -> bool
     ensures { result ≡ fits.is_full_in (slice_get row.now a) }
 {
@@ -65,7 +78,7 @@ pub fn is_full_in(row: &[bool], a: usize) -> bool
     }
 }
 
-/// A slot, if it is there, may be empty, or may not.
+/// Marks a slot, if it exists, or removes the mark.
 pub fn set(row: &mut Row, a: usize, empty: bool)
     ensures { row.new.items ≡ slice_set row.old.items a empty }
 {
@@ -74,7 +87,7 @@ pub fn set(row: &mut Row, a: usize, empty: bool)
     }
 }
 
-/// Each of these slots may be empty.
+/// Marks each of these slots.
 pub fn set_all(row: &mut Row, slots: &[u32])
     ensures { row.new.items ≡ fits.with_gone slots.now row.old.items }
 {
@@ -83,7 +96,7 @@ pub fn set_all(row: &mut Row, slots: &[u32])
     }
 }
 
-// The array slot of a loan, if it is one, may be frozen.
+// Marks the array slot of a loan, if the loan names one.
 fn freeze(row: &mut Row, loan: Loan)
     ensures { row.new.items ≡ views.frozen_by loan row.old.items }
 {
@@ -93,7 +106,7 @@ fn freeze(row: &mut Row, loan: Loan)
     }
 }
 
-/// Each array slot among these loans may be frozen.
+/// Marks each array slot among these loans.
 pub fn freeze_all(row: &mut Row, loans: &[Loan])
     ensures { row.new.items ≡ views.with_loans loans.now row.old.items }
 {
@@ -102,8 +115,8 @@ pub fn freeze_all(row: &mut Row, loans: &[Loan])
     }
 }
 
-/// Whether the second row has a slot as empty that the first one has as full. No turn is left out where one is found: so
-/// the compiler takes many slots at once.
+/// Returns whether the second row marks a slot that the first row has and does not mark. The loop does not stop
+/// early, so that the compiler can process several slots at a time.
 pub fn brings(row: &[bool], more: &[bool]) -> bool
     ensures { result ≡ table.brings row.now more.now }
 {
@@ -114,14 +127,14 @@ pub fn brings(row: &[bool], more: &[bool]) -> bool
     found
 }
 
-// Whether a row is as long as another one and has each slot as empty that the other one has.
+// Returns whether two rows have the same length and `row` marks every slot that `other` marks.
 fn has_all(row: &[bool], other: &[bool]) -> bool
     ensures { result ≡ table.has_all row.now other.now }
 {
     row.len() == other.len() && !brings(row, other)
 }
 
-// A slot may be empty too, if this says so.
+// Marks a slot if `empty` holds.
 fn mark(row: &mut Row, a: usize, empty: bool)
     ensures { row.new.items ≡ views.marked empty a row.old.items }
 {
@@ -130,7 +143,7 @@ fn mark(row: &mut Row, a: usize, empty: bool)
     }
 }
 
-// What may be empty in one row or the other.
+// Returns a row that marks what either row marks.
 fn either_empty(alloc: Global, row: &[bool], more: &[bool]) -> Result<Row, Fault>
     ensures { OrMemory result (λ r. r.items ≡ table.either_empty row.now more.now) }
 {
@@ -141,7 +154,7 @@ fn either_empty(alloc: Global, row: &[bool], more: &[bool]) -> Result<Row, Fault
     Ok(both)
 }
 
-// The same row.
+// Returns the same row, shared.
 fn share(row: &Rc<Row>) -> Result<Rc<Row>, Fault>
     ensures { OrMemory result (λ r. r.value.items ≡ row.now.value.items) }
 {
@@ -149,8 +162,13 @@ fn share(row: &Rc<Row>) -> Result<Rc<Row>, Fault>
     Ok(row)
 }
 
-/// What may be empty in one row or the other, to be shared; whether that is more than in the first, which stays where
-/// it is not. A row that has all that was there comes in its place.
+/// Merges two rows. Returns a row that marks what either row marks, to be shared, and whether it marks more than the
+/// first one. If it does not, the first row is returned; if the second row marks everything that the first one marks,
+/// the second one is returned.
+///
+/// # Errors
+///
+/// `Fault::Memory` if there is not enough memory.
 pub fn shared_either(alloc: Global, row: Rc<Row>, more: &Rc<Row>) -> Result<(Rc<Row>, bool), Fault>
     ensures { OrMemory result (λ r. views.MeetsRow row.value more.now.value r.0.value r.1) }
 {

@@ -1,5 +1,5 @@
-//! The search for the table of a function: from its first place on, each instruction is visited, and again each time
-//! that more comes to its place.
+//! The search for the table of a function. It begins at the first pc, visits each instruction that is reached, and
+//! visits it again whenever more flows to its pc.
 
 ghost use Rattle.std.specs.Prelude.{◌≡◌, ◌+◌, ◌<◌, ◌≤◌, true, length, [], ◌∷◌, IfOk};
 ghost use Rattle.cw_code.specs.Code.{code_view};
@@ -20,19 +20,19 @@ use cw_text::Fault;
 use std::alloc::Global;
 use std::mem;
 
-/// What is known of a function's places so far.
+/// The facts that are known of the pcs of a function so far.
 #[derive(Drop)]
 struct Search {
-    /// What each place finds, by its distance from the first one; nothing where it was not reached yet.
+    /// The abstract state of each pc, by its distance from the first one; `None` if it was not reached yet.
     found: Vec<Option<Found>>,
-    /// The places to visit, by their distance from the first one.
+    /// The pcs to visit, by their distance from the first one.
     work: WorkList,
-    /// Numbers for the blocks round the places.
+    /// Numbers for the enclosing blocks of the pcs.
     numbers: Numbers,
 }
 
 impl Search {
-    // A place is noted, if more came to it; by a branch, or not.
+    // Adds a pc to the work list, if more flowed to it.
     fn note(&mut self, k: usize, branch: bool, more: bool) -> Result<(), Fault>
         ensures found { self.new.found.items ≡ self.old.found.items }
         ensures numbers { self.new.numbers ≡ self.old.numbers }
@@ -44,8 +44,9 @@ impl Search {
         Ok(())
     }
 
-    // A shape comes to a place, if it is there, by a branch or not; whether that reaches the place. The blocks round the
-    // shape have a number. A place to which more comes is noted.
+    // Merges a state into the state of a pc, if the pc exists; the enclosing blocks of the state have number
+    // `number`. Returns whether this reached the pc for the first time. If more flowed to the pc, it is added to the
+    // work list.
     fn come(
         &mut self,
         alloc: Global,
@@ -79,7 +80,7 @@ impl Search {
         }
     }
 
-    // A shape comes to two places.
+    // Merges a state into the states of two pcs.
     fn come_both(
         &mut self,
         alloc: Global,
@@ -102,7 +103,7 @@ impl Search {
         }
     }
 
-    // What an instruction leaves comes to the places that it goes on to.
+    // Merges the state after an instruction into the states of its successors.
     fn spread(
         &mut self,
         alloc: Global,
@@ -159,8 +160,8 @@ impl Search {
         }
     }
 
-    // The instruction at a place finds what it needs and changes nothing that is frozen, and what it leaves comes to the
-    // places that it goes on to.
+    // Visits a pc: checks that its instruction has what it requires and changes nothing that is frozen, and merges
+    // the state after the instruction into the states of its successors.
     fn visit(&mut self, alloc: Global, code: &Code, f: &Func, k: usize) -> Result<bool, Fault>
         requires row { k < length self.old.found.items }
         requires there { f.now.start + k < length code.now.instrs.items }
@@ -188,7 +189,7 @@ impl Search {
         self.spread(alloc, code, f, place, &i, left, number)
     }
 
-    // Noted places are visited, up to the first visit that reaches a place; whether there was one.
+    // Visits pcs of the work list until a visit reaches a new pc. Returns whether one did.
     fn settle(&mut self, alloc: Global, code: &Code, f: &Func) -> Result<bool, Fault>
         requires there { f.now.end ≤ length code.now.instrs.items }
         requires named { table.AllNamed (code_view code.now) f.now }
@@ -211,7 +212,7 @@ impl Search {
     }
 }
 
-// A search at its begin: the first place is reached, and noted.
+// Returns a search at its beginning: the first pc is reached, and is in the work list.
 fn begin(alloc: Global, f: &Func) -> Result<Search, Fault>
     requires { f.now.start < f.now.end }
     ensures begins { OrMemory result (λ s. table.Begins f.now s) }
@@ -233,9 +234,11 @@ fn begin(alloc: Global, f: &Func) -> Result<Search, Fault>
     })
 }
 
-/// The table of a function whose instructions name what is there.
+/// Returns the table of a function. Everything that its instructions name must exist.
 ///
-/// The error is `Code` exactly where the function has no table.
+/// # Errors
+///
+/// `Fault::Code` exactly if the function has no table, `Fault::Memory` if there is not enough memory.
 pub fn find(alloc: Global, code: &Code, f: &Func) -> Result<Vec<Option<Found>>, Fault>
     requires order { f.now.start < f.now.end }
     requires there { f.now.end ≤ length code.now.instrs.items }

@@ -1,4 +1,4 @@
-//! The places that a search has yet to visit.
+//! The work list of a search: the pcs to visit.
 
 ghost use Rattle.std.specs.Prelude.{◌≡◌, []};
 ghost use Rattle.cw_verify.specs.Table as table;
@@ -10,24 +10,28 @@ use std::alloc::Global;
 use std::cmp::Reverse;
 use std::collections::BinaryHeap;
 
-/// Places to visit, by their distance from the first one, in turns. In a turn the nearest comes first: where no loop goes
-/// back, all that leads to a place was visited before it, and it is visited once.
+/// The pcs to visit, by their distance from the first one, in passes. In a pass the nearest pc comes first: in code
+/// without loops, all predecessors of a pc are visited before it, so it is visited once.
 ///
-/// What a loop brings back to its head goes on at once behind the loop, and into the body of the loop in the next turn,
-/// when all that the loops round it bring back is known too. So loops inside one another take two turns, and no place in
-/// them is visited for each of them.
+/// What flows back to the head of a loop continues after the loop in the same pass, and into the body of the loop in
+/// the next pass, when what flows back from all enclosing loops is also known. So nested loops take two passes, and
+/// no pc in them is visited once for each of them.
 #[derive(Drop)]
 pub struct WorkList {
-    /// The places, each behind its turn.
+    /// The pcs, each after its pass.
     places: BinaryHeap<Reverse<(usize, usize)>>,
-    /// This turn, from 1.
+    /// The current pass, from 1.
     turn: usize,
-    /// For each place the last turn that visited it, 0 for none.
+    /// For each pc the last pass that visited it, 0 for none.
     visited: Vec<usize>,
 }
 
 impl WorkList {
-    /// No place of so many.
+    /// Returns an empty work list for `places` pcs.
+    ///
+    /// # Errors
+    ///
+    /// `Fault::Memory` if there is not enough memory.
     pub fn new(alloc: Global, places: usize) -> Result<WorkList, Fault>
         ensures { OrMemory result (λ work. table.places_of work ≡ []) }
     {
@@ -42,7 +46,11 @@ impl WorkList {
         })
     }
 
-    /// A place more. If a branch leads there and this turn has visited it, it is left to the next turn.
+    /// Adds a pc. If a branch leads there and the current pass has visited it, the next pass visits it.
+    ///
+    /// # Errors
+    ///
+    /// `Fault::Memory` if there is not enough memory.
     pub fn push(&mut self, place: usize, branch: bool) -> Result<(), Fault>
         ensures { steps.Pushes place self.old self.new result }
     {
@@ -50,7 +58,7 @@ impl WorkList {
         self.put(turn, place)
     }
 
-    // The turn that is to visit a place.
+    // Returns the pass that must visit a pc.
     fn turn_of(&self, place: usize, branch: bool) -> usize {
         match self.visited.get(place) {
             Some(turn) if branch && *turn == self.turn => self.turn.saturating_add(1),
@@ -58,7 +66,7 @@ impl WorkList {
         }
     }
 
-    // A place more, in this turn.
+    // Adds a pc to a pass.
     fn put(&mut self, turn: usize, place: usize) -> Result<(), Fault>
         ensures { steps.Pushes place self.old self.new result }
     {
@@ -66,7 +74,7 @@ impl WorkList {
         Ok(())
     }
 
-    /// The nearest place of this turn, or else of the next one, which is taken out.
+    /// Removes and returns the nearest pc of the current pass, or of the next one if the current pass is finished.
     pub fn pop(&mut self) -> Option<usize>
         ensures { steps.Pops self.old self.new result }
     {
@@ -79,7 +87,7 @@ impl WorkList {
         }
     }
 
-    // The nearest place of the first turn that has one, behind that turn.
+    // Removes and returns the nearest pc of the first pass that has one, and that pass.
     fn take(&mut self) -> Option<(usize, usize)>
         ensures { steps.Takes self.old self.new result }
     {
@@ -89,7 +97,7 @@ impl WorkList {
         }
     }
 
-    // A turn visits a place.
+    // Records that a pass visits a pc.
     fn visit(&mut self, turn: usize, place: usize)
         ensures { table.places_of self.new ≡ table.places_of self.old }
     {

@@ -1,5 +1,5 @@
-//! Tests of worlds, by public calls alone: walks and moments worked out by hand, and walks at random beside the run by
-//! one worker.
+//! Tests of worlds, by public calls only: lists of events and moments worked out by hand, and random lists of events
+//! compared with the run by one worker.
 #![tactic(auto)]
 
 #[cfg(test)]

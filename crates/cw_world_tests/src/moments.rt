@@ -1,4 +1,4 @@
-//! Every event at every moment of short runs: each is possible or refused as was worked out by hand.
+//! Every event at every moment of short runs: each is possible or refused as worked out by hand.
 
 ghost use Rattle.std.specs.Prelude.{IfOk};
 ghost use Rattle.cw_world.specs.Worlds.{IsSound};
@@ -17,7 +17,7 @@ const BURDEN: Burden = Burden {
     edges: Edges::Spawn,
 };
 
-// An event by a number, of worker w, and of v where it steals.
+// Returns the event of this kind of worker `w`; `v` is the victim of a theft.
 fn event_of(kind: usize, w: usize, v: usize) -> Event {
     match kind {
         0 => Run(w),
@@ -30,7 +30,7 @@ fn event_of(kind: usize, w: usize, v: usize) -> Event {
     }
 }
 
-// Whether an event is refused as not possible.
+// Returns whether an event is refused as not possible.
 fn is_refused(world: &mut World, event: Event) -> bool
     requires { IsSound world.old }
     ensures { IsSound world.new }
@@ -41,7 +41,7 @@ fn is_refused(world: &mut World, event: Event) -> bool
     }
 }
 
-// Whether an event is possible, or refused as not possible, as was worked out.
+// Returns whether an event is possible, or refused as not possible, as worked out by hand.
 fn is_as_told(world: &mut World, event: Event, is_possible: bool) -> bool
     requires { IsSound world.old }
     ensures { IsSound world.new }
@@ -53,7 +53,8 @@ fn is_as_told(world: &mut World, event: Event, is_possible: bool) -> bool
     refused && !world.is_possible(event)
 }
 
-// Whether exactly these events are possible now, among all seven of the workers 0 and 1, and of 2, which is none.
+// Returns whether exactly these events are possible now, among all seven events of workers 0 and 1, and of worker 2,
+// which does not exist.
 fn is_moment(world: &mut World, possible: &[Event]) -> bool
     requires { IsSound world.old }
     ensures { IsSound world.new }
@@ -67,7 +68,7 @@ fn is_moment(world: &mut World, possible: &[Event]) -> bool
     right
 }
 
-// Whether exactly these events are possible now; the first of them happens then.
+// Returns whether exactly these events are possible now. The first of them then happens.
 fn passes_one(world: &mut World, possible: &[Event]) -> bool
     requires { IsSound world.old }
     ensures { IsSound world.new }
@@ -82,7 +83,7 @@ fn passes_one(world: &mut World, possible: &[Event]) -> bool
     }
 }
 
-// Moments, each with the events that are possible, the first of which happens then.
+// Passes moments, each with its possible events, of which the first one happens. Returns whether all are right.
 fn passes(world: &mut World, moments: &[&[Event]]) -> bool
     requires { IsSound world.old }
     ensures { IsSound world.new }
@@ -95,7 +96,7 @@ fn passes(world: &mut World, moments: &[&[Event]]) -> bool
     right
 }
 
-// A world of two workers that prints 1, 2 and 3.
+// Returns a world of two workers that prints 1, 2 and 3.
 fn printing(alloc: Global) -> Result<World, Fault>
     ensures { IfOk result (λ world. IsSound world) }
 {
@@ -104,7 +105,7 @@ fn printing(alloc: Global) -> Result<World, Fault>
     Ok(world)
 }
 
-// Whether the run goes on after these moments, and has ended after the last ones.
+// Returns whether the run has not ended after `moments`, and has ended after `last`.
 fn ends_after(alloc: Global, moments: &[&[Event]], last: &[&[Event]]) -> Result<bool, Fault> {
     let mut world = printing(alloc)?;
     let passes_most = passes(&mut world, moments);
@@ -113,18 +114,18 @@ fn ends_after(alloc: Global, moments: &[&[Event]], last: &[&[Event]]) -> Result<
     Ok(passes_most && goes_on && passes_last && world.outcome().is_some())
 }
 
-// Worker 1 steals the rest behind the first call and worker 0 the one behind the second.
+// Worker 1 steals the continuation after the first call, and worker 0 the one after the second call.
 const STOLEN: &[&[Event]] = &[
-    // to the first spawn, which is decided
+    // to the first spawn
     &[Run(0)],
     &[Run(0)],
     &[Offer(0), Inline(0)],
-    // the rest is stolen, and comes to the second spawn
+    // the continuation is stolen, and reaches the second spawn
     &[Steal(1, 0), Run(0)],
     &[Run(1), Run(0)],
     &[Run(1), Run(0)],
     &[Offer(1), Inline(1), Run(0)],
-    // the first call ends, and worker 0 runs the second rest to its end
+    // the first call ends, and worker 0 executes the second continuation to its end
     &[Run(0), Run(1)],
     &[Run(0), Run(1)],
     &[Run(0), Run(1)],
@@ -132,7 +133,7 @@ const STOLEN: &[&[Event]] = &[
     &[Run(0), Run(1)],
     &[Run(0), Run(1)],
     &[Settle(0), Run(1)],
-    // the second call ends, and both effects come home
+    // the second call ends, and both effects are collected
     &[Run(1)],
     &[Run(1)],
     &[Run(1)],
@@ -151,7 +152,7 @@ fn both_rests_stolen(rt: HostRuntime) -> Result<(), Fail> {
     Ok(())
 }
 
-// The first rest is offered and comes back from the deque, the second one is kept.
+// The first continuation is offered and taken back from the deque; the second one is kept.
 const TAKEN_BACK: &[&[Event]] = &[
     &[Run(0)],
     &[Run(0)],
@@ -159,7 +160,7 @@ const TAKEN_BACK: &[&[Event]] = &[
     &[Run(0), Steal(1, 0)],
     &[Run(0), Steal(1, 0)],
     &[Run(0), Steal(1, 0)],
-    // at the join it may be taken back, or stolen, by its own worker too
+    // at the join it may be taken back, or stolen, also by its own worker
     &[Retake(0), Steal(0, 0), Steal(1, 0)],
     &[Run(0)],
     &[Run(0)],

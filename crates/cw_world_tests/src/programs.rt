@@ -6,14 +6,14 @@ use cw_text::Fault;
 use std::alloc::Global;
 use std::sync::Arc;
 
-/// Prints 1, 2 and 3, with two spawns: 15 instructions, of which no path has more than 10.
+/// Prints 1, 2 and 3, with two spawns: 15 instructions; the longest path has 10.
 pub const PRINTS: &[u8] = b"
 void p(int v) { print(v); }
 int main() { cilk_spawn p(1); cilk_spawn p(2); print(3); cilk_sync; return 0; }
 ";
 
-/// The n-th Fibonacci number, with one spawn of each call but the smallest, in a region; counts the smallest, keeps the
-/// greatest number that another one comes to, and prints each 5.
+/// The n-th Fibonacci number, in a region: each call except the smallest ones spawns one call. It counts the smallest
+/// calls, keeps the maximum of the results of the others, and prints each 5.
 pub const FIB: &[u8] = b"
 reducer sum leaves;
 reducer max greatest;
@@ -33,7 +33,8 @@ int fib(int n) {
 int main(int n) { int r = 0; r = fib(n); return r; }
 ";
 
-/// The same numbers, each laid into an array that its call is lent: the two below it lie in the halves of another one.
+/// The Fibonacci numbers, each stored in an array that its call takes: the results of the two calls below it are in
+/// the halves of another array.
 pub const LENT: &[u8] = b"
 int fib(int n, int out[]) {
   if (n < 2) { out[0] = n; return 0; }
@@ -52,7 +53,7 @@ int fib(int n, int out[]) {
 int main(int n) { int a[1]; int r = 0; r = fib(n, a); return a[0]; }
 ";
 
-/// As the Fibonacci numbers, but that each call prints, and the call of 5 divides by zero.
+/// Like the Fibonacci numbers, but each call prints, and the call of 5 divides by zero.
 pub const TRAPS: &[u8] = b"
 int fib(int n) {
   if (n < 2) { return n; }
@@ -68,7 +69,11 @@ int fib(int n) {
 int main(int n) { int r = 0; r = fib(n); return r; }
 ";
 
-/// The code of a program.
+/// Returns the code of a program.
+///
+/// # Errors
+///
+/// The fault of the program, or `Fault::Memory` if there is not enough memory.
 pub fn code_of(alloc: Global, bytes: &[u8]) -> Result<Arc<Verified>, Fault> {
     let verified = compile(alloc, bytes)?;
     Ok(Arc::new(alloc, verified)?)

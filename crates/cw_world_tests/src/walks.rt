@@ -1,4 +1,4 @@
-//! A program that prints 1, 2 and 3, by lists of events.
+//! A program that prints 1, 2 and 3, driven by lists of events.
 
 ghost use Rattle.std.specs.Prelude.{IfOk};
 ghost use Rattle.cw_world.specs.Worlds.{IsSound};
@@ -12,13 +12,13 @@ use cw_world::world::World;
 use std::alloc::Global;
 use std::test::Fail;
 
-// Each rest costs 100 to begin.
+// Each continuation is charged 100.
 const BURDEN: Burden = Burden {
     charge: 100,
     edges: Edges::Spawn,
 };
 
-// A world that prints 1, 2 and 3, with so many workers.
+// Returns a world of `workers` workers that prints 1, 2 and 3.
 fn printing(alloc: Global, workers: usize) -> Result<World, Fault>
     ensures { IfOk result (λ world. IsSound world) }
 {
@@ -27,7 +27,7 @@ fn printing(alloc: Global, workers: usize) -> Result<World, Fault>
     Ok(world)
 }
 
-// Whether each of these events happens.
+// Applies these events. Returns whether each of them happens.
 fn walk(world: &mut World, events: &[Event]) -> bool
     requires { IsSound world.old }
     ensures { IsSound world.new }
@@ -41,8 +41,8 @@ fn walk(world: &mut World, events: &[Event]) -> bool
     all
 }
 
-// Whether the run has ended so: 1, 2 and 3 printed, and 0 returned, by 15 instructions, of which no path has more than
-// 10.
+// Returns whether the run has ended with 1, 2 and 3 printed and 0 returned, after 15 instructions, with a longest
+// path of 10.
 fn has_printed(world: &World) -> bool
     requires { IsSound world.now }
 {
@@ -57,7 +57,7 @@ fn has_printed(world: &World) -> bool
     }
 }
 
-// Whether a world of so many workers goes on after these events, and has printed after the last ones.
+// Returns whether the run in a world of `workers` workers has not ended after `events`, and has printed after `last`.
 fn prints(alloc: Global, workers: usize, events: &[Event], last: &[Event]) -> Result<bool, Fault> {
     let mut world = printing(alloc, workers)?;
     let walks_most = walk(&mut world, events);
@@ -66,7 +66,7 @@ fn prints(alloc: Global, workers: usize, events: &[Event], last: &[Event]) -> Re
     Ok(walks_most && goes_on && walks_last && has_printed(&world))
 }
 
-// Both rests are kept.
+// Both continuations are kept.
 const KEPT: &[Event] = &[
     Run(0),
     Run(0),
@@ -84,7 +84,7 @@ const KEPT: &[Event] = &[
     Retake(0),
 ];
 
-// What comes behind them.
+// The events after these.
 const KEPT_LAST: &[Event] = &[Run(0), Run(0), Run(0), Run(0), Run(0)];
 
 #[test]
@@ -95,7 +95,7 @@ fn one_worker_keeps_each_rest(rt: HostRuntime) -> Result<(), Fail> {
 }
 
 const STOLEN: &[Event] = &[
-    // worker 1 steals the first rest, and offers the second one
+    // worker 1 steals the first continuation, and offers the second one
     Run(0),
     Run(0),
     Offer(0),
@@ -103,7 +103,7 @@ const STOLEN: &[Event] = &[
     Run(1),
     Run(1),
     Offer(1),
-    // which worker 0 steals
+    // worker 0 steals the second continuation
     Run(0),
     Run(0),
     Run(0),
@@ -111,7 +111,7 @@ const STOLEN: &[Event] = &[
     Run(0),
     Run(0),
     Settle(0),
-    // both effects come home
+    // both effects are collected
     Run(1),
     Run(1),
     Run(1),

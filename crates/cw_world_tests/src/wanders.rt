@@ -1,4 +1,4 @@
-//! Walks at random beside the run by one worker.
+//! Random events, compared with the run by one worker.
 
 ghost use Rattle.cw_world.specs.Worlds.{IsSound};
 
@@ -21,7 +21,7 @@ const BURDEN: Burden = Burden {
     edges: Edges::Both,
 };
 
-// A program on its arguments, within so many instructions.
+// A program on its arguments, within `n` instructions.
 #[derive(Drop)]
 struct Case<'a> {
     source: &'a [u8],
@@ -29,7 +29,7 @@ struct Case<'a> {
     n: u64,
 }
 
-// Runs that end, that trap and that pass their limit.
+// Runs that end, that trap and that exceed their limit.
 const CASES: &[Case] = &[
     Case {
         source: PRINTS,
@@ -63,7 +63,7 @@ const CASES: &[Case] = &[
     },
 ];
 
-// Whether two runs came to the same, with the same counts everywhere.
+// Returns whether two runs have the same outcome, with the same counts everywhere.
 fn is_same(one: &Result<Ended, Fault>, other: &Result<Ended, Fault>) -> bool {
     match one {
         Ok(a) => match other {
@@ -84,7 +84,7 @@ fn is_same(one: &Result<Ended, Fault>, other: &Result<Ended, Fault>) -> bool {
     }
 }
 
-// An event by a number, of worker w or v.
+// Returns the event of this kind of worker `w`; `v` is the victim of a theft.
 fn event_of(kind: u64, w: u64, v: u64) -> Event {
     match kind {
         0 => Inline(w as usize),
@@ -97,7 +97,7 @@ fn event_of(kind: u64, w: u64, v: u64) -> Event {
     }
 }
 
-// The first event of a worker that is possible, from a kind of events on; it steals from this one alone.
+// Returns the first possible event of a worker, from a kind of events on. It only steals from `v`.
 fn pick_of(world: &World, w: u64, v: u64, first: u64) -> Option<Event> {
     for i in 0..7 {
         let event = event_of(first.wrapping_add(i) % 7, w, v);
@@ -108,7 +108,7 @@ fn pick_of(world: &World, w: u64, v: u64, first: u64) -> Option<Event> {
     None
 }
 
-// An event that is possible, by a number: of a worker, or of the next one that has any.
+// Returns a possible event, chosen by a number: of one worker, or of the next one that has a possible event.
 fn pick(world: &World, workers: u64, number: u64) -> Option<Event> {
     if workers == 0 {
         return None;
@@ -122,8 +122,7 @@ fn pick(world: &World, workers: u64, number: u64) -> Option<Event> {
     None
 }
 
-// Events that are possible one after the other, as they come by numbers that begin with this one, as long as the run
-// goes on; none may be refused.
+// Applies possible events, chosen by random numbers from this seed on, until the run ends; none may be refused.
 fn wander(world: &mut World, workers: u64, seed: u64) -> Option<Result<Ended, Fault>>
     requires { IsSound world.old }
 {
@@ -144,7 +143,7 @@ fn wander(world: &mut World, workers: u64, seed: u64) -> Option<Result<Ended, Fa
     None
 }
 
-// Whether a walk comes to what one worker comes to.
+// Returns whether a random run has the outcome of the run by one worker.
 fn is_serial(
     alloc: Global,
     code: &Arc<Verified>,
@@ -161,7 +160,7 @@ fn is_serial(
     }
 }
 
-// Whether walks of a program come to what one worker comes to.
+// Returns whether random runs of a program have the outcome of the run by one worker.
 fn are_serial(
     alloc: Global,
     code: &Arc<Verified>,
@@ -178,7 +177,7 @@ fn are_serial(
     Ok(right)
 }
 
-// Whether walks of a program come to what one worker comes to, by these seeds.
+// Returns whether random runs of a program with these seeds have the outcome of the run by one worker.
 fn is_case_serial(alloc: Global, case: &Case, seeds: &[u64]) -> Result<bool, Fault> {
     let code = code_of(alloc, case.source)?;
     are_serial(alloc, &code, case, seeds)
@@ -200,7 +199,7 @@ fn walks_are_serial(rt: HostRuntime) -> Result<(), Fail> {
     Ok(())
 }
 
-// Whether walks of a random program are serial within so many instructions.
+// Returns whether the runs of a random program within `n` instructions have the outcome of the run by one worker.
 fn is_random_serial(alloc: Global, program: &Generated, n: u64) -> Result<bool, Fault> {
     let case = Case {
         source: program.source,
@@ -210,7 +209,7 @@ fn is_random_serial(alloc: Global, program: &Generated, n: u64) -> Result<bool, 
     is_case_serial(alloc, &case, &[program.cost])
 }
 
-// Within just what each costs, within one instruction less, and within half of it.
+// Tests each program within exactly its cost, within one instruction less, and within half of it.
 fn all_random_are_serial<R: Abort>(
     rt: &R,
     alloc: Global,
@@ -232,7 +231,7 @@ fn walks_of_random_programs_are_serial(rt: HostRuntime) -> Result<(), Fail> {
     Ok(())
 }
 
-// Whether a world of so many workers is refused.
+// Returns whether a world with this number of workers is refused.
 fn is_refused(alloc: Global, workers: usize) -> Result<bool, Fault> {
     let code = code_of(alloc, PRINTS)?;
     match World::start(alloc, code, &[], 100, BURDEN, workers) {
@@ -241,7 +240,7 @@ fn is_refused(alloc: Global, workers: usize) -> Result<bool, Fault> {
     }
 }
 
-// Whether one of so many starts.
+// Returns whether a world with this number of workers starts.
 fn starts(alloc: Global, workers: usize) -> Result<bool, Fault> {
     let code = code_of(alloc, PRINTS)?;
     let world = World::start(alloc, code, &[], 100, BURDEN, workers)?;

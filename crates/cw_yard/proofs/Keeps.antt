@@ -51,7 +51,7 @@ index_of [] i a e = absurd (some-ne-none a (sym e))
 index_of (x ∷ xs) zero a e = some-injective x a e
 index_of (x ∷ xs) (suc i) a e = index_of xs i a e
 
--- a phase in which a duty of the seat id may stand
+-- a duty of token `id` may exist in this phase
 abbrev Serves : Phase → Bool → ℕ → Job → ℕ → Type 0
 Serves free b n j id = ⊥
 Serves (held m k) b n j id = ⊥
@@ -66,7 +66,7 @@ serves_self : (b : Bool) (n : ℕ) (j : Job) (id : ℕ) → Serves (serving b n 
 serves_self false n j id = (refl, refl, refl)
 serves_self true n j id = (refl, refl, refl)
 
--- where the phase is p and a duty stands, p has that duty
+-- if the phase is `p` and a duty exists, `p` has that duty
 serves : (p q : Phase) (b : Bool) (n : ℕ) (j : Job) (id : ℕ) → q ≡ p → q ≡ serving b n j id → Serves p b n j id
 serves p q b n j id is at = subst (λ r. Serves r b n j id) (sym at ∙ is) (serves_self b n j id)
 
@@ -94,11 +94,11 @@ placed s h c n x ws hs vs y len wc we hc he lies fits funds =
       funds,
     )
 
--- what the change of the spot of c to x means to the tokens of others
+-- changing a spot from `old` to `x` does not affect what other tokens know
 abbrev Quiet : Spot → Spot → ℕ → Type 0
 Quiet old x id = (j : ℕ) (u : CellView) → j ≢ id → Fits old j u → Fits x j u
 
--- and the cell isn't among the free ones that another owns
+-- the cell is not a free one that another token owns
 abbrev Used : Spot → ℕ → Type 0
 Used old id = (j : ℕ) → j ≢ id → old.0 ≡ j → old.1 ≢ free
 
@@ -138,7 +138,7 @@ moved s h slots c id n x v hs y lt len same hc he lies fit far q used fund =
     placed s h c n x (set s.words c n) hs (set s.views id v) y same (set_at s.words c here.0 n here.2) (λ k ne. set_else s.words c k n ne) hc he lies
     (others s h c id x v fit far q) (funds_all s h c id x v used fund)
 
--- the owner's steps: no other owner, and no duty, is at this cell
+-- a step of the owner: no other owner and no duty is at this cell
 alone : (old x : Spot) (id : ℕ) → old.0 ≡ id → ((b : Bool) (n : ℕ) (j : Job) (d : ℕ) → old.1 ≢ serving b n j d) → Quiet old x id
 alone old x id mine none_here = quiet old x id (λ j k apart e _. absurd (apart (sym e ∙ mine))) (λ j b n job apart e. absurd (none_here b n job j e))
 
@@ -163,7 +163,7 @@ opens k n j is slots id c lt s h len at _ =
       (λ n' j' e. ap (λ i. (Owner c i, [])) (sym is ∙ e)),
     )
 
--- the owner's store of 0, which makes the cell free, where it knows the phase
+-- the owner stores 0, which frees the cell, in a phase that it knows
 frees : (s : St) (h : Kept s) (slots id c : ℕ) (v : CellView) (p : Phase) (hs : List Slot) → c < slots → length s.homes ≡ slots → (h.0 c).0 ≡ id → (h.0 c).1 ≡ p
     → ((b : Bool) (n : ℕ) (j : Job) (d : ℕ) → ¬ Serves p b n j d)
     → length hs ≡ length s.homes → get_elem? hs c ≡ some (some None) → ((k : ℕ) → k ≢ c → get_elem? hs k ≡ get_elem? s.homes k)
@@ -199,7 +199,7 @@ frees_taken slots id c n j lt s h len at _ =
       (refl, tt),
     )
 
--- an owner that is told of no change
+-- an owner's knowledge holds after a step of the duty
 put_known : (k : Stage) (n : ℕ) (j : Job) (d : ℕ) → Knows k (opened n j d) → Knows k (putting n j d)
 put_known Free n j d e = absurd (subst (λ p. Serves p false n j d) e (refl, refl, refl))
 put_known (Held m i) n j d e = absurd (subst (λ p. Serves p false n j d) e (refl, refl, refl))
@@ -298,7 +298,7 @@ module _ (slots id c m : ℕ) (j : Job) (lt : c < slots) (s : St) (h : Kept s) (
 pub reads : (slots id c m : ℕ) (j : Job) → c < slots → Allows Kept slots id (Owner c (Out m j), []) c (λ n. n) (Reads c (Owner c (Out m j)))
 reads slots id c m j lt s h len at _ = reads_at slots id c m j lt s h len at (h.0 c).1 refl (h.2 id (Owner c (Out m j)) at).1 (h.1 c (subst (λ z. c < z) (sym len) lt)).4
 
--- no word and no slot changes
+-- a step that changes no word and no slot
 regarded : (s : St) (h : Kept s) (c : ℕ) (x : Spot) (vs : List CellView) → ((w : ℕ) (y : Slot) → Lies w y (h.0 c).1 → Lies w y x.1)
     → ((j : ℕ) (u : CellView) → get_elem? vs j ≡ some u → (cell_of u ≡ c → Fits x j u) × (cell_of u ≢ c → Fits (h.0 (cell_of u)) j u))
     → ((j : ℕ) (u : CellView) → get_elem? vs j ≡ some u → Funds (upd h.0 c x) j u)

@@ -1,4 +1,4 @@
--- What a push, a pop and a theft do to the ledger of a deque.
+-- How a push, a pop and a theft change the ledger of a deque.
 use Rattle.std.proofs.Common.{◌≡◌, ◌≢◌, ◌<◌, ◌≤◌, ◌+◌, ℕ, suc, Bool, true, false, eqb, List, [], ◌∷◌, ◌++◌, length, map, sym, refl, ap, ◌∙◌, subst, arith, eq-eqb, ne_eqb}
 use Rattle.cw_yard.specs.declared.task.Offer.{Offer}
 use Rattle.cw_yard.specs.Ledger.{Lot, Name, Fate, out, retaken, stolen, Entry, outs, if_same, thefts, NoneStolen, FrontFirst, shown, Each}
@@ -46,7 +46,7 @@ thefts-snoc p n ((k, out) ∷ es) j = thefts-snoc p (suc n) es j
 thefts-snoc p n ((k, retaken) ∷ es) j = thefts-snoc p (suc n) es j
 thefts-snoc p n ((k, stolen q) ∷ es) j = ap (if_same (eqb q p) (n, k)) (thefts-snoc p (suc n) es j)
 
--- an entry with the fate f between others
+-- an entry with fate `f` between others
 abbrev pub among : List Entry → Lot → Fate → List Entry → List Entry
 among xs j f ys = xs ++ (j, f) ∷ ys
 
@@ -88,7 +88,7 @@ thefts_retake p n ((k, out) ∷ xs) j ys = thefts_retake p (suc n) xs j ys
 thefts_retake p n ((k, retaken) ∷ xs) j ys = thefts_retake p (suc n) xs j ys
 thefts_retake p n ((k, stolen q) ∷ xs) j ys = ap (if_same (eqb q p) (n, k)) (thefts_retake p (suc n) xs j ys)
 
--- the last job that lies in the deque
+-- the last job in the deque
 pub record Last (es : List Entry) (n : ℕ) (ps : List Name) (q : Name) : Type 0 where
   pub before : List Entry
   pub after : List Entry
@@ -134,7 +134,7 @@ all_back ((k, out) ∷ es) h none = absurd (nil_no_cons (0, k) (outs 1 es) (sym 
 all_back ((k, retaken) ∷ es) h none = (refl, all_back es h.1 (no_outs 1 0 es none))
 all_back ((k, stolen p) ∷ es) h none = absurd h.0
 
--- the first job that lies in the deque
+-- the first job in the deque
 pub record First (es : List Entry) (n : ℕ) (q : Name) (ps : List Name) : Type 0 where
   pub before : List Entry
   pub after : List Entry
@@ -208,7 +208,7 @@ if_same-all : (b : Bool) (x : Name) (l : List Name) (m : ℕ) → x.0 < m → Ea
 if_same-all true x l m lt h = (lt, h)
 if_same-all false x l m lt h = h
 
--- what was stolen has lower numbers than what lies in the deque
+-- stolen jobs have lower numbers than jobs in the deque
 pub below : (p n : ℕ) (xs : List Entry) (j : Lot) (ys : List Entry) → NoneStolen ys → Each (λ (x : Name). x.0 < n + length xs) (thefts p n (among xs j out ys))
 below p n [] j ys none = subst (Each (λ (x : Name). x.0 < n + 0)) (sym (none_thefts p (suc n) ys none)) tt
 below p n ((k, out) ∷ xs) j ys none = all_weaker (suc n + length xs) (n + suc (length xs)) _ (omega arith) (below p (suc n) xs j ys none)

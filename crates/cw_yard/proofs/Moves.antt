@@ -53,7 +53,7 @@ refit z owner ledger after port same own p (Marked t) apart h = h
 refit z owner ledger after port same own p (Owner t os) apart h = (h.0, h.1, h.2 ∙ sym (own p apart h.1))
 refit z owner ledger after port same own p (Thief t ss) apart h = (h.0, h.1 ∙ sym (same p apart))
 
--- one pass has a new view, and the ledger is another
+-- one pass has a new view, and the ledger is another one
 refits : (z : TableId) (owner : ℕ) (ledger after : List Entry) (views : List DequeView) (port : ℕ) (w : DequeView) → ((p : ℕ) (v : DequeView) → get_elem? views p ≡ some v → Fits z owner ledger p v)
     → Fits z owner after port w → ((q : ℕ) → q ≢ port → thefts q 0 after ≡ thefts q 0 ledger) → ((q : ℕ) → q ≢ port → q ≡ owner → map shown after ≡ map shown ledger)
     → (p : ℕ) (v : DequeView) → get_elem? (set views port w) p ≡ some v → Fits z owner after p v
@@ -94,7 +94,7 @@ pushes port (Owner t os) k may items views d at =
       refl,
     )
 
--- a list of which each is there, cut before its last one
+-- a list of existing names, cut before its last one
 pub record Cut (l : List (Option Name)) (o : Option Name) (ns : List Name) : Type 0 where
   pub front : List Name
   pub last : Name
@@ -112,7 +112,7 @@ cut (a ∷ l) o (n ∷ ns) e = let c = cut l o ns (ap tail_of e) in record { fro
 abbrev named : List Name → List (Option Name)
 named l = map (λ x. Some x) l
 
--- the owner's pop, where the ledger has the job last
+-- the owner's pop, if the job is the last one in the deque
 retakes : (port : ℕ) (v : DequeView) (k : Task) (items : List Item) (views : List DequeView) → IsOwner v → get_elem? views port ≡ some v
     → (r : Running (items ++ Work k ∷ []) views) → (ps : List Name) → outs 0 r.2 ≡ ps ++ (number k, lot k) ∷ [] → map name_of items ≡ named ps
     → (w : DequeView) × Dealt items (set views port w) × Retakes v (Work k ∷ []) w
@@ -170,7 +170,7 @@ pops port v own x items views d at =
     let r = running (items ++ x ∷ []) views port v (plays v own) at d in
     pops_at port v x items views own at r (cut (map name_of items) (name_of x) (outs 0 r.2) (sym (map-append name_of items (x ∷ [])) ∙ r.3))
 
--- a theft, where the ledger has the job first
+-- a theft, if the job is the first one in the deque
 steals : (port : ℕ) (v : DequeView) (k : Task) (items : List Item) (views : List DequeView) → IsThief v → get_elem? views port ≡ some v
     → (r : Running (Work k ∷ items) views) → (ps : List Name) → outs 0 r.2 ≡ (number k, lot k) ∷ ps → map name_of items ≡ named ps
     → (w : DequeView) × Dealt items (set views port w) × Steals v (Work k ∷ []) w

@@ -111,7 +111,7 @@ owns_at z (Marked t) h = absurd h
 owns_at z (Owner t os) h = h.0
 owns_at z (Thief t ss) h = absurd h
 
--- a pass at a fresh deque has stolen nothing
+-- a pass for a fresh deque has stolen nothing
 pub new_pass : (z : TableId) (owns : List OwnDeque) (k : ℕ) (w : OwnDeque) (e : ThiefPass) → Each (IsFresh z) owns → k < length owns
     → w ≡ get_or owns k w → view e ≡ as_thief (worker_view w) → stolen (view e) ≡ []
 new_pass z owns k w e h lt is seen = let o = may_guest z owns k w h lt is in ap stolen (seen ∙ ap as_thief o.1)
@@ -144,7 +144,7 @@ seated y cells owns w p lead f h = record {
   free = h.0;
 }
 
--- the seats made before, the last workers' first, with the next one
+-- the seats made so far, the last workers' first, and the next one
 abbrev pub Made : Yard → ℕ → List Seat → Type 0
 Made y cells made = (j k : ℕ) (s : Seat) → slice_get made j ≡ Some s → j + (k + 1) ≡ workers_of y → IsNewSeat y cells k s
 

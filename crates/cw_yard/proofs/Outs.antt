@@ -53,6 +53,6 @@ duty_view c (Owner d k) m is o q = absurd (true≢false (sym o))
 duty_view c (Duty d b n j) m is o q = dite (ℕ_discrete d c) (λ e. open_duty c d b n j m is e (sym (ap (λ t. if t then is_open b else false) (eq-eqb d c e)) ∙ o) q)
     (λ ne. absurd (true≢false (sym (sym (ap (λ t. if t then is_open b else false) (ne_eqb d c ne)) ∙ o))))
 
--- a duty that was not yet begun is one for some job
+-- a duty that was not begun is a duty for some job
 pub duties : (c : ℕ) (m : Me (Option Left) CellView) → is_duty c m.0 ≡ true → m.1 ≡ [] → OnDuties c m
 duties c m o q = duty_view c m.0 m refl o q

@@ -34,7 +34,7 @@ module _ {A : Type 0} where
   before_at (x ∷ xs) r u zero e = e
   before_at (x ∷ xs) r u (suc j) e = before_at xs r u j e
 
--- who marked it still did
+-- a watcher that set the mark is still there
 still : (views : List MarkView) (id m : ℕ) (v : MarkView) → get_elem? views id ≡ some v → get_elem? views m ≡ some Marked → (k : ℕ) × (get_elem? (set views id (seeing v)) k ≡ some Marked)
 still views id m v at there = dite (ℕ_discrete m id)
     (λ e. let is : v ≡ Marked = some-injective v Marked (sym at ∙ (λ i. get_elem? views (sym e i)) ∙ there) in (id, set_at views id v (seeing v) at ∙ ap (λ x. some (seeing x)) is))

@@ -1,4 +1,4 @@
--- What a theft tells, and what a settling asks.
+-- The facts that a theft ensures, and those that a settling requires.
 use Rattle.std.proofs.Common.{◌≡◌, ◌≢◌, ◌∙◌, ◌<◌, ◌++◌, ℕ, true, false, true≢false, inr, List, [], ◌∷◌, refl, sym, ap, subst, Option, Some, None, IfNone, IfSome, length, set, length-set}
 use Rattle.std.specs.Prelude.{slice_get}
 use Rattle.std.proofs.Math.ListN.{get_or}
@@ -57,7 +57,7 @@ settles c m j e l o q is means holds =
     let same : j ≡ d.1 = ap (or_else j) (sym is ∙ ap (λ (x : Me (Option Left) CellView). job_in (duty_deal x.0)) d.2) in
     (d.0, d.1, d.2, subst (λ x. IsMeaningOf d.1 x) (sym holds) (subst (λ k. IsMeaningOf k e) same means))
 
--- what is collected means the job of the ticket
+-- a collected effect means the job of the ticket
 pub collects : (c : ℕ) (m : Me (Option Left) CellView) (l : Left) (e : Effect) → is_out c m.0 ≡ true → m.1 ≡ [] → e ≡ l.effect.value
     → ((n : ℕ) (j : Job) → m.0 ≡ OwnerOf c (Out n j) → Means j l) → (j : Job) → job_in (owner_deal m.0) ≡ Some j → IsMeaningOf j e
 collects c m l e o q is means j told =
@@ -89,14 +89,14 @@ back_at : (pre : List Offer) (o : Offer) (post : List Offer) → AreBack (pre ++
 back_at [] o post h = h.0
 back_at (x ∷ pre) o post h = back_at pre o post h.1
 
--- the newest offer that was not taken back is one
+-- there is only one newest offer that was not taken back
 one_newest : (pre pre' : List Offer) (o o' : Offer) (post post' : List Offer) → pre ++ o ∷ post ≡ pre' ++ o' ∷ post' → o.retaken ≡ false → o'.retaken ≡ false → AreBack post → AreBack post' → o ≡ o'
 one_newest [] [] o o' post post' e f f' h h' = ap (head_or o) e
 one_newest [] (x ∷ pre') o o' post post' e f f' h h' = absurd (true≢false (sym (back_at pre' o' post' (subst AreBack (ap tail_of e) h)) ∙ f'))
 one_newest (x ∷ pre) [] o o' post post' e f f' h h' = absurd (true≢false (sym (back_at pre o post (subst AreBack (sym (ap tail_of e)) h')) ∙ f))
 one_newest (x ∷ pre) (y ∷ pre') o o' post post' e f f' h h' = one_newest pre pre' o o' post post' (ap tail_of e) f f' h h'
 
--- where the job that came out lies in another cell, the ticket is not the newest
+-- if the removed job is in another cell, the ticket is not the newest
 pub leaves : (z : TableId) (v w : DequeView) (k : Task) (t : Ticket) → OwnsAt z v → Retakes v (Work k ∷ []) w → k.cell ≢ t.cell → LeavesAll t (offered v) (offered w)
 leaves z Fresh w k t at h apart = absurd at
 leaves z (Marked s) w k t at h apart = absurd at

@@ -1,4 +1,4 @@
--- The cells of a yard: what lies in each, and what each token knows of one.
+-- The cells of a yard: the content of each, and the knowledge of each token about a cell.
 use Rattle.std.specs.Prelude.{◌≡◌, ◌<◌, ◌≤◌, ◌+◌, ℕ, Bool, true, false, length, Option, Some, None}
 use mathlib.Core.Option.{none, some}
 use lib.ListN.{get_elem?}
@@ -15,7 +15,8 @@ use Rattle.cw_jobs.specs.Means.{IsMeaningOf}
 abbrev pub Means : Job → Left → Type 0
 Means j l = IsMeaningOf j l.effect.value
 
--- a cell is free, open for a number (its duty not yet given out, given out, or in use), full, or being emptied
+-- the phase of a cell: free, open for a number (with its duty not given out, given out, or in use), full, or being
+-- emptied
 pub data Phase : Type 0 where
   free : Phase
   held : ℕ → Job → Phase
@@ -24,11 +25,11 @@ pub data Phase : Type 0 where
   full : ℕ → Job → Left → Phase
   taken : ℕ → Job → Phase
 
--- the token that owns the cell, and its phase
+-- the token that owns the cell, and the phase of the cell
 abbrev pub Spot : Type 0
 Spot = ℕ × Phase
 
--- what the word and the slot of a cell are
+-- the word and the slot of a cell in a phase
 abbrev pub Lies : ℕ → mathlib.Core.Option.Option (Option Left) → Phase → Type 0
 Lies w h free = (w ≡ 0) × (h ≡ some None)
 Lies w h (held n j) = (w ≡ 0) × (h ≡ some None)
@@ -37,7 +38,7 @@ Lies w h (putting n j d) = (w ≡ 0) × (h ≡ none)
 Lies w h (full n j e) = (w ≡ 2) × (h ≡ some (Some e)) × Means j e
 Lies w h (taken n j) = (w ≡ 2) × (h ≡ none)
 
--- the job n is given out, and its effect not yet taken
+-- job `n` is given out, and its effect is not taken yet
 abbrev pub Pending : ℕ → Job → Phase → Type 0
 Pending n j free = ⊥
 Pending n j (held m k) = ⊥
@@ -74,14 +75,14 @@ Stands s c p =
     (w : ℕ) × (h : mathlib.Core.Option.Option (Option Left))
     × (get_elem? s.words c ≡ some w) × (get_elem? s.homes c ≡ some h) × Lies w h p
 
--- who owns the rest owns each cell from the k-th on, and all of them are free
+-- the owner of the rest owns each cell from the k-th on, and all of them are free
 abbrev pub Funds : (ℕ → Spot) → ℕ → CellView → Type 0
 Funds b id Idle = Unit {0}
 Funds b id (Rest k) = (c : ℕ) → k ≤ c → ((b c).0 ≡ id) × ((b c).1 ≡ free)
 Funds b id (Owner c k) = Unit {0}
 Funds b id (Duty c t n j) = Unit {0}
 
--- Each cell is in its phase, and each token knows what is so
+-- the rule of the cells: each cell is in its phase, and what each token knows is true
 abbrev pub Kept : State (Option Left) CellView → Type 0
 Kept s =
     (board : ℕ → Spot)
@@ -89,7 +90,7 @@ Kept s =
     × ((id : ℕ) (v : CellView) → get_elem? s.views id ≡ some v → Fits (board (cell_of v)) id v)
     × ((id : ℕ) (v : CellView) → get_elem? s.views id ≡ some v → Funds board id v)
 
--- how a held cell's owner gives out the duty, and takes it back
+-- how the owner of a held cell gives out the duty, and takes it back
 abbrev pub dealt_stage : Stage → Stage
 dealt_stage Free = Free
 dealt_stage (Held n j) = Out n j

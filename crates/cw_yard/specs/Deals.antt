@@ -1,4 +1,4 @@
--- What an item of a deque names.
+-- The number that an item of a deque names.
 use Rattle.std.specs.Prelude.{ℕ}
 use Rattle.cw_yard.specs.declared.view.CellView.{CellView}
 use Rattle.cw_yard.specs.declared.view.CellView.TheVariants.{Idle, Rest, Owner, Duty}

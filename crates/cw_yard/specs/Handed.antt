@@ -1,4 +1,4 @@
--- What a call on one deque and one cell asks and tells.
+-- The requirements and the results of a call on one deque and one cell.
 use Rattle.std.specs.Prelude.{◌≡◌, ◌≤◌, ◌+◌, ◌++◌, false, [], ◌∷◌, length, Some}
 use Rattle.crossbeam_deque.specs.Handles.{view, worker_view, worker_capacity, worker_index}
 use Rattle.atomic_table.specs.Seated.{TableId}
@@ -13,11 +13,11 @@ use Rattle.cw_yard.specs.declared.ticket.Ticket.{Ticket}
 use Rattle.cw_yard.specs.declared.ticket.Duty.{Duty}
 use Rattle.cw_yard.specs.declared.ticket.FreeCell.{FreeCell}
 
--- the name of this table, in which each cell has a word, and there is one word more
+-- this is the name of the table, in which each cell has a word, and there is one more word
 abbrev pub IsOfTable : TableId → TableId → Type 0
 IsOfTable z z' = (z' ≡ z) × (z.words ≡ z.slots + 1)
 
--- a free cell of the table, and the deque of an owner whose cells are in it
+-- a free cell of the table, and the deque of an owner whose cells are in the table
 abbrev pub MayOffer : TableId → FreeCell → OwnDeque → Type 0
 MayOffer z free own = (free.token.table_id ≡ z) × (z.words ≡ z.slots + 1) × OwnsAt z (worker_view own)
 
@@ -28,7 +28,7 @@ IsOffered z job old new t =
     × (ticket_number t ≡ Some (length (offered (worker_view old))))
     × (offered (worker_view new) ≡ offered (worker_view old) ++ offer (job, t.cell) false ∷ [])
 
--- the same job comes back with a cell, since the deque could not be sure of a slot
+-- the job comes back unchanged, with a cell, because the deque was not sure of a slot
 abbrev pub IsGivenBack : TableId → Job → (old new : OwnDeque) → Job × FreeCell → Type 0
 IsGivenBack z job old new e =
     (e.0 ≡ job) × (e.1.token.table_id ≡ z) × (worker_view new ≡ worker_view old)
@@ -41,11 +41,11 @@ IsTakenBack z t old new r =
     × Takes (offered (worker_view old)) (ticket_number t) (r.0, t.cell) (offered (worker_view new))
     × (r.1.token.table_id ≡ z)
 
--- what was offered is as before, unless the ticket is not the newest: then another job may have come in its place
+-- the offers are unchanged, unless the ticket is not the newest: then another job may have been taken back instead
 abbrev pub LeavesOffers : Ticket → (old new : OwnDeque) → Type 0
 LeavesOffers t old new = LeavesAll t (offered (worker_view old)) (offered (worker_view new))
 
--- a job was stolen, with its duty, and its number is above those of the earlier ones
+-- a job is stolen, with its duty, and its number is above all earlier ones
 abbrev pub IsStolen : TableId → (old new : ThiefPass) → Job × Duty → Type 0
 IsStolen z old new r =
     (r.1.token.table_id ≡ z) × (duty_job r.1 ≡ Some r.0) × Rises (stolen (view old)) r.0 (stolen (view new))

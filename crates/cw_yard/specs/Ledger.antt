@@ -1,4 +1,4 @@
--- The rule of one worker's deque: its jobs by number, and what became of each.
+-- The rule of one worker's deque: its jobs by number, and the fate of each.
 use Rattle.std.specs.Prelude.{◌≡◌, ◌<◌, ◌==◌, ◌⊎◌, ℕ, suc, Bool, true, false, List, [], ◌∷◌, ◌++◌, length, map}
 use Rattle.std.specs.Prelude.{Option, Some, None}
 use mathlib.Core.Option.{some}
@@ -12,7 +12,7 @@ use Rattle.cw_yard.specs.declared.task.Item.TheVariants.{Mark, Work}
 use Rattle.cw_yard.specs.declared.task.Offer.{Offer}
 use Rattle.cw_yard.specs.declared.task.DequeView.{DequeView}
 use Rattle.cw_yard.specs.declared.task.DequeView.TheVariants.{Fresh, Marked, Owner, Thief}
--- every one of them
+-- each element of a list satisfies a predicate
 pub use Rattle.cw_facts.specs.Lists.{Each}
 
 -- a job with its cell
@@ -33,7 +33,7 @@ abbrev pub table_of : Item → TableId
 table_of (Mark t) = t.table_id
 table_of (Work k) = k.duty.table_id
 
--- what became of an offered job: it lies in the deque, was retaken, or was stolen by a pass
+-- the fate of an offered job: it is in the deque, was retaken, or was stolen by a pass
 pub data Fate : Type 0 where
   out : Fate
   retaken : Fate
@@ -47,7 +47,7 @@ out_here n j out rest = (n, j) ∷ rest
 out_here n j retaken rest = rest
 out_here n j (stolen p) rest = rest
 
--- the jobs that lie in the deque, oldest first, where the first entry has the number n
+-- the jobs in the deque, oldest first, if the first entry has number `n`
 abbrev pub outs : ℕ → List Entry → List Name
 outs n [] = []
 outs n (e ∷ es) = out_here n e.0 e.1 (outs (suc n) es)
@@ -61,7 +61,7 @@ theft_here p n j out rest = rest
 theft_here p n j retaken rest = rest
 theft_here p n j (stolen q) rest = if_same (q == p) (n, j) rest
 
--- what the pass p stole, by number
+-- the jobs that pass `p` stole, by number
 abbrev pub thefts : ℕ → ℕ → List Entry → List Name
 thefts p n [] = []
 thefts p n (e ∷ es) = theft_here p n e.0 e.1 (thefts p (suc n) es)
@@ -75,7 +75,7 @@ abbrev pub NoneStolen : List Entry → Type 0
 NoneStolen [] = Unit {0}
 NoneStolen (e ∷ es) = IsUnstolen e.1 × NoneStolen es
 
--- thefts go from the front
+-- the stolen jobs come before those in the deque
 abbrev pub FrontAt : Fate → List Entry → Type 0 → Type 0
 FrontAt out es rest = NoneStolen es
 FrontAt retaken es rest = rest
@@ -110,7 +110,7 @@ Running items views =
     × FrontFirst ledger
     × ((p : ℕ) (v : DequeView) → get_elem? views p ≡ some v → Fits z owner ledger p v)
 
--- before the first offer one mark goes through the deque, which tells the owner of which table its cells are
+-- before the first offer one mark passes through the deque, and from it the owner knows the table of its cells
 abbrev pub Starting : List Item → List DequeView → Type 0
 Starting items views =
     ((items ≡ []) × (views ≡ Fresh ∷ []))
@@ -122,7 +122,7 @@ Dealt items views = Starting items views ⊎ Running items views
 abbrev pub number : Task → ℕ
 number k = number_of k.duty.me.0
 
--- what an owner may push, and what it learns
+-- the item that an owner may push, and its view of the deque afterwards
 abbrev pub MayPush : DequeView → Task → Type 0
 MayPush Fresh k = ⊥
 MayPush (Marked t) k = ⊥
@@ -133,7 +133,7 @@ abbrev pub pushed : DequeView → List Item → DequeView
 pushed (Owner t os) (Work k ∷ []) = Owner t (os ++ offer (lot k) false ∷ [])
 pushed v xs = v
 
--- the newest job that was not yet retaken: those offered after it were all retaken
+-- the newest job that was not retaken is retaken: all that were offered after it were retaken
 abbrev pub Retakes : DequeView → List Item → DequeView → Type 0
 Retakes Fresh xs w = Unit {0}
 Retakes (Marked t) xs w = Unit {0}
@@ -144,11 +144,11 @@ Retakes (Owner t os) xs w =
     × (w ≡ Owner t (pre ++ offer (lot k) true ∷ post))
 Retakes (Thief t ss) xs w = Unit {0}
 
--- the newest job that was not yet retaken comes out
+-- the newest job that was not retaken is removed
 abbrev pub TakesLast : (old new : DequeView) → Task → Type 0
 TakesLast old new k = Retakes old (Work k ∷ []) new
 
--- a job with a higher number than those that this pass stole before
+-- a job is stolen, with a higher number than those that this pass stole before
 abbrev pub Steals : DequeView → List Item → DequeView → Type 0
 Steals Fresh xs w = Unit {0}
 Steals (Marked t) xs w = Unit {0}

@@ -1,4 +1,4 @@
--- What the opening of a yard makes.
+-- The yard that its opening makes.
 use Rattle.std.specs.Prelude.{◌≡◌, ◌≤◌, ◌+◌, ℕ, List, [], length, slice_get, Option, Some, vec_capacity}
 use Rattle.crossbeam_deque.specs.Handles.{Pass, view, IsPassOf, stealer_deque, worker_deque, worker_view, worker_flavor}
 use Rattle.crossbeam_utils.specs.Padded.{padded_value}
@@ -39,7 +39,7 @@ Begins z (Marked t) = ⊥
 Begins z (Owner t os) = (t.table_id ≡ z) × (os ≡ [])
 Begins z (Thief t ss) = ⊥
 
--- a deque that nothing was offered at
+-- a deque at which nothing was offered
 abbrev pub IsFresh : TableId → OwnDeque → Type 0
 IsFresh z w = Begins z (worker_view w) × (worker_flavor w ≡ 1)
 
@@ -56,17 +56,17 @@ ServesDeques y owns = AreStealersOf owns y.stealers.items × Each (IsFresh (tabl
 abbrev pub ThiefPass : Type 0
 ThiefPass = Pass Item DequeView Global
 
--- a pass at each worker's deque, in order
+-- a pass for each worker's deque, in order
 abbrev pub HasPasses : Yard → List ThiefPass → Type 0
 HasPasses y es =
     (k : ℕ) (o : Victim) (e : ThiefPass) → slice_get y.stealers.items k ≡ Some o → slice_get es k ≡ Some e
     → IsPassOf (stealer_deque (padded_value o)) e × StealsAt (table_of y) (view e)
 
--- a pass at each deque, with which nothing was stolen
+-- a pass for each deque, with which nothing was stolen
 abbrev pub ArePasses : Yard → List ThiefPass → Type 0
 ArePasses y es = (length es ≡ workers_of y) × HasPasses y es × Each (λ e. stolen (view e) ≡ []) es
 
--- what worker k's seat has beside its deque
+-- the parts of a worker's seat except its deque
 abbrev pub IsPart : Yard → ℕ → Part → Type 0
 IsPart y cells p =
     (length p.free.items ≡ cells) × Each (λ f. f.token.table_id ≡ table_of y) p.free.items

@@ -1,4 +1,4 @@
--- A seat of a yard, said by equations alone, so that a type may keep it.
+-- A seat of a yard, stated by equations only, so that a type may hold it.
 use Rattle.std.specs.Prelude.{◌≡◌, ℕ, length, slice_get, Option, Some, None}
 use Rattle.crossbeam_deque.specs.Handles.{view, IsPassOf, stealer_deque, worker_view, worker_flavor}
 use Rattle.crossbeam_utils.specs.Padded.{padded_value}
@@ -11,7 +11,7 @@ use Rattle.cw_yard.specs.declared.seat.Seat.{Seat}
 use Rattle.cw_yard.specs.Seats.{table_of, workers_of}
 use Rattle.cw_yard.specs.Marks.{IsWatchOf}
 
--- the table of the cells that an owner of a deque, or a thief at one, knows
+-- the table of the cells that the owner of a deque knows, and the one that a thief at a deque knows
 abbrev pub owner_table : DequeView → Option TableId
 owner_table Fresh = None
 owner_table (Marked t) = None
@@ -39,6 +39,6 @@ HasPasses y s =
 abbrev pub Watches : Yard → Seat → Type 0
 Watches y s = IsWatchOf y.mark.shared.table_id s.watch
 
--- A SEAT OF THE YARD: the same as IsSeatOf
+-- A SEAT OF THE YARD: equivalent to IsSeatOf
 abbrev pub IsSeated : Yard → Seat → Type 0
 IsSeated y s = Owns y s × HasCells y s × HasPasses y s × Watches y s

@@ -1,4 +1,4 @@
--- What the steps at a cell ask and tell.
+-- The requirements and the results of the steps at a cell.
 use Rattle.std.specs.Prelude.{◌≡◌, ◌<◌, ◌+◌, ℕ, true, false, [], ◌∷◌, Option, Some, None}
 use Rattle.atomic_table.specs.Table.{Me}
 use Rattle.atomic_table.specs.Seated.{TableId}
@@ -11,11 +11,11 @@ use Rattle.cw_yard.specs.declared.view.CellView.{CellView}
 use Rattle.cw_yard.specs.declared.view.CellView.TheVariants.{Idle, Rest, Owner, Duty}
 use Rattle.cw_yard.specs.Cells.{Means}
 
--- a token of this table, and one of its cells, each of which has a word; there is one word more, the end mark
+-- a token of this table, and one of its cells, each of which has a word; there is one more word, the end mark
 abbrev pub Fitting : TableId → TableId → ℕ → Type 0
 Fitting z z' cell = (z' ≡ z) × (cell < z.slots) × (z.words ≡ z.slots + 1)
 
--- what comes out where a duty was taken back
+-- the facts that are known after a duty was taken back
 abbrev pub GainsStage : Stage → Type 0
 GainsStage Free = Unit {0}
 GainsStage (Held n j) = Unit {0}
@@ -32,7 +32,7 @@ Gains (Duty c b n j) = Unit {0}
 abbrev pub Mine : Type 0
 Mine = Me (Option Left) CellView
 
--- the owner reads the mark: at 2 the slot is out with it, and has a meaning of its job
+-- the owner reads the mark: if it is 2, the slot is removed with it and holds a meaning of the cell's job
 abbrev pub ReadsStage : ℕ → Stage → ℕ → Mine → Type 0
 ReadsStage c Free r n = Unit {0}
 ReadsStage c (Held m j) r n = Unit {0}
@@ -48,7 +48,7 @@ Reads c (Rest k) r n = Unit {0}
 Reads c (Owner c' k) r n = ReadsStage c' k r n
 Reads c (Duty c' b m j) r n = Unit {0}
 
--- the token of a whole table of so many cells, all of them free
+-- the token of a whole table of this number of cells, all free
 abbrev pub IsWhole : ℕ → TableId → Seat (Option Left) CellView → Type 0
 IsWhole cells z t = (t.table_id ≡ z) × (z.slots ≡ cells) × (z.words ≡ cells + 1) × (t.me ≡ (Rest 0, []))
 
@@ -56,11 +56,11 @@ IsWhole cells z t = (t.table_id ≡ z) × (z.slots ≡ cells) × (z.words ≡ ce
 abbrev pub HoldsAs : ℕ → Stage → Mine → Type 0
 HoldsAs cell stage me = (n : ℕ) (j : Job) → stage ≡ Held n j → me ≡ (Owner cell (Held n j), [])
 
--- the slot is out with the duty, empty
+-- the slot is removed by the duty, empty
 abbrev pub PutsFrom : ℕ → CellView → Mine → Type 0
 PutsFrom cell v me = (n : ℕ) (j : Job) → v ≡ Duty cell false n j → me ≡ (Duty cell true n j, (cell, None) ∷ [])
 
--- the cell is free, and what lay in it means the job that it was open for
+-- the cell is free, and what was in it means the job for which it was open
 abbrev pub Empties : ℕ → (old new : Mine) → Left → Type 0
 Empties cell old new e =
     (new ≡ (Owner cell Free, [])) × ((n : ℕ) (j : Job) → old.0 ≡ Owner cell (Out n j) → Means j e)

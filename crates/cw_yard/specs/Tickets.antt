@@ -1,4 +1,4 @@
--- What a ticket and a duty stand for.
+-- The meaning of a ticket and of a duty.
 use Rattle.std.specs.Prelude.{◌≡◌, ◌⊎◌, ℕ, List, Option, Some}
 use Rattle.cw_jobs.specs.declared.job.Job.{Job}
 use Rattle.cw_yard.specs.declared.ticket.Ticket.{Ticket}
@@ -17,10 +17,10 @@ ticket_number t = number_in (owner_deal t.token.me.0)
 abbrev pub duty_job : Duty → Option Job
 duty_job d = job_in (duty_deal d.token.me.0)
 
--- THE TICKET IS THE NEWEST: its job was not taken back, and all that were offered after it were
+-- THE TICKET IS THE NEWEST: its job was not taken back, and all jobs offered after it were
 abbrev pub IsNewest : List Offer → Ticket → Type 0
 IsNewest os t = (j : Job) × (os' : List Offer) × Takes os (ticket_number t) (j, t.cell) os'
 
--- the offers are as before; or the ticket is not the newest, and one job counts as taken back
+-- the offers are unchanged; or the ticket is not the newest, and one job counts as taken back
 abbrev pub LeavesAll : Ticket → (old new : List Offer) → Type 0
 LeavesAll t old new = (new ≡ old) ⊎ (¬ IsNewest old t × ((n : ℕ) × (l : Lot) × Takes old (Some n) l new))

@@ -1,4 +1,4 @@
--- What the views of a yard's tokens and passes stand for.
+-- The meaning of the views of a yard's tokens and passes.
 use Rattle.std.specs.Prelude.{◌≡◌, ◌<◌, ◌==◌, if◌then◌else◌, Bool, ℕ, true, false, List, [], ◌∷◌, ◌++◌, length}
 use Rattle.std.specs.Prelude.{Option, Some, None}
 use Rattle.atomic_table.specs.Seated.{TableId}
@@ -12,7 +12,7 @@ use Rattle.cw_yard.specs.declared.task.Offer.{Offer}
 use Rattle.cw_yard.specs.declared.task.DequeView.{DequeView}
 use Rattle.cw_yard.specs.declared.task.DequeView.TheVariants.{Fresh, Marked, Owner as OwnerHand, Thief}
 
--- what the owner of a deque has offered
+-- the offers that the owner of a deque has made
 abbrev pub offered : DequeView → List Offer
 offered Fresh = []
 offered (Marked t) = []
@@ -23,18 +23,18 @@ offered (Thief t ss) = []
 abbrev pub Deal : Type 0
 Deal = ℕ × Job
 
--- a number and what was stolen by it
+-- a number and the job that was stolen with it
 abbrev pub Theft : Type 0
 Theft = ℕ × Lot
 
--- what a pass has stolen
+-- the thefts of a pass
 abbrev pub stolen : DequeView → List Theft
 stolen Fresh = []
 stolen (Marked t) = []
 stolen (OwnerHand t os) = []
 stolen (Thief t ss) = ss
 
--- an owner's hand at a deque whose cells are in this table
+-- the view of an owner of a deque whose cells are in this table
 abbrev pub OwnsAt : TableId → DequeView → Type 0
 OwnsAt z Fresh = ⊥
 OwnsAt z (Marked t) = ⊥
@@ -47,13 +47,13 @@ StealsAt z (Marked t) = ⊥
 StealsAt z (OwnerHand t os) = ⊥
 StealsAt z (Thief t ss) = t.table_id ≡ z
 
--- the job of a number was taken back, and all that were offered after it before
+-- the job of a number is taken back; all jobs offered after it were taken back before
 abbrev pub Takes : List Offer → Option ℕ → Lot → List Offer → Type 0
 Takes os number l os' =
     (pre : List Offer) × (post : List Offer) × (os ≡ pre ++ offer l false ∷ post)
     × (number ≡ Some (length pre)) × Each (λ o. o.retaken ≡ true) post × (os' ≡ pre ++ offer l true ∷ post)
 
--- a job was stolen, whose number is above those of the earlier ones
+-- a job is stolen, with a number above all earlier ones
 abbrev pub Rises : List Theft → Job → List Theft → Type 0
 Rises ss job ss' =
     (n : ℕ) × (cell : ℕ) × Each (λ (x : Theft). x.0 < n) ss × (ss' ≡ ss ++ (n, (job, cell)) ∷ [])
@@ -76,7 +76,7 @@ abbrev pub is_open : Bool → Bool
 is_open true = false
 is_open false = true
 
--- the duty of this cell, which was not yet begun to be settled
+-- the duty of this cell, which no one has begun to settle
 abbrev pub is_duty : ℕ → CellView → Bool
 is_duty c Idle = false
 is_duty c (Rest k) = false

@@ -1,4 +1,4 @@
-//! The steps at a cell, each a step at its word.
+//! The steps at a cell. Each is one step at the cell's word.
 ghost use Rattle.std.specs.Prelude.{◌≡◌, ◌<◌, ◌+◌, ◌^◌, ℕ, IfOk, [], ◌∷◌, true, false, None, Some};
 ghost use Rattle.cw_jobs.specs.declared.job.Job.{Job};
 ghost use Rattle.cw_yard.specs.declared.view.Stage.{Stage};
@@ -27,8 +27,7 @@ pub type Cells = Shared<Option<Left>, CellView, (), CellRule>;
 
 pub type Token = Seat<Option<Left>, CellView>;
 
-/// The stage that a cell is opened at: held for a number and its job. Each call of a program
-/// picks it.
+/// The stage at which a cell is opened: held for a number and its job. Each call of a program picks it.
 pub trait Holding {
     ghost stage: { Stage };
 }
@@ -93,7 +92,11 @@ impl Split<CellView> for Cuts {
 
 pub type CellTable = Table<Option<Left>, CellView, (), CellRule, Global>;
 
-/// The table of so many cells, all of them free, and the token that owns them.
+/// Returns a table of `cells` free cells, and the token that owns them.
+///
+/// # Errors
+///
+/// An `AllocError` if there is not enough memory.
 pub fn new(alloc: Global, cells: usize) -> Result<(CellTable, Token), AllocError>
     requires { cells < 2 ^ 60 }
     ensures { IfOk result (λ r. IsWhole cells r.0.shared.table_id r.1) }
@@ -102,7 +105,7 @@ pub fn new(alloc: Global, cells: usize) -> Result<(CellTable, Token), AllocError
     Table::vacant(alloc, words.as_slice(), cells, &())
 }
 
-/// The token of the next cell.
+/// Splits off the token of the next cell.
 pub fn cut(table: &Cells, all: &mut Token, next: usize) -> Token
     requires table { Fitting table.now.table_id all.old.table_id next }
     requires rest { all.old.me ≡ (Rest next, []) }
@@ -113,7 +116,7 @@ pub fn cut(table: &Cells, all: &mut Token, next: usize) -> Token
     table.split_seat::<Cuts>(all)
 }
 
-/// Owner opens a cell. Its word stays 0: only a full cell has another.
+/// Opens a cell for its owner. The word of the cell stays 0; only a full cell has another word.
 pub fn open<B: Holding>(table: &Cells, token: &mut Token, cell: usize)
     requires table { Fitting table.now.table_id token.old.table_id cell }
     requires free { token.old.me ≡ (Owner cell Free, []) }
@@ -124,7 +127,7 @@ pub fn open<B: Holding>(table: &Cells, token: &mut Token, cell: usize)
     table.load::<Opens<B>>(token, cell);
 }
 
-/// The duty of a held cell.
+/// Returns the duty of a held cell.
 pub fn deal(table: &Cells, token: &mut Token, cell: usize) -> Token
     requires table { Fitting table.now.table_id token.old.table_id cell }
     requires held { (n : ℕ) × (j : Job) × (token.old.me ≡ (Owner cell (Held n j), [])) }
@@ -136,7 +139,7 @@ pub fn deal(table: &Cells, token: &mut Token, cell: usize) -> Token
     table.split_seat::<Deals>(token)
 }
 
-/// Takes the duty back and frees the cell. The duty was for this ticket's job.
+/// Takes the duty back and frees the cell. The duty must name the job of this ticket.
 pub fn undo(table: &Cells, token: &mut Token, other: Token, cell: usize)
     requires table { Fitting table.now.table_id token.old.table_id cell
         × (other.table_id ≡ table.now.table_id) }
@@ -150,7 +153,7 @@ pub fn undo(table: &Cells, token: &mut Token, other: Token, cell: usize)
     table.load::<Frees>(token, cell);
 }
 
-/// Puts an effect, then marks the cell full.
+/// Puts an effect into the slot of a cell, then marks the cell full.
 pub fn settle(table: &Cells, mut token: Token, cell: usize, left: Left)
     requires table { Fitting table.now.table_id token.table_id cell }
     requires means { (n : ℕ) × (j : Job) × (token.me ≡ (Duty cell false n j, []))
@@ -161,7 +164,7 @@ pub fn settle(table: &Cells, mut token: Token, cell: usize, left: Left)
     table.store::<Marks>(&mut token, cell, 2);
 }
 
-/// What was left there, if the mark says so; the cell is free then.
+/// Returns the effect in a cell and frees the cell, if its mark is set; otherwise changes nothing.
 pub fn collect(table: &Cells, token: &mut Token, cell: usize) -> Option<Left>
     requires table { Fitting table.now.table_id token.old.table_id cell }
     requires out { (n : ℕ) × (j : Job) × (token.old.me ≡ (Owner cell (Out n j), [])) }

@@ -1,4 +1,4 @@
-//! The calls of a worker's deque under the rule.
+//! The calls of a worker's deque under its rule.
 ghost use Rattle.std.specs.Prelude.{◌≡◌, ◌<◌, ◌≤◌, [], ◌∷◌, ◌++◌, false, IfOk, IfErr, IfSome, IfNone, OnOk, OnErr, Some, None};
 ghost use Rattle.crossbeam_deque.specs.Handles.{view, IsPassOf, SamePass, SameWorker, worker_deque, stealer_deque, worker_view, worker_capacity, worker_index, worker_flavor, stealer_flavor};
 ghost use Rattle.std.specs.Prelude.{Option};
@@ -75,7 +75,11 @@ impl Split<DequeView> for Guests {
     ghost right = { as_thief };
 }
 
-/// A deque whose owner knows, by a mark that went through it, of which table its cells are.
+/// Returns a deque. A mark passed through it, so its owner knows the table of its cells.
+///
+/// # Errors
+///
+/// An `AllocError` if there is not enough memory.
 pub fn new(alloc: Global, capacity: usize, mark: Token) -> Result<OwnDeque, AllocError>
     ensures { IfOk result (λ w. (worker_view w ≡ Owner mark []) × (worker_flavor w ≡ 1)) }
 {
@@ -90,7 +94,7 @@ pub fn new(alloc: Global, capacity: usize, mark: Token) -> Result<OwnDeque, Allo
     }
 }
 
-/// A pass for a thief.
+/// Returns a pass for a thief.
 pub fn guest(own: &mut OwnDeque) -> ThiefPass
     requires { (t : Seat (Option Left) CellView) × (worker_view own.old ≡ Owner t []) }
     ensures same { SameWorker own.old own.new × (worker_view own.new ≡ worker_view own.old) }
@@ -100,7 +104,7 @@ pub fn guest(own: &mut OwnDeque) -> ThiefPass
     own.another::<Guests>()
 }
 
-/// How many jobs lay in it at one moment of the call.
+/// Returns the number of jobs in the deque at one moment of the call.
 #[inline(always)]
 pub fn len(own: &mut OwnDeque) -> usize
     ensures { SameWorker own.old own.new × (worker_view own.new ≡ worker_view own.old) }
@@ -108,7 +112,11 @@ pub fn len(own: &mut OwnDeque) -> usize
     own.len_as::<Lengths>()
 }
 
-/// Err only where the deque could not grow.
+/// Pushes a job.
+///
+/// # Errors
+///
+/// Returns the job with the deque unchanged, if the deque could not grow.
 pub fn offer(own: &mut OwnDeque, task: Task) -> Result<(), Task>
     requires { MayPush (worker_view own.old) task }
     ensures same { SameWorker own.old own.new }
@@ -123,6 +131,7 @@ pub fn offer(own: &mut OwnDeque, task: Task) -> Result<(), Task>
     }
 }
 
+/// Takes back the newest job of the deque. Returns `None` if no job is left.
 pub fn retake(own: &mut OwnDeque) -> Option<Task>
     requires { IsOwner (worker_view own.old) × (worker_flavor own.old ≡ 1) }
     ensures same { SameWorker own.old own.new }
@@ -136,6 +145,8 @@ pub fn retake(own: &mut OwnDeque) -> Option<Task>
     }
 }
 
+/// Steals the oldest job of another worker's deque. Returns `None`, with the pass unchanged, if the deque
+/// is empty or the theft must be tried again.
 pub fn steal(other: &Victim, pass: &mut ThiefPass) -> Option<Task>
     requires { IsPassOf (stealer_deque other.now) pass.old × IsThief (view pass.old) }
     ensures same { SamePass pass.old pass.new }

@@ -46,7 +46,11 @@ fn offer_held<B: Holding>(
     }
 }
 
-/// The job is the next number, and the ticket names it.
+/// Offers a job. The job is the next number, and the ticket names it.
+///
+/// # Errors
+///
+/// Returns the job and a free cell, if the deque could not grow; the offers are unchanged.
 pub fn offer(
     table: &Cells,
     own: &mut OwnDeque,
@@ -61,8 +65,8 @@ pub fn offer(
     offer_held::<Brand>(table, own, free, job)
 }
 
-// A job that is not the asked ticket's: its effect is left in its cell, as if it had been stolen.
-// It is kept out of `retake`, whose frame it would make larger.
+// Leaves the effect of a job in its cell as if the job had been stolen, because the job is not the requested
+// ticket's. This is a function of its own so that the stack frame of `retake` stays small.
 #[inline(never)]
 fn give_up(table: &Cells, cell: usize, duty: Token, job: Job, spare: &mut Spare)
     requires table { IsOfTable table.now.table_id duty.table_id }
@@ -76,7 +80,11 @@ fn give_up(table: &Cells, cell: usize, duty: Token, job: Job, spare: &mut Spare)
     crate::cells::settle(table, duty, cell, left);
 }
 
-/// The job of the ticket, with its cell, which is free.
+/// Takes back the job of the ticket, with its cell, which is free.
+///
+/// # Errors
+///
+/// Returns the ticket, if the deque is empty or another job came out of it.
 pub fn retake(
     table: &Cells,
     own: &mut OwnDeque,
@@ -102,7 +110,7 @@ pub fn retake(
     Ok((job, FreeCell { cell, token }))
 }
 
-/// A job that a pass at another's deque got, with the duty to settle it. Without room for its effect none is.
+/// Steals a job from another deque, with the duty to settle it. Returns `None` without memory for its effect.
 pub fn steal(
     table: &Cells,
     other: &Victim,
@@ -146,7 +154,11 @@ pub fn settle(table: &Cells, duty: Duty, effect: Effect)
     crate::cells::settle(table, token, cell, left);
 }
 
-/// A meaning of the ticket's job, with its cell, which is free.
+/// Collects an effect that means the ticket's job, with its cell, which is free.
+///
+/// # Errors
+///
+/// Returns a ticket of the same job, if no effect has come yet.
 pub fn collect(table: &Cells, ticket: Ticket) -> Result<(Effect, FreeCell), Ticket>
     requires table { IsOfTable table.now.table_id ticket.token.table_id }
     ensures done { IfOk result (IsCollected table.now.table_id ticket) }

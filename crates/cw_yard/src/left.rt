@@ -1,17 +1,21 @@
-//! Where the effect of a stolen job lies.
+//! The memory of a stolen job's effect.
 ghost use Rattle.std.specs.Prelude.{◌≡◌};
 
 use cw_jobs::effect::Effect;
 use std::alloc::{AllocError, Global};
 
-/// An effect in memory of its own, so that a cell in which none lies takes little.
+/// An effect in its own memory, so that an empty cell takes little.
 #[derive(Drop)]
 pub struct Left {
     pub effect: Box<Effect>,
 }
 
 impl Left {
-    /// Room for an effect. What lies there until one is put means nothing.
+    /// Allocates memory for an effect. Its content means nothing until an effect is put there.
+    ///
+    /// # Errors
+    ///
+    /// An `AllocError` if there is not enough memory.
     pub fn room(alloc: Global) -> Result<Left, AllocError> {
         let nothing = Effect::Memory {
             back: Vec::new(alloc),
@@ -22,7 +26,7 @@ impl Left {
         }
     }
 
-    /// The same room with this effect in it.
+    /// Returns the same memory with this effect in it.
     pub fn with(self, effect: Effect) -> Left
         ensures { result.effect.value ≡ effect }
     {
@@ -32,7 +36,7 @@ impl Left {
         Left { effect: place }
     }
 
-    /// The effect. Its room is let go.
+    /// Returns the effect and frees its memory.
     pub fn into_effect(self) -> Effect
         ensures { result ≡ self.effect.value }
     {
@@ -41,7 +45,7 @@ impl Left {
     }
 }
 
-/// Room for the effect of the next job that is stolen, so that a thief never wants memory for one it has.
+/// Memory for the effect of the next stolen job, so that a thief never holds a job without memory for its effect.
 #[derive(Drop)]
 pub struct Spare {
     left: Option<Left>,
@@ -57,7 +61,7 @@ impl Spare {
         })
     }
 
-    /// The room that was put last, else a new one. None for want of memory.
+    /// Returns the memory that was put back last, or else allocates it. Returns `None` if there is not enough memory.
     pub fn take(&mut self) -> Option<Left> {
         match self.left.take() {
             Some(left) => Some(left),
@@ -68,7 +72,7 @@ impl Spare {
         }
     }
 
-    /// A room that was not used.
+    /// Puts memory back that was not used.
     pub fn put(&mut self, left: Left) {
         self.left = Some(left);
     }

@@ -1,4 +1,4 @@
-//! The yard: where workers hand jobs to each other, each at a deque of its own, and effects back, each in a cell.
+//! The yard: workers exchange jobs, each at its own deque, and return effects, each in a cell.
 #![tactic(auto)]
 
 pub(crate) mod cells;

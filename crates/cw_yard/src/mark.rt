@@ -1,4 +1,4 @@
-//! The end mark: one word, in a table of its own.
+//! The end mark: one word, in its own table.
 ghost use Rattle.std.specs.Prelude.{◌≡◌, ◌+◌, [], ◌∷◌, true, false, IfOk};
 ghost use Rattle.cw_yard.specs.declared.mark.MarkView.TheVariants.{Unseen, Seen, Marked};
 ghost use Rattle.cw_yard.specs.Marks.{Ends, same, unseen, Finds, HasSeen, HasMarked, IsWatchOf};
@@ -6,7 +6,7 @@ ghost use Rattle.cw_yard.specs.Marks.{Ends, same, unseen, Finds, HasSeen, HasMar
 use atomic_table::{Play, Seat, Shared, Split, Table, TableRule};
 use std::alloc::{AllocError, Global};
 
-/// What a token at the mark knows. No value of it is made.
+/// The knowledge of a token at the mark. No value of this type is made.
 pub enum MarkView {
     Unseen,
     Seen,
@@ -47,14 +47,18 @@ impl Split<MarkView> for Shares {
     ghost right = { unseen };
 }
 
-/// A mark that is not set, and the token of its first watcher.
+/// Returns a mark that is not set, and the token of its first watcher.
+///
+/// # Errors
+///
+/// An `AllocError` if there is not enough memory.
 pub fn unmarked(alloc: Global) -> Result<(MarkTable, Watch), AllocError>
     ensures { IfOk result (λ r. IsWatchOf r.0.shared.table_id r.1) }
 {
     Table::of_words(alloc, &[0u64], &())
 }
 
-/// The token of one more watcher.
+/// Returns the token of another watcher.
 pub fn another(mark: &Mark, watch: &mut Watch) -> Watch
     requires { IsWatchOf mark.now.table_id watch.old }
     ensures of { IsWatchOf mark.now.table_id watch.new × IsWatchOf mark.now.table_id result
@@ -64,7 +68,7 @@ pub fn another(mark: &Mark, watch: &mut Watch) -> Watch
     mark.split_seat::<Shares>(watch)
 }
 
-/// Marks the end.
+/// Sets the end mark.
 pub fn end(mark: &Mark, watch: &mut Watch)
     requires { IsWatchOf mark.now.table_id watch.old }
     ensures mine { IsWatchOf mark.now.table_id watch.new }
@@ -74,7 +78,7 @@ pub fn end(mark: &Mark, watch: &mut Watch)
     mark.store::<Sets>(watch, 0, 1);
 }
 
-/// Whether the end is marked.
+/// Returns whether the end mark is set.
 pub fn ended(mark: &Mark, watch: &mut Watch) -> bool
     requires { IsWatchOf mark.now.table_id watch.old }
     ensures mine { IsWatchOf mark.now.table_id watch.new }

@@ -23,17 +23,17 @@ use cw_model::limits::MOST_WORKERS;
 use cw_text::Fault;
 use std::alloc::{AllocError, Global};
 
-/// Cells of each worker.
+/// The maximum number of cells of a worker.
 pub const MOST_CELLS: usize = 4_096;
 
-/// These cells are never opened. The first ones mark the deques; and each split and each join of a token loads
-/// word 0, so the line that it lies on is written by nobody.
+/// The number of cells that are never opened. The first of them mark the deques. Each split and each join of a token
+/// loads word 0, so no one may write its cache line.
 const RESERVED: usize = 64;
 
-/// Jobs that a deque has room for at first. It grows.
+/// The maximum number of jobs for which a deque has room at first. A deque grows.
 const FIRST_ROOM: usize = 32;
 
-/// What a seat has beside its deque.
+/// The parts of a seat except its deque.
 #[derive(Drop)]
 pub struct Part {
     free: Vec<FreeCell>,
@@ -42,7 +42,7 @@ pub struct Part {
     spare: Spare,
 }
 
-// A deque whose mark is the next cell's token.
+// Returns a deque marked by the next cell's token.
 fn marked_deque(
     alloc: Global,
     table: &Cells,
@@ -58,7 +58,7 @@ fn marked_deque(
     deque::new(alloc, room, mark)
 }
 
-// So many deques.
+// Returns `workers` deques.
 fn deques(
     alloc: Global,
     table: &Cells,
@@ -79,7 +79,7 @@ fn deques(
     Ok(owns)
 }
 
-// The cells that mark nothing are let go.
+// Drops the reserved cells that mark nothing.
 fn pass_by(table: &Cells, all: &mut Token, from: usize, to: usize)
     requires { AllRest table.now.table_id all.old from × (to ≤ table.now.table_id.slots)
         × (from ≤ to) }
@@ -92,7 +92,7 @@ fn pass_by(table: &Cells, all: &mut Token, from: usize, to: usize)
     }
 }
 
-// A stealer of each deque.
+// Returns a stealer of each deque.
 fn stealers(alloc: Global, owns: &Vec<OwnDeque>) -> Result<Vec<CachePadded<Victim>>, AllocError>
     ensures { IfOk result (λ v. AreStealersOf owns.now.items v.items) }
 {
@@ -106,7 +106,7 @@ fn stealers(alloc: Global, owns: &Vec<OwnDeque>) -> Result<Vec<CachePadded<Victi
     Ok(made)
 }
 
-// So many free cells.
+// Returns `count` free cells.
 fn free_cells(
     alloc: Global,
     table: &Cells,
@@ -131,7 +131,7 @@ fn free_cells(
     Ok(cells)
 }
 
-// A pass at each deque.
+// Returns a pass for each deque.
 fn passes(
     alloc: Global,
     yard: &Yard,
@@ -152,7 +152,7 @@ fn passes(
 }
 
 #[tactic(auto, using(crate::proofs::Openings::room, crate::proofs::Openings::next_room))]
-// The parts of each seat.
+// Returns the parts of each seat.
 fn parts(
     alloc: Global,
     yard: &Yard,
@@ -190,7 +190,7 @@ fn parts(
     Ok(made)
 }
 
-// Each deque with its parts, the last one first.
+// Joins each deque with its parts. The last one comes first.
 fn seats(
     alloc: Global,
     yard: &Yard,
@@ -253,7 +253,7 @@ fn open_all(alloc: Global, workers: usize, cells: usize) -> Result<(Yard, Vec<Se
     Ok((yard, seats))
 }
 
-// Whether a yard may have so many workers, and so many cells for each.
+// Returns whether a yard may have `workers` workers with `cells` cells each.
 fn is_asked(workers: usize, cells: usize) -> bool
     ensures { result ≡ opened.is_asked workers cells }
 {
@@ -261,11 +261,14 @@ fn is_asked(workers: usize, cells: usize) -> bool
 }
 
 impl Yard {
-    /// A yard for so many workers, 1 to 64, each with so many cells, 1 to 4,096: so many jobs of each worker can be
-    /// offered and not yet taken back or collected at a time. With it the workers' seats, worker 0's the last.
+    /// Opens a yard for `workers` workers, 1 to 64, with `cells` cells each, 1 to 4,096. Returns the yard and the
+    /// seats of the workers; the seat of worker 0 is the last. A worker can have up to `cells` jobs that it offered
+    /// and neither took back nor collected.
     ///
-    /// The error is `Arguments` exactly where one of the numbers is out of its range; otherwise `Memory`, where memory
-    /// runs out.
+    /// # Errors
+    ///
+    /// `Fault::Arguments` exactly if one of the numbers is out of its range; otherwise `Fault::Memory`, if there is
+    /// not enough memory.
     pub fn open(alloc: Global, workers: usize, cells: usize) -> Result<(Yard, Vec<Seat>), Fault>
         ensures { MatchResult result (λ r. IsOpened workers cells r.0 r.1.items)
             (IsRefused workers cells) }

@@ -1,4 +1,4 @@
-//! What a yard has, and what a seat has.
+//! The types of a yard and of a seat.
 ghost use Rattle.std.specs.Prelude.{◌≡◌, ◌+◌};
 
 use crate::cells::CellTable;
@@ -9,8 +9,8 @@ use crate::ticket::FreeCell;
 use crossbeam_utils::CachePadded;
 use crossbeam_utils::sync::EventCount;
 
-/// Where workers hand jobs and effects to each other, shared by all of them: the cells, the end mark, a stealer of each
-/// worker's deque, and the bell that wakes those who wait for any of these.
+/// The place where workers exchange jobs and effects, shared by all workers: the cells, the end mark, a stealer of
+/// each worker's deque, and the bell that wakes a worker that waits for any of these.
 #[derive(Drop)]
 pub struct Yard {
     pub(crate) table: CellTable,
@@ -20,8 +20,8 @@ pub struct Yard {
     ghost words: { table.shared.table_id.words ≡ table.shared.table_id.slots + 1 },
 }
 
-/// What one worker has of a yard, and nobody else: its deque, its free cells, a pass at each worker's deque, its token
-/// of the end mark, and room for an effect.
+/// A worker's handle at a yard, owned by that worker: its deque, its free cells, a pass for each worker's deque, its
+/// token of the end mark, and memory for an effect.
 #[derive(Drop)]
 pub struct Seat {
     pub(crate) own: OwnDeque,

@@ -1,4 +1,4 @@
-//! The items, and what a pass at a deque knows.
+//! The items of a deque, and the knowledge of a pass.
 ghost use Rattle.std.specs.Prelude.{◌≡◌, ◌<◌, ℕ, [], false};
 ghost use Rattle.cw_yard.specs.declared.view.CellView.TheVariants.{Duty};
 ghost use Rattle.cw_yard.specs.Deals.{number_of};
@@ -23,7 +23,7 @@ pub enum Item {
     Work(Task),
 }
 
-/// What was offered, with its cell, and whether its owner took it back. No value of it is made, nor of `DequeView`.
+/// An offered job with its cell, and whether its owner took it back. No value of this type or of `DequeView` is made.
 pub struct Offer {
     pub job: Job,
     pub cell: usize,

@@ -7,7 +7,7 @@ ghost use Rattle.cw_yard.specs.Words.{is_out, is_duty};
 use crate::cells::Token;
 use crate::left::Left;
 
-/// A job that was offered, to be taken back or its effect collected. It must be spent.
+/// The right to take back an offered job or to collect its effect. It must be spent.
 pub struct Ticket {
     pub(crate) cell: usize,
     pub(crate) token: Token,
@@ -16,7 +16,7 @@ pub struct Ticket {
     ghost empty: { token.me.1 ≡ [] },
 }
 
-/// The duty to settle a stolen job, with room for its effect. It must be spent.
+/// The duty to settle a stolen job, with memory for its effect. It must be spent.
 pub struct Duty {
     pub(crate) cell: usize,
     pub(crate) token: Token,
@@ -26,7 +26,7 @@ pub struct Duty {
     ghost empty: { token.me.1 ≡ [] },
 }
 
-/// A cell that no job has.
+/// A cell without a job.
 #[derive(Drop)]
 pub struct FreeCell {
     pub cell: usize,

@@ -1,4 +1,4 @@
-//! What a token at the cells knows. No value of these types is made.
+//! The knowledge of a token at the cells. No value of these types is made.
 
 use cw_jobs::job::Job;
 

@@ -14,7 +14,7 @@ use crossbeam_utils::sync::EventCount;
 use cw_jobs::effect::Effect;
 use cw_jobs::job::Job;
 
-/// What became of a ticket whose job was asked back.
+/// The result of `retake`.
 pub enum Retaken {
     /// The job of the ticket, whole. Its cell is free again.
     Mine(Job),
@@ -22,7 +22,7 @@ pub enum Retaken {
     Later(Ticket),
 }
 
-/// What became of a ticket whose effect was asked for.
+/// The result of `collect`.
 pub enum Collected {
     /// An effect that means the job of the ticket. Its cell is free again.
     Done(Effect),
@@ -31,11 +31,13 @@ pub enum Collected {
 }
 
 impl Yard {
-    /// Offers a job, which is then the newest in the seat's deque: it is the next number of the seat, and the ticket
-    /// names it. Rings the bell for one. Waits for nobody.
+    /// Offers a job, which becomes the newest job in the seat's deque. The job is the next number of the seat, and
+    /// the ticket names it. Rings the bell for one worker. Does not wait.
     ///
-    /// The error is the same job, whole, with nothing offered: where the seat has no free cell, or its deque has no
-    /// slot left and could not grow.
+    /// # Errors
+    ///
+    /// Returns the job, whole, with nothing offered, if the seat has no free cell, or if its deque is full and could
+    /// not grow.
     pub fn offer(&self, seat: &mut Seat, job: Job) -> Result<Ticket, Job>
         requires seat { IsSeatOf self.now seat.old }
         ensures seat { IsSeatOf self.now seat.new × KeepsRoom seat.old seat.new }
@@ -58,11 +60,13 @@ impl Yard {
         }
     }
 
-    /// Takes back the job of the newest ticket that was not spent, unless it was stolen: from the end of the deque at
-    /// which it was offered. Waits for nobody, and takes no memory where each ticket is spent with the seat that it was got with.
+    /// Takes back the job of the newest ticket that was not spent, unless the job was stolen. The job comes from the
+    /// end of the deque at which it was offered. Does not wait, and takes no memory if each ticket is spent with the
+    /// seat that returned it.
     ///
-    /// Where all that the seat offered after the ticket's job was taken back, `Later` leaves the offers as they were. Else
-    /// a newer job may lie in the deque: it comes out in place of the ticket's, and is given up.
+    /// If everything that the seat offered after the ticket's job was taken back, `Later` leaves the offers as they
+    /// were. Otherwise a newer job may be in the deque; that job is removed instead of the ticket's job, and is given
+    /// up.
     pub fn retake(&self, seat: &mut Seat, ticket: Ticket) -> Retaken
         requires seat { IsSeatOf self.now seat.old }
         requires ticket { IsTicketOf self.now ticket }
@@ -82,10 +86,11 @@ impl Yard {
         }
     }
 
-    /// Steals a job of a worker, with the duty to settle it: the oldest that lies in its deque, at the end away from
-    /// its owner (Blumofe and Leiserson 1999). None where the deque is empty, or another took that job at the same
-    /// time, or there is no memory for room for its effect. The numbers of what one seat steals of one victim rise.
-    /// Takes memory for one effect with the first call after each theft, and waits for nobody.
+    /// Steals a job of a worker, with the duty to settle it: the oldest job in the worker's deque, at the end that
+    /// its owner does not use (Blumofe and Leiserson 1999). Returns `None` if the deque is empty, if another thief
+    /// took that job at the same time, or if there is no memory for the effect. The numbers of the jobs that one seat
+    /// steals from one victim increase. The first call after each theft allocates memory for one effect. Does not
+    /// wait.
     pub fn steal(&self, seat: &mut Seat, victim: usize) -> Option<(Job, Duty)>
         requires seat { IsSeatOf self.now seat.old }
         requires victim { victim < workers_of self.now }
@@ -101,8 +106,8 @@ impl Yard {
         handoff::steal(&self.table.shared, stealer, pass, &mut seat.spare)
     }
 
-    /// Leaves the effect of a stolen job in its cell, for who offered it, and rings the bell for all. Takes no memory and
-    /// waits for nobody.
+    /// Leaves the effect of a stolen job in its cell for the worker that offered the job, and rings the bell for all
+    /// workers. Takes no memory and does not wait.
     pub fn settle(&self, _seat: &mut Seat, duty: Duty, effect: Effect)
         requires duty { IsDutyOf self.now duty }
         requires means { (j : Job) × (duty_job duty ≡ Some j) × IsMeaningOf j effect }
@@ -112,8 +117,8 @@ impl Yard {
         self.bell.notify_all();
     }
 
-    /// Collects the effect of a job that was stolen, where it has come. Waits for nobody, and takes no memory where each
-    /// ticket is spent with the seat that it was got with.
+    /// Collects the effect of a stolen job, if it has come. Does not wait, and takes no memory if each ticket is
+    /// spent with the seat that returned it.
     pub fn collect(&self, seat: &mut Seat, ticket: Ticket) -> Collected
         requires seat { IsSeatOf self.now seat.old }
         requires ticket { IsTicketOf self.now ticket }
@@ -134,7 +139,7 @@ impl Yard {
         }
     }
 
-    /// Marks the end, for all seats, and then rings the bell for all. Takes no memory and waits for nobody.
+    /// Sets the end mark for all seats, and then rings the bell for all workers. Takes no memory and does not wait.
     pub fn end(&self, seat: &mut Seat)
         requires { IsSeatOf self.now seat.old }
         ensures seat { IsSeatOf self.now seat.new }
@@ -146,8 +151,8 @@ impl Yard {
         self.bell.notify_all();
     }
 
-    /// Whether the end is marked: so for ever at a seat that marked it or once saw it marked, and never before some
-    /// seat has marked it. Takes no memory and waits for nobody.
+    /// Returns whether the end mark is set: always true at a seat that set it or once saw it set, and never true
+    /// before some seat has set it. Takes no memory and does not wait.
     pub fn ended(&self, seat: &mut Seat) -> bool
         requires { IsSeatOf self.now seat.old }
         ensures seat { IsSeatOf self.now seat.new }
@@ -160,15 +165,16 @@ impl Yard {
         mark::ended(&self.mark.shared, &mut seat.watch)
     }
 
-    /// It rings after a job was offered, an effect left, or the end marked. Who would sleep until then asks it for a key,
-    /// looks at the end mark and at each victim once more, and waits on the key: what came before the key is found by
-    /// that look, what comes after it wakes the sleeper. No contract speaks of it.
+    /// Returns the bell, which rings after a job was offered, an effect was left, or the end mark was set. A worker
+    /// that is about to sleep until then asks the bell for a key, checks the end mark and each victim once more, and
+    /// waits on the key: the check finds what came before the key, and what comes after the key wakes the worker. No
+    /// contract describes the bell.
     pub fn bell(&self) -> &EventCount {
         &self.bell
     }
 
-    /// How many of the jobs that a seat offered lay in its deque at one moment of the call: who takes one back or steals
-    /// one makes it fewer. Takes no memory and waits for nobody.
+    /// Returns how many of the jobs that a seat offered were in its deque at one moment of the call. Jobs that are
+    /// taken back or stolen are no longer there. Takes no memory and does not wait.
     #[inline(always)]
     pub fn waiting(&self, seat: &mut Seat) -> usize
         requires { IsSeatOf self.now seat.old }
@@ -180,7 +186,7 @@ impl Yard {
         deque::len(&mut seat.own)
     }
 
-    /// How many workers it has, 1 to 64.
+    /// Returns the number of workers, 1 to 64.
     pub fn workers(&self) -> usize
         ensures { result ≡ workers_of self.now }
     {

@@ -1,5 +1,5 @@
-//! Jobs for the tests, and what tells them apart: the argument of a job, and of its effect the number of arrays that
-//! come back, which is the same.
+//! Jobs for the tests. Each is identified by its argument, and its effect by the number of arrays that come back,
+//! which equals the argument.
 
 use cw_code::code::{Code, Func, Instr};
 use cw_jobs::effect::Effect;
@@ -16,7 +16,7 @@ const NO_BURDEN: Burden = Burden {
     edges: Edges::Spawn,
 };
 
-// Code of a main that gives its argument, and has so many arrays.
+// Returns the code of a `main` that returns its argument and has `arrays` arrays.
 fn same(alloc: Global, arrays: usize) -> Result<Arc<Verified>, Fault> {
     let mut code = Code {
         instrs: Vec::new(alloc),
@@ -45,13 +45,13 @@ fn same(alloc: Global, arrays: usize) -> Result<Arc<Verified>, Fault> {
     Ok(Arc::new(alloc, verified)?)
 }
 
-// The job of a run on this argument, with as many arrays.
+// Returns the job of a run on this argument, with the same number of arrays.
 pub fn job(alloc: Global, arg: u16) -> Result<Job, Fault> {
     let code = same(alloc, arg as usize)?;
     Job::root(alloc, code, &[arg as i64], 1000, NO_BURDEN)
 }
 
-// The argument of a job.
+// Returns the argument of a job.
 pub fn argument(job: &Job) -> i64 {
     match job.parts.rest.cells.first() {
         Some(x) => *x,
@@ -59,7 +59,7 @@ pub fn argument(job: &Job) -> i64 {
     }
 }
 
-// The arrays that came back from a job that was given up, or 0.
+// Returns the number of arrays that came back from a job that was given up, 0 for any other effect.
 pub fn value(effect: &Effect) -> i64 {
     match effect {
         Effect::GivenUp { back } => i64::try_from(back.len()).unwrap_or(0),

@@ -1,4 +1,4 @@
-//! Tests of the yard, by public calls alone: two seats on one thread, and two threads.
+//! Tests of the yard, by public calls only: two seats on one thread, and two threads.
 #![tactic(auto)]
 
 #[cfg(test)]

@@ -1,4 +1,4 @@
-//! What two threads do with a thousand jobs, and what two seats do on one thread.
+//! Tests of two threads with a thousand jobs, and of two seats on one thread.
 ghost use Rattle.std.specs.Prelude.{◌≡◌, ◌<◌, IfOk};
 ghost use Rattle.cw_yard.specs.Seats.{IsSeatOf, workers_of};
 
@@ -12,8 +12,8 @@ use std::test::Fail;
 use std::thread;
 use std::thread::Threads;
 
-// Offers the jobs of so many arguments, from 1 on, and marks the end: the sum of the arguments of those that came back,
-// and that of the values of the effects that came.
+// Offers jobs with the arguments from 1 to `count`, and sets the end mark. Returns the sum of the arguments of the
+// jobs that came back, and the sum of the values of the effects that came.
 fn own<R: Wait>(
     rt: &R,
     alloc: Global,
@@ -46,7 +46,7 @@ fn own<R: Wait>(
     Ok((back, came))
 }
 
-// Steals until the end is marked: the sum of the arguments of what was stolen.
+// Steals until the end mark is set. Returns the sum of the arguments of the stolen jobs.
 fn steal_all<R: Wait>(rt: &R, yard: &Yard, seat: &mut Seat) -> i64
     requires { IsSeatOf yard.now seat.old × (0 < workers_of yard.now) }
 {
@@ -60,7 +60,7 @@ fn steal_all<R: Wait>(rt: &R, yard: &Yard, seat: &mut Seat) -> i64
     sum
 }
 
-// Both at once: what came back and what came, and what was stolen.
+// Runs both at once. Returns what came back and what came, and what was stolen.
 fn race<R: Wait + Threads + Sync>(
     rt: &R,
     alloc: Global,
@@ -83,7 +83,7 @@ fn race<R: Wait + Threads + Sync>(
     )
 }
 
-// The two seats of a yard for two workers, each with so many cells: worker 0's, and worker 1's.
+// Returns a yard for two workers with `cells` cells each, and the seats of worker 0 and worker 1.
 fn two(alloc: Global, cells: usize) -> Result<(Yard, Seat, Seat), Fault>
     ensures { IfOk result (λ r. IsSeatOf r.0 r.1 × IsSeatOf r.0 r.2 × (workers_of r.0 ≡ 2)) }
 {
@@ -97,7 +97,7 @@ fn two(alloc: Global, cells: usize) -> Result<(Yard, Seat, Seat), Fault>
     Ok((yard, one, other))
 }
 
-// Each job came back or was stolen, none did both, and the effect of each that was stolen came once.
+// Each job came back or was stolen, never both, and the effect of each stolen job came once.
 #[test]
 fn each_job_is_done_once(rt: HostRuntime) -> Result<(), Fail> {
     let (yard, one, other) = two(rt.alloc(), 4)?;
@@ -108,7 +108,8 @@ fn each_job_is_done_once(rt: HostRuntime) -> Result<(), Fail> {
     Ok(())
 }
 
-// With one cell the first job is taken, the second given back whole, and after a retake the next is taken.
+// With one cell, the first job is accepted and the second one given back whole; after a retake the next one is
+// accepted.
 #[test]
 fn one_cell_takes_one_job(rt: HostRuntime) -> Result<(), Fail> {
     let (yard, mut one, _other) = two(rt.alloc(), 1)?;
@@ -134,7 +135,7 @@ fn one_cell_takes_one_job(rt: HostRuntime) -> Result<(), Fail> {
     Ok(())
 }
 
-// Worker 1 steals the oldest of two jobs, its effect comes to worker 0, and the end is seen at both.
+// Worker 1 steals the older of two jobs, worker 0 gets its effect, and both see the end mark.
 #[test]
 fn the_oldest_is_stolen(rt: HostRuntime) -> Result<(), Fail> {
     let (yard, mut one, mut other) = two(rt.alloc(), 2)?;

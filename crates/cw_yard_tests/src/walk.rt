@@ -10,17 +10,17 @@ use cw_yard::ticket::Ticket;
 use cw_yard::yard::{Collected, Retaken};
 use std::sync::Wait;
 
-/// What a ticket was spent for.
+/// The result of spending a ticket.
 #[derive(Drop)]
 pub enum Spent {
-    /// Its job came back.
+    /// The job of the ticket came back.
     Back(Job),
-    /// Its job was stolen, and this is its effect.
+    /// The job of the ticket was stolen, and this is its effect.
     Came(Effect),
 }
 
 impl Spent {
-    /// The argument of the job that came back, or none.
+    /// Returns the argument of the job that came back, if one did.
     pub fn argument(&self) -> Option<i64> {
         match self {
             Spent::Back(job) => Some(argument(job)),
@@ -28,7 +28,7 @@ impl Spent {
         }
     }
 
-    /// The value of the effect that came, or none.
+    /// Returns the value of the effect that came, if one did.
     pub fn value(&self) -> Option<i64> {
         match self {
             Spent::Back(_) => None,
@@ -37,7 +37,7 @@ impl Spent {
     }
 }
 
-/// The job of a ticket, or where it was stolen its effect.
+/// Spends a ticket. Returns its job, or its effect if the job was stolen.
 pub fn spend<R: Wait>(rt: &R, yard: &Yard, seat: &mut Seat, ticket: Ticket) -> Spent
     requires seat { IsSeatOf yard.now seat.old }
     requires ticket { IsTicketOf yard.now ticket }
@@ -56,7 +56,7 @@ pub fn spend<R: Wait>(rt: &R, yard: &Yard, seat: &mut Seat, ticket: Ticket) -> S
     unreachable!()
 }
 
-/// The argument of a job that was stolen and given up, or 0 where none was there.
+/// Steals a job and gives it up. Returns its argument, or 0 if there was none.
 pub fn rob(yard: &Yard, seat: &mut Seat, victim: usize) -> i64
     requires seat { IsSeatOf yard.now seat.old }
     requires victim { victim < workers_of yard.now }
@@ -72,7 +72,7 @@ pub fn rob(yard: &Yard, seat: &mut Seat, victim: usize) -> i64
     }
 }
 
-/// Offers a job and spends its ticket. A job that is given back has come back.
+/// Offers a job and spends its ticket. A job that is given back counts as come back.
 pub fn offer_once<R: Wait>(rt: &R, yard: &Yard, seat: &mut Seat, job: Job) -> Spent
     requires seat { IsSeatOf yard.now seat.old }
     ensures { IsSeatOf yard.now seat.new }

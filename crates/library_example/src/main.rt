@@ -1,4 +1,4 @@
-//! How the library is called: the report of a program that stands in memory, on standard output.
+//! How to call the library: prints the report of a program in memory to standard output.
 #![tactic(auto)]
 
 use cw_cli::{analyse_alone, refuse};
@@ -38,7 +38,7 @@ fn main(rt: HostRuntime) -> ExitCode {
             edges: Edges::Spawn,
         },
     };
-    // a sink counts the writes that fail; `Counted` makes one of any writer, a `Vec` too
+    // a sink counts failed writes; `Counted` makes one of any writer, also of a `Vec`
     let mut out = Counted::new(io::writer(&rt));
     let mut err = Counted::new(rt.stderr());
     let status = match analyse_alone(rt.alloc(), SOURCE, &[20], options, &mut out) {

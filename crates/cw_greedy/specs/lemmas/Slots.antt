@@ -1,4 +1,4 @@
--- A board as a list, in two pieces: what is ready, what a run leaves, and room for it.
+-- A board as a list in two parts: its ready strands, its state after a jump, and the room for a jump.
 use Rattle.std.proofs.Common.{◌≡◌, ℕ, zero, suc, ◌+◌, ◌-◌, [], ◌∷◌, ◌++◌, Some, None, arith, refl, ap, ◌∙◌, subst}
 use Rattle.cw_greedy.specs.Greedy.{if_done}
 use Rattle.cw_greedy.specs.Slots.{Slots, nones, ready_slots, run_slots, RoomFor}

@@ -1,4 +1,4 @@
--- What a sum was told in two pieces.
+-- The sum of updates in two pieces.
 use Rattle.std.proofs.Common.{◌≡◌, ℤ, ◌+ℤ◌, Bool, true, false, if◌then◌else◌, List, [], ◌∷◌, ◌++◌, sym, ap, ◌∙◌}
 use Rattle.std.proofs.Math.IntN.{+ℤ_assoc, +ℤ_idl}
 use Rattle.cw_model.specs.Syntax.{Name}

@@ -1,4 +1,4 @@
--- Names that are the same, and names that are apart.
+-- Equal names and distinct names.
 use Rattle.std.proofs.Common.{◌≡◌, Bool, true, false, List, ◌∷◌, refl, sym}
 use Rattle.std.specs.Prelude.{if◌then◌else◌}
 use Rattle.cw_model.specs.Syntax.{Name}
@@ -6,7 +6,7 @@ use Rattle.cw_model.specs.Names.{same_name, is_among}
 use Rattle.cw_model.specs.lemmas.Names.{same_are}
 use Rattle.cw_loops.specs.Lowered.{is_plain}
 
--- apart where their being one is absurd
+-- names are distinct if their equality is contradictory
 pub apart : (x y : Name) → (x ≡ y → ⊥) → same_name x y ≡ false
 apart x y h = go (same_name x y) refl
   where
@@ -26,7 +26,7 @@ plain_apart x w p = apart x (35 ∷ w) (plain_is_not x w p)
 pub apart_plain : (x w : Name) → is_plain x ≡ true → same_name (35 ∷ w) x ≡ false
 apart_plain x w p = apart (35 ∷ w) x (λ e. plain_is_not x w p (sym e))
 
--- a test on a name of a list, by its first place
+-- a name that is not in a list is distinct from its first element
 pub not_first : (x y : Name) (ys : List Name) → is_among x (y ∷ ys) ≡ false → same_name x y ≡ false
 not_first x y ys e = go (same_name x y) refl e
   where

@@ -1,4 +1,4 @@
--- What is asked of a loop, name by name.
+-- The conditions on the captured names of a loop, name by name.
 use Rattle.std.proofs.Common.{◌≡◌, true, List, [], ◌∷◌, ◌++◌, ◌∙◌, ap}
 use Rattle.std.specs.Prelude.{◌&&◌}
 use Rattle.std.proofs.lemmas.Bool.{and_parts}

@@ -1,4 +1,4 @@
--- The names that a well typed statement declares are new.
+-- The names that a well-typed statement declares are new.
 use Rattle.std.proofs.Common.{◌≡◌, ℕ, Bool, true, false, List, [], ◌∷◌, ◌++◌, sym, subst, refl}
 use Rattle.std.specs.Prelude.{if◌then◌else◌, not, ◌||◌, nat_le}
 use Rattle.std.specs.List.{list_all}
@@ -23,7 +23,7 @@ use Rattle.cw_loops.specs.lemmas.Naming.{Placed, at_front, after_it, placed, Sid
 use Rattle.cw_loops.specs.lemmas.Knowing.{Unknown, new_unknown, Adds, an_int, an_array, nothing, adds}
 use Rattle.cw_loops.specs.Lowered.{lower_stmt}
 
--- what the head of a loop keeps
+-- the rules that the head of a loop keeps
 pub record HeadKept (program : Program) (known : Known) (x : Name) (from to : Expr) (grain : ℕ) (over : List Name) :
     Type 0 where
   pub new : is_new program known x ≡ true
@@ -51,7 +51,7 @@ head_kept program known x y z from to grain over h =
       writables = a.1;
     }
 
--- what a cut keeps
+-- the rules that a cut keeps
 pub record CutKept (program : Program) (known : Known) (a : Name) (e : Expr) (l r : Name) : Type 0 where
   pub array : is_array known a ≡ true
   pub writable : is_writable known a ≡ true
@@ -76,7 +76,7 @@ cut_kept program known a e l r h =
       two = not_true (same_name l r) p.1;
     }
 
--- what was unknown before one name more
+-- a name that is unknown after a declaration was unknown before it
 pub unknown_before : (known : Known) (y x : Name) (kind : NameKind) → Unknown ((y, kind) ∷ known) x → Unknown known x
 unknown_before known y x kind u = go (same_name x y) (is_array_kind kind) u.no_int u.no_array
   where
@@ -87,7 +87,7 @@ unknown_before known y x kind u = go (same_name x y) (is_array_kind kind) u.no_i
     go false k h g = record { no_int = h; no_array = g }
 
 module _ (program : Program) where
-  -- the names that a statement declares are new where it stands
+  -- the names that a statement declares are unknown before it
   abbrev StmtNew : Stmt → Type 0
   StmtNew s =
       (returns : Returns) (known : Known) (line : ℕ) → faults_in program returns known line s ≡ [] → (x : Name)
@@ -140,7 +140,7 @@ module _ (program : Program) where
       go (in_first p) = one returns known (left_none _ _ rest) v p
       go (in_second p) = other returns known (right_none _ _ rest) v p
 
-  -- one name, which is new
+  -- a single declared name is unknown before the declaration
   one_new : (known : Known) (x v : Name) → is_new program known x ≡ true → is_among v (x ∷ []) ≡ true → Unknown known v
   one_new known x v fresh o = go (placed v x [] o)
     where
@@ -148,7 +148,7 @@ module _ (program : Program) where
       go (at_front same) = subst (Unknown known) (sym same) (new_unknown program known x fresh)
       go (after_it other p) = absurd cc
 
-  -- what follows a statement, where a name is unknown after it
+  -- a name that is unknown after a statement was unknown before it
   before_it : (s : Stmt) (known : Known) (v : Name) → Unknown (declares s known) v → Unknown known v
   before_it s known v u = go (adds s)
     where
@@ -198,7 +198,7 @@ module _ (program : Program) where
     block_new (Then line s b) returns known h v o =
         by_side s b returns known line h v (side v (declared_in s) (declared_in_block b) o) (stmt_new s) (block_new b)
 
--- a lowered statement declares what its source does
+-- a lowered statement declares the same locals as its source
 pub same_after : (over : List Name) (k : ℕ) (locals : Locals) (s : Stmt) → locals_after locals (lower_stmt over k s) ≡ locals_after locals s
 same_after over k locals (Declare x e) = refl
 same_after over k locals (DeclareArray a e) = refl

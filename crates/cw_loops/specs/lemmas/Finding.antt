@@ -1,4 +1,4 @@
--- Functions that are found by their names, among those of a lowered program.
+-- The functions of a lowered program that lookups by name find.
 use Rattle.std.proofs.Common.{◌≡◌, ℕ, ◌+◌, ◌≤◌, Bool, true, false, List, [], ◌∷◌, ◌++◌, arith, refl, sym, ◌∙◌, ap}
 use Rattle.std.proofs.Common.{append_assoc, subst}
 use Rattle.std.specs.Prelude.{if◌then◌else◌}
@@ -14,7 +14,7 @@ use Rattle.cw_loops.specs.Lowerable.{can_lower_function}
 use Rattle.cw_loops.specs.lemmas.Apart.{plain_apart, apart_plain}
 use Rattle.cw_loops.specs.lemmas.Numbering.{Numbered, made_functions, loops_apart}
 
--- each of these functions is found by its name
+-- the lookup of each function's name finds the function
 abbrev pub Found : List Function → List Function → Type 0
 Found fs [] = Unit {0}
 Found fs (f ∷ made) = (function_named f.name fs ≡ f) × Found fs made
@@ -58,7 +58,7 @@ lowered_plain all0 (f ∷ fs) k h j rest =
     (lower_functions (k + loop_count_in f.body) fs ++ rest)) (apart_plain f.name (j ∷ []) n.0) ∙ lowered_plain all0
     fs (k + loop_count_in f.body) p.1 j rest
 
--- a name of the source among the functions of both
+-- a name of the source, looked up in the source and in the lowered program
 pub record Looked (all0 all fs : List Function) (g : Name) : Type 0 where
   pub number : ℕ
   pub f : Function

@@ -1,4 +1,4 @@
--- The heads of functions: parameters as known names, and what types keep of a head.
+-- The heads of functions: parameters as known names, and the rules that a head keeps.
 use Rattle.std.proofs.Common.{◌≡◌, Bool, true, false, List, [], ◌∷◌, ◌++◌, refl, sym, ◌∙◌, ap}
 use Rattle.std.specs.Prelude.{if◌then◌else◌, not, ◌&&◌, ◌||◌, flat_map, map}
 use Rattle.std.specs.List.{list_any}
@@ -33,7 +33,7 @@ kind_among x (p ∷ ps) =
     go false true e i f h = rw (e) refl
     go false false e i f h = rw (e) h
 
--- the newest of known names
+-- a name among known names with one appended
 known_push : (such : NameKind → Bool) (ks : Known) (n : Name) (kind : NameKind) (x : Name)
     → is_known x such (ks ++ (n, kind) ∷ [])
     ≡ (if is_among x (map (λ k. k.0) ks) then is_known x such ks else is_known x such ((n, kind) ∷ []))
@@ -50,13 +50,13 @@ known_push such (k ∷ ks) n kind x = go (same_name x k.0) (known_push such ks n
     go true h = refl
     go false h = h
 
--- no parameter after the first has its name
+-- the parameters after the first one have other names
 pub others_differ : (p : Param) (ps : List Param) → differ (names_of (p ∷ ps)) ≡ true →
     (is_among p.name (names_of ps) ≡ false) × (differ (names_of ps) ≡ true)
 others_differ p ps h =
     let d = and_parts (not (is_among p.name (names_of ps))) (differ (names_of ps)) h in (not_true _ d.0, d.1)
 
--- the newest parameter, or one before it
+-- a name among parameters is the first one or among the others
 newest : (such : NameKind → Bool) (p : Param) (ps : List Param) (x : Name) → is_among p.name (names_of ps) ≡ false
     → is_known x such (known_of (p ∷ ps))
     ≡ (if same_name x p.name then such p.kind else is_known x such (known_of ps))
@@ -113,14 +113,14 @@ array_kind (p ∷ ps) h x =
     go false e true h none = rw (e) h
     go false e false h none = h
 
--- the parameters are what is known
+-- the known names are the names of the parameters
 pub parameters_known : (ps : List Param) → differ (names_of ps) ≡ true → (x : Name) →
     is_among x (names_of ps) ≡ (is_int (known_of ps) x || is_array (known_of ps) x)
 parameters_known ps h x =
     kind_among x ps ∙ sym (ap (λ b. b || is_among x (arrays_of ps)) (int_kind ps h x)) ∙ ap
     (λ b. is_int (known_of ps) x || b) (sym (array_kind ps h x))
 
--- what the head of a function keeps
+-- the rules that the head of a function keeps
 pub record HeadOf (f : Function) : Type 0 where
   pub params : differ (names_of f.params) ≡ true
   pub main : (not (same_name f.name main_name) || (f.gives_int && not (list_any (λ p. wants_array p) f.params))) ≡ true

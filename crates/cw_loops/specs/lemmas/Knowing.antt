@@ -1,4 +1,4 @@
--- Names that are known, and those that a statement makes known.
+-- Known names, and the names that a statement declares.
 use Rattle.std.proofs.Common.{◌≡◌, Bool, true, false, List, [], ◌∷◌, refl}
 use Rattle.std.specs.Prelude.{if◌then◌else◌, not, ◌||◌, map}
 use Rattle.std.proofs.lemmas.Bool.{or_parts}
@@ -12,7 +12,7 @@ use Rattle.cw_model.specs.Typing.{Known, is_known, is_int, is_array, is_new, glo
 use Rattle.cw_model.specs.Ownership.{known_after}
 use Rattle.cw_loops.specs.Lowerable.{new_integers, new_arrays}
 
--- a name that is not known
+-- the name is not known
 pub record Unknown (known : Known) (x : Name) : Type 0 where
   pub no_int : is_int known x ≡ false
   pub no_array : is_array known x ≡ false
@@ -36,7 +36,7 @@ new_unknown program known x h =
       no_array = not_there is_array_kind known x n.0;
     }
 
--- a name is an integer or an array, and not both
+-- a known integer is not a known array
 pub not_both : (known : Known) (x : Name) → is_int known x ≡ true → is_array known x ≡ false
 not_both [] x h = absurd cc
 not_both (k ∷ ks) x h = go (same_name x k.0) (is_array_kind k.1) h (λ g. not_both ks x g)
@@ -46,7 +46,7 @@ not_both (k ∷ ks) x h = go (same_name x k.0) (is_array_kind k.1) h (λ g. not_
     go true array g more = not_true array g
     go false array g more = more g
 
--- what a statement declares for those that follow
+-- the name that a statement declares for the statements after it
 pub data Adds (s : Stmt) : Type 0 where
   an_int : (x : Name) (e : Expr) → s ≡ Declare x e → Adds s
   an_array : (a : Name) (e : Expr) → s ≡ DeclareArray a e → Adds s
@@ -73,7 +73,7 @@ adds (Region tag b) = nothing (λ k. refl) refl refl (λ o. refl)
 adds (Print e) = nothing (λ k. refl) refl refl (λ o. refl)
 adds (Return e) = nothing (λ k. refl) refl refl (λ o. refl)
 
--- the newest name is known
+-- a declared name is known
 pub known_more : (x y : Name) (owners : List Name) (i a : Bool) → is_among x owners ≡ (i || a) →
     is_among x (y ∷ owners) ≡ ((if same_name x y then true else i) || (if same_name x y then false else a))
 known_more x y owners i a h = go (same_name x y)

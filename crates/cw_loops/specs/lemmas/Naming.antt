@@ -1,4 +1,4 @@
--- Names among others, and those that are new.
+-- Names among others, and new names.
 use Rattle.std.proofs.Common.{◌≡◌, Bool, true, false, List, [], ◌∷◌, ◌++◌, refl, sym, ◌∙◌, ap}
 use Rattle.std.specs.Prelude.{if◌then◌else◌, not, ◌||◌, map}
 use Rattle.std.specs.List.{list_any, list_all}
@@ -10,7 +10,7 @@ use Rattle.cw_model.specs.lemmas.Names.{same_are}
 use Rattle.cw_tree.specs.lemmas.Names.{among_append, front_among, later_among}
 use Rattle.cw_loops.specs.lemmas.Apart.{not_later, apart}
 
--- names that are joined
+-- a name among the first names is among the concatenation
 
 pub among_left : (x : Name) (xs ys : List Name) → is_among x xs ≡ true → is_among x (xs ++ ys) ≡ true
 among_left x xs ys h = among_append x xs ys ∙ either_left (is_among x xs) (is_among x ys) h
@@ -18,7 +18,7 @@ among_left x xs ys h = among_append x xs ys ∙ either_left (is_among x xs) (is_
 pub among_right : (x : Name) (xs ys : List Name) → is_among x ys ≡ true → is_among x (xs ++ ys) ≡ true
 among_right x xs ys h = among_append x xs ys ∙ either_right (is_among x xs) (is_among x ys) h
 
--- where a name of a list is
+-- the position of a name in a list: at the front or after it
 pub data Placed (x y : Name) (xs : List Name) : Type 0 where
   at_front : x ≡ y → Placed x y xs
   after_it : same_name x y ≡ false → is_among x xs ≡ true → Placed x y xs
@@ -41,7 +41,7 @@ side x xs ys h = go (is_among x xs) refl (sym (among_append x xs ys) ∙ h)
     go true e o = in_first e
     go false e o = in_second o
 
--- in the second where in the first it is not
+-- a name of a concatenation that is not in the first list is in the second
 pub among_split : (x : Name) (xs ys : List Name) → is_among x xs ≡ false → is_among x (xs ++ ys) ≡ true → is_among x ys ≡ true
 among_split x xs ys n h = go (side x xs ys h)
   where
@@ -57,7 +57,7 @@ pub none_among : (x : Name) (xs ys : List Name) → is_among x xs ≡ false → 
     is_among x (xs ++ ys) ≡ false
 none_among x xs ys h g = among_append x xs ys ∙ ap (λ b. b || is_among x ys) h ∙ g
 
--- one name more at the end
+-- a name among names with one appended
 pub pushed : (x y : Name) (xs : List Name) (b : Bool) → b ≡ is_among x xs →
     (if same_name x y then true else b) ≡ is_among x (xs ++ y ∷ [])
 pushed x y xs b h = go (same_name x y) refl (is_among x xs) refl ∙ sym (among_append x xs (y ∷ []))
@@ -69,7 +69,7 @@ pushed x y xs b h = go (same_name x y) refl (is_among x xs) refl ∙ sym (among_
     go false e true o = h ∙ o ∙ sym (ap (λ z. z || false) o)
     go false e false o = h ∙ o ∙ sym (ap (λ z. z || false) o)
 
--- a name that is new is of the other kind only where it was
+-- a new name does not change the lookup of the other kind
 pub passed : (x y : Name) (xs : List Name) (b : Bool) → b ≡ is_among x xs → is_among y xs ≡ false →
     (if same_name x y then false else b) ≡ is_among x xs
 passed x y xs b h n = go (same_name x y) refl
@@ -78,11 +78,11 @@ passed x y xs b h n = go (same_name x y) refl
     go true e = sym (ap (λ z. is_among z xs) (same_are x y e) ∙ n)
     go false e = h
 
--- a name of a list and one that is none of it are apart
+-- a name in a list and a name that is not in it are distinct
 pub other_than : (a b : Name) (bs : List Name) → is_among b bs ≡ false → is_among a bs ≡ true → same_name a b ≡ false
 other_than a b bs h o = apart a b (λ e. let q : true ≡ false = sym o ∙ ap (λ y. is_among y bs) e ∙ h in absurd cc)
 
--- what is said of each name of a list
+-- functions that agree on each name of a list have the same map
 
 pub map_same : {B : Type 0} (f g : Name → B) (xs : List Name) → ((a : Name) → is_among a xs ≡ true → f a ≡ g a) → map f xs ≡ map g xs
 map_same f g [] h = refl
@@ -107,7 +107,7 @@ none_any f (y ∷ xs) h x o = by (or_parts (f y) (list_any f xs) h) (placed x y 
     by n (at_front same) more = ap f same ∙ n.0
     by n (after_it other o) more = more n.1 o
 
--- names that are not known yet
+-- a name that `new_names` keeps is in the list and was not known
 
 pub new_are_there : (x : Name) (xs known : List Name) → is_among x (new_names xs known) ≡ true →
     (is_among x xs ≡ true) × (is_among x known ≡ false)

@@ -1,4 +1,4 @@
--- What loops are made into: as many functions, named by numbers in turn.
+-- The functions that loops become: one for each loop, named by consecutive numbers.
 use Rattle.std.proofs.Common.{◌≡◌, ℕ, zero, suc, ◌+◌, ◌<◌, false, if◌then◌else◌, List, [], ◌∷◌, ◌++◌, length, arith, refl, sym, ◌∙◌, subst}
 use Rattle.std.proofs.Common.{length-append, ap}
 use Rattle.cw_model.specs.Syntax.{Stmt, Declare, DeclareArray, Assign, AssignElement, Reduce, Call, Start, Begin}
@@ -10,7 +10,7 @@ use Rattle.cw_tree.specs.Resolved.{function_names, slot_of}
 use Rattle.cw_loops.specs.Lowered.{loop_name, loop_count, loop_count_in, lower_functions, made_by, made_in, made_of}
 use Rattle.cw_loops.specs.lemmas.Apart.{apart}
 
--- functions that are named by these numbers in turn
+-- the functions are named by consecutive numbers from `k` on
 abbrev pub Numbered : ℕ → List Function → Type 0
 Numbered k [] = Unit {0}
 Numbered k (f ∷ fs) = (f.name ≡ loop_name k) × Numbered (k + 1) fs
@@ -21,7 +21,7 @@ numbered-append k (x ∷ xs) ys h g =
     let z : k + suc (length xs)
     ≡ k + 1 + length xs = omega arith in (h.0, numbered-append (k + 1) xs ys h.1 (subst (λ n. Numbered n ys) z g))
 
--- what a statement's loops are made into
+-- the functions that the loops of a statement become
 pub record Made (k count : ℕ) (made : List Function) : Type 0 where
   pub many : length made ≡ count
   pub numbered : Numbered k made
@@ -81,17 +81,17 @@ loops_apart j k h = apart (loop_name j) (loop_name k) (λ e. let q : j ≡ k = n
     numbers : loop_name j ≡ loop_name k → j ≡ k
     numbers e = cc
 
--- lowering leaves the names of functions
+-- lowering keeps the names of functions
 pub names_stay : (k : ℕ) (fs : List Function) → function_names (lower_functions k fs) ≡ function_names fs
 names_stay k [] = refl
 names_stay k (f ∷ fs) = ap (λ names. f.name ∷ names) (names_stay (k + loop_count_in f.body) fs)
 
--- and their count
+-- lowering keeps the number of functions
 pub count_stays : (k : ℕ) (fs : List Function) → length (lower_functions k fs) ≡ length fs
 count_stays k [] = refl
 count_stays k (f ∷ fs) = ap suc (count_stays (k + loop_count_in f.body) fs)
 
--- the slot of such a function
+-- the slot of a numbered function is its position
 pub numbered_slot : (made : List Function) (j i : ℕ) → Numbered j made → i < length made → slot_of (loop_name (j + i)) (function_names made) ≡ i
 numbered_slot [] j i h less = absurd (omega (arith, less))
 numbered_slot (f ∷ made) j zero h less =

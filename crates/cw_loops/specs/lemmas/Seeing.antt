@@ -1,4 +1,4 @@
--- What a statement reads is a known integer or an array of the turn itself, or it declares it before.
+-- A name that a statement reads is a known integer, an array of the iteration itself, or declared before it.
 use Rattle.std.proofs.Common.{◌≡◌, ℕ, ◌+◌, Bool, true, false, List, [], ◌∷◌, ◌++◌, refl, sym, ◌∙◌, ap, subst}
 use Rattle.std.specs.Prelude.{if◌then◌else◌, not, ◌&&◌, ◌||◌, Option, Some, None}
 use Rattle.std.specs.List.{list_all}
@@ -34,7 +34,7 @@ use Rattle.cw_loops.specs.lemmas.Naming.{none_any, among_left, among_right}
 use Rattle.cw_loops.specs.lemmas.Knowing.{Adds, an_int, an_array, nothing, adds, known_more, known_array_more}
 use Rattle.cw_loops.specs.lemmas.Declaring.{HeadKept, head_kept, CutKept, cut_kept}
 
--- where a name that is read comes from
+-- the origin of a name that is read
 pub data Place (around : Around) (known : Known) (declared : List Name) (x : Name) : Type 0 where
   inner : is_among x declared ≡ true → Place around known declared x
   integer : is_int known x ≡ true → Place around known declared x
@@ -97,7 +97,7 @@ inner_names around xs h = none_any (is_outer around) xs (not_true _ h)
 abbrev pub AllInner : Around → List Name → Type 0
 AllInner around xs = (x : Name) → is_among x xs ≡ true → is_outer around x ≡ false
 
--- the arrays that are passed, given away or only read
+-- the arrays that are passed, whether given away or only read
 abbrev pub arrays_passed : List Param → List Expr → List Name
 arrays_passed [] es = []
 arrays_passed (p ∷ ps) [] = []
@@ -111,7 +111,7 @@ either_inner around x xs ys one more o = go (side x xs ys o)
     go (in_first q) = one q
     go (in_second q) = more q
 
--- each of them is given away or only read
+-- each array that is passed is given away or only read
 passed_inner : (around : Around) (ps : List Param) (es : List Expr) → AllInner around (arrays_given ps es) →
     AllInner around (arrays_lent ps es) → AllInner around (arrays_passed ps es)
 passed_inner around [] es given' lent' x o = absurd cc
@@ -138,7 +138,7 @@ passed_inner around (p ∷ ps) (e ∷ es) given' lent' x o =
         (λ q. l x (among_left x (names_in e) (arrays_lent ps es) q))
         (more g (rest (names_in e) (arrays_lent ps es) l)) o
 
--- what a call keeps of ownership
+-- the rules of ownership that a call keeps
 pub record GivenKept (around : Around) (taken : Taken) (fs : List Function) (target : Option Name) (f : Name)
     (es : List Expr) : Type 0 where
   pub reads : list_all (λ e. may_read around taken e) es ≡ true
@@ -168,14 +168,14 @@ given_kept around taken fs target f es h =
       readers = inner_names around (lent fs f es) (and_parts (are_inner around (lent fs f es)) _ m.1).0;
     }
 
--- none of the arrays that are passed is from outside the loop
+-- no array that is passed is from outside the loop
 pub passed_kept : (around : Around) (taken : Taken) (fs : List Function) (target : Option Name) (f : Name)
     (es : List Expr) → GivenKept around taken fs target f es →
     AllInner around (arrays_passed (function_named f fs).params es)
 passed_kept around taken fs target f es g = passed_inner around (function_named f fs).params es g.arrays g.readers
 
 module _ (around : Around) (known : Known) (declared : List Name) where
-  -- an expression of integers
+  -- the names in an expression of integers
   fine_seen : (e : Expr) → is_source_expr e ≡ true → is_fine known e ≡ true → (x : Name) →
       is_among x (read_by e) ≡ true → Seen around known declared x
   fine_seen e source fine x o = let s = expr_seen known e source fine x o in record { plain = s.0; place = integer s.1 }
@@ -217,7 +217,7 @@ module _ (around : Around) (known : Known) (declared : List Name) where
       go (in_first q) one more = one q
       go (in_second q) one more = more q
 
--- the names that are known are the owners' too
+-- the known names are the names that ownership knows
 abbrev pub SameKnown : Known → List Name → Type 0
 SameKnown known owners = (x : Name) → is_among x owners ≡ (is_int known x || is_array known x)
 
@@ -235,8 +235,8 @@ after_known s known owners h = go (adds s)
     go (nothing same ints arrays owners_same) =
         λ x. ap (is_among x) (owners_same owners) ∙ h x ∙ sym (ap (λ k. is_int k x || is_array k x) (same known))
 
--- where a name that the body of a loop reads comes from, as seen from its head: an array from outside is no name of a
--- turn
+-- the origin of a name that the body of a loop reads, relative to its head: an outer array is not a name of an
+-- iteration
 pub data Home (v : Name) (known : Known) (declared : List Name) (x : Name) : Type 0 where
   declared_there : is_among x (v ∷ declared) ≡ true → Home v known declared x
   known_before : is_int known x ≡ true → Home v known declared x
@@ -262,7 +262,7 @@ home v known owners same over declared x s = by s
     by (integer p) = of_int (same_name x v) refl p
     by (array p out) = of_array (same_name x v) refl p out
 
--- a name read in a block, as seen from before it
+-- adding declared names keeps the origin of a name
 
 seen_more : (around : Around) (known : Known) (declared declared' : List Name) (x : Name) →
     (is_among x declared ≡ true → is_among x declared' ≡ true) → Seen around known declared x →
@@ -274,7 +274,7 @@ seen_more around known declared declared' x h s = record { plain = s.plain; plac
     go (integer o) = integer o
     go (array o out) = array o out
 
--- one name less is known, and declared instead
+-- a name moves from the known names to the declared names
 seen_before : (around : Around) (known : Known) (y : Name) (kind : NameKind) (declared declared' : List Name)
     (x : Name) → (is_among x declared ≡ true → is_among x declared' ≡ true) → is_among y declared' ≡ true
     → Seen around ((y, kind) ∷ known) declared x → Seen around known declared' x
@@ -470,7 +470,7 @@ module _ (program : Program) (fs : List Function) (fs_is : program.functions ≡
           (more Nowhere ((r, name_kind.Array) ∷ (l, name_kind.Array) ∷ known) (r ∷ l ∷ owners) around inside_known
           (depth + 1) Joins ((a, CutOf) ∷ taken) [] s3.1 (right_none _ _ types) (right_none _ _ owns) x p))
 
-  -- a statement before others
+  -- a name that is read after a statement, relative to the point before it
   later_seen : (s : Stmt) (known : Known) (around : Around) (rest : List Name) (x : Name) →
       Seen around (declares s known) rest x → Seen around known (declared_in s ++ rest) x
   later_seen s known around rest x h = go (adds s)

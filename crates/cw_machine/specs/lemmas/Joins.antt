@@ -1,5 +1,5 @@
--- A rest came back to a run of a job: what the run's own spawns left goes back into its slots, and what waited before
--- it began waits on.
+-- A continuation came back to a run of a job: the results of the run's own spawns go into their slots, and what
+-- waited before the run began still waits.
 use Rattle.std.proofs.Common.{◌≡◌, ℕ, zero, suc, ◌+◌, ◌<◌, ℤ, true, Option, Some, None, List, [], ◌∷◌, length}
 use Rattle.std.proofs.Common.{refl, sym, ap, ◌∙◌, arith}
 use Rattle.std.specs.Prelude.{slice_get}
@@ -36,11 +36,11 @@ waits_at b s (a ∷ around) =
       are_arrays = sym (append-nil s.arrived);
     }
 
--- what waits in a run that stands upon what waited before it
+-- the results that wait in a run on top of the results that waited before it
 abbrev pub waits_under : (b s : State) → Waits (under b s)
 waits_under b s = waits_at b s s.around
 
--- a run that goes on from a join goes on upon what it stands upon, with what its call reads
+-- a run that continues after a join continues on top of its base state, with what its call reads
 pub went_under : (b s : State) (frame : Standing) → frame.readers ≡ s.readers
     → went_on (under b s) frame (waits_under b s) ≡ under b (resumed s frame quiet)
 went_under b s frame reads = at s.around ∙ ap (λ r. record (under b (resumed s frame quiet)) { readers = r }) (sym reads)
@@ -62,7 +62,8 @@ empty_there (None ∷ slots) zero lt n = refl
 empty_there (Some x ∷ slots) zero lt n = absurd (n refl)
 empty_there (x ∷ slots) (suc a) lt n = empty_there slots a (omega (arith, lt)) n
 
--- what waited as a rest went out lies in its cells as it comes back, where it kept the cells of its empty slots
+-- the results that waited when a continuation was handed out are in its cells when it comes back, if it kept the
+-- cells of its empty slots
 pub comes_back : (target : Option ℕ) (slots : Slots ℤ) (out back : List ℤ)
     → ((a : ℕ) → slice_get slots a ≡ Some None → cell back a ≡ cell out a)
     → (results : Results ℤ) → ((a : ℕ) → is_full (slice_get slots a) ≡ true → IsNotAmong a (slots_in results))
@@ -76,7 +77,7 @@ comes_back target slots out back kept (r ∷ results) apart h =
           (λ a full. (apart a full).1) h.2,
     )
 
--- and what the open blocks round it wait for
+-- the results for which the enclosing open blocks wait are in the cells when the continuation comes back
 pub comes_back_round : (target : Option ℕ) (slots : Slots ℤ) (out back : List ℤ)
     → ((a : ℕ) → slice_get slots a ≡ Some None → cell back a ≡ cell out a)
     → (around : List Around)

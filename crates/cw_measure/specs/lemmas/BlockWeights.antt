@@ -1,4 +1,4 @@
--- Lemmas of blocks: what a strand keeps of one adds the burdened span of the tree of its events.
+-- Lemmas about blocks: the paths of a block add the burdened span of the tree of its events.
 use Rattle.std.specs.Prelude.{◌≡◌, ℕ, ◌≤◌, zero, suc, ◌+◌, max, List, [], ◌∷◌}
 use Rattle.std.proofs.Common.{sym, ◌∙◌, ap, subst, arith}
 use Rattle.cw_model.specs.declared.burden.Edges.{Edges}
@@ -13,7 +13,7 @@ use Rattle.cw_measure.specs.BlockWeights.{after_all, BlocksWeighTheirSpans}
 use Rattle.cw_measure.specs.SumLaws.{exactly_is}
 use Rattle.cw_measure.specs.CounterLaws.{onward-assoc, onward-fresh_first, onward-fresh_last, heaviest-of_events}
 
--- it stands for counters whose continuation begins at a weight
+-- the paths represent counters whose continuation starts at this weight
 abbrev pub StandsAt : (floor longest continuation : ℕ) → BlockWeight → Type 0
 StandsAt f l k L = (now_of L ≡ f + k) × (top_of L ≡ f + max l k)
 
@@ -25,7 +25,7 @@ stands_gone_on : (f l k w : ℕ) (L : BlockWeight) → StandsAt f l k L → Stan
 stands_gone_on f l k w (Straight n) h = let a = h.0 in let b = h.1 in (omega arith, omega arith)
 stands_gone_on f l k w (Split m n) h = let a = h.0 in let b = h.1 in (omega arith, omega arith)
 
--- a child of this weight, what its path is charged included, beside a rest that is charged so much
+-- a child with this weight (including its charge), and the charge of the continuation
 straight_forked : (f l k n child charge : ℕ) → StandsAt f l k (Straight n)
     → StandsAt f (max l (later exactly k child)) (k + charge) (Split (n + child) (n + charge))
 straight_forked f l k n zero charge h = let a = h.0 in let b = h.1 in (omega arith, omega arith)
@@ -67,7 +67,7 @@ stands_top : (before : ℕ) (w : Counters) (L : BlockWeight) → StandsFor befor
 stands_top before (Unsynced l k) L h = let a = h.1 in omega arith
 stands_top before (Synced p l k) L h = let a = h.1 in omega arith
 
--- THE LAW OF A BLOCK
+-- the law of a block
 pub top-after_all : (burden : Burden) (before : ℕ) (es : List Event)
     → top_of (after_all burden (Straight before) es) ≡ before + burdened_span burden (tree_of es)
 top-after_all burden before es =
@@ -77,7 +77,7 @@ top-after_all burden before es =
     ∙ ap (λ (w : Counters). before + heaviest exactly w) (onward-fresh_first exactly exactly_is (of_events burden es))
     ∙ ap (λ (n : ℕ). before + n) (heaviest-of_events burden es)
 
--- a path into a child is charged no more than one into the rest
+-- the charge for a child is at most the charge for a continuation
 pub child_charge : (burden : Burden) → at_child burden ≤ burden.charge
 child_charge burden = by_edges burden.edges
   where

@@ -1,4 +1,4 @@
--- Lemmas of runs so far: sums over the parts of a tree, and whether a block has spawned.
+-- Lemmas about runs so far: sums over the parts of a tree, and whether a block has spawned.
 use Rattle.std.specs.Prelude.{◌≡◌, ℕ, ◌+◌, ◌-◌, Bool, true, false, List, [], ◌∷◌, ◌++◌, Option, Some, None, refl}
 use Rattle.std.proofs.Common.{sym, ◌∙◌, ap, subst, arith}
 use Rattle.std.proofs.lemmas.List.{append-nil}
@@ -49,19 +49,19 @@ adds_append F A [] fs = let b = adds_none F A in omega arith
 adds_append F A (d ∷ es) fs =
     let a = adds_first F A d (es ++ fs) in let b = adds_append F A es fs in let c = adds_first F A d es in omega arith
 
--- one event more in the block that runs
+-- one more event in the current block
 pub sum_more : (F : Tree → ℕ) (A : Adds F) (os : List Open) (es : List Event) (e : Event)
     → sum_in F os (es ++ e ∷ []) ≡ sum_in F os es + F (tree_in e)
 sum_more F A [] es e = adds_more F A es e
 sum_more F A (o ∷ os) es e = let a = adds_more F A es e in omega arith
 
--- so many events more
+-- more events in the current block
 pub sum_append : (F : Tree → ℕ) (A : Adds F) (os : List Open) (es fs : List Event)
     → sum_in F os (es ++ fs) ≡ sum_in F os es + F (tree_of fs)
 sum_append F A [] es fs = adds_append F A es fs
 sum_append F A (o ∷ os) es fs = let a = adds_append F A es fs in omega arith
 
--- a part begins, and ends
+-- the start and the end of a part
 pub sum_begun : (F : Tree → ℕ) (A : Adds F) (o : Open) (os : List Open) → sum_in F (o ∷ os) [] ≡ sum_in F os o.outer
 sum_begun F A o os = let a = adds_none F A in omega arith
 
@@ -97,7 +97,7 @@ pub append_one : (es : List Event) (e : Event) (fs : List Event) → es ++ e ∷
 append_one [] e fs = refl
 append_one (d ∷ es) e fs = ap (λ (x : List Event). d ∷ x) (append_one es e fs)
 
--- the work of two runs of events is that of both
+-- the work of a concatenation of events is the sum of their work
 pub work-append : (a b : List Event) → work (tree_of (a ++ b)) ≡ work (tree_of a) + work (tree_of b)
 work-append [] b = omega arith
 work-append (Work k ∷ a) b = let more = work-append a b in omega arith
@@ -129,7 +129,7 @@ pub has_spawned_since : (es fs : List Event) (k : ℕ) → IsSince (has_spawned 
     → has_spawned (es ++ fs) ≡ has_spawned es
 has_spawned_since es fs k s = spawned_append false es fs ∙ since_keeps (has_spawned es) fs k s
 
--- what is said of a run so far and a number of instructions is so after the events since, if one event keeps it so
+-- a property of a run so far and a number of instructions holds after further events if each event preserves it
 pub record KeptBy (P : List Event → ℕ → Type 0) : Type 0 where
   pub work : (es : List Event) (n k : ℕ) → P es n → P (es ++ Work k ∷ []) (n + k)
   pub join : (es : List Event) (n : ℕ) → has_spawned es ≡ false → P es n → P (es ++ Join ∷ []) n
@@ -167,6 +167,6 @@ work_since os es fs k s =
     } in
     kept_since P K es fs 0 k s (omega arith) ∙ omega arith
 
--- behind a join nothing is spawned
+-- after a join, nothing is spawned
 pub spawned_joined : (es : List Event) → has_spawned (es ++ Join ∷ []) ≡ false
 spawned_joined es = spawned_append false es (Join ∷ [])

@@ -1,4 +1,4 @@
--- Lemmas of tallies: the calls of a run keep the sums over its outermost parts.
+-- Lemmas about tallies: each step of a run preserves the sums over its outermost parts.
 use Rattle.std.specs.Prelude.{◌≡◌, ℕ, zero, suc, ◌+◌, ◌==◌, ◌≤◌, ◌<◌, Bool, true, false, if◌then◌else◌, List, [], ◌∷◌}
 use Rattle.std.specs.Prelude.{◌++◌, Option, Some, None, sum_by, refl}
 use Rattle.std.proofs.Common.{sym, ◌∙◌, ap, subst, true≢false, arith}
@@ -39,7 +39,7 @@ outer_begun f picks busy o os =
     let a = adds_none (outer_sum f picks (active_in picks busy (o ∷ os)))
     (outer_adds f picks (active_in picks busy (o ∷ os))) in omega arith
 
--- what a part that has ended adds
+-- the contribution of a part that has ended
 outer_some : (f : Tree → ℕ) (picks : Mark → Bool) (n : ℕ) (t : Tree) → 0 < n → outer_sum f picks n t ≡ 0
 outer_some f picks zero t h = absurd (omega arith)
 outer_some f picks (suc n) t h = refl
@@ -77,7 +77,7 @@ left_outer_other f picks busy o os es e =
     ap (λ (x : Bool). one_if x + active_in picks busy os) e ∙ omega arith in
     let c = ap (λ (m : ℕ). outer_sum f picks m (tree_of es)) n in omega arith
 
--- where the outermost open part began
+-- the start of the outermost open part
 began_first : (n : ℕ) (here before : Type 0) → n ≡ 0 → here → BeganAt true n here before
 began_first zero here before e h = h
 began_first (suc n) here before e h = absurd (omega arith)
@@ -98,7 +98,7 @@ nothing_at : (b : Bool) (n : ℕ) (here before : Type 0) → one_if b + n ≡ 0 
 nothing_at true n here before z h = absurd (omega arith)
 nothing_at false n here before z h = h
 
--- where none is open, nothing is said of where one began
+-- if no part is open, nothing is required of the start
 nothing_began : (read : Reading) (picks : Mark → Bool) (busy : ℕ) (os : List Open) (began : ℕ)
     → active_in picks busy os ≡ 0 → Began read picks busy os began
 nothing_began read picks busy [] began z = tt
@@ -114,7 +114,7 @@ some_more : (a n : ℕ) → (a == 1) ≡ false → a ≡ 1 + n → 0 < n
 some_more a zero e h = absurd (true≢false (sym (ap (λ (x : ℕ). x == 1) h) ∙ e))
 some_more a (suc n) e h = omega arith
 
--- a tally that is read alike counts the same run
+-- two tallies with equal readings represent the same run
 began_alike : (read : Reading) (picks : Mark → Bool) (busy : ℕ) (os : List Open) (n began began' : ℕ)
     → active_in picks busy os ≡ n → (0 < n → began' ≡ began) → Began read picks busy os began
     → Began read picks busy os began'
@@ -131,7 +131,7 @@ counts_alike f read picks busy os es t u s a b h = record {
   began_is = began_alike read picks busy os t.active t.began u.began (sym h.active_is) b h.began_is;
 }
 
--- the block that runs goes on
+-- the current block continues
 pub counts_work : (f : Tree → ℕ) (read : Reading) (picks : Mark → Bool) (busy : ℕ) (os : List Open) (es : List Event)
     (t : Tally) (k : ℕ) → Counts f read picks busy os es t → Counts f read picks busy os (es ++ Work k ∷ []) t
 counts_work f read picks busy os es t k h = record {
@@ -152,7 +152,7 @@ counts_join f read picks busy os es t h = record {
   began_is = h.began_is;
 }
 
--- a part that is not counted begins and ends
+-- the start and end of a part that is not counted
 pub counts_other : (f : Tree → ℕ) (read : Reading) (picks : Mark → Bool) (busy : ℕ) (o : Open) (os : List Open)
     (t : Tally) → is_counted picks o.mark ≡ false → Counts f read picks busy os o.outer t
     → Counts f read picks busy (o ∷ os) [] t
@@ -179,7 +179,7 @@ counts_other_left f read picks busy o os es t e h =
       began_is = subst B e h.began_is;
     }
 
--- a part that is counted begins
+-- the start of a counted part
 begun_by : (first : Bool) (f : Tree → ℕ) (read : Reading) (picks : Mark → Bool) (busy : ℕ) (o : Open) (os : List Open)
     (t : Tally) → (t.active == 0) ≡ first → is_counted picks o.mark ≡ true → Counts f read picks busy os o.outer t
     → Counts f read picks busy (o ∷ os) [] (begun_at first (read (o ∷ os) []) t)
@@ -216,7 +216,7 @@ pub counts_begun : (f : Tree → ℕ) (read : Reading) (picks : Mark → Bool) (
     → Counts f read picks busy (o ∷ os) [] (begun (read (o ∷ os) []) t)
 counts_begun f read picks busy o os t e h = begun_by (t.active == 0) f read picks busy o os t refl e h
 
--- it ends
+-- the end of a counted part
 ended_by : (last : Bool) (f : Tree → ℕ) (read : Reading) (picks : Mark → Bool) (busy : ℕ) (M : Meters f read) (o : Open)
     (os : List Open) (es : List Event) (t : Tally) → (t.active == 1) ≡ last → is_counted picks o.mark ≡ true
     → has_spawned es ≡ false → Counts f read picks busy (o ∷ os) es t
@@ -262,7 +262,7 @@ pub counts_ended : (f : Tree → ℕ) (read : Reading) (picks : Mark → Bool) (
     → Counts f read picks busy (o ∷ os) es t → Counts f read picks busy os (closed o es) (ended (read (o ∷ os) es) t)
 counts_ended f read picks busy M o os es t e j h = ended_by (t.active == 1) f read picks busy M o os es t refl e j h
 
--- once all has ended
+-- the sum after the end of all parts
 pub counts_read : (f : Tree → ℕ) (read : Reading) (picks : Mark → Bool) (busy : ℕ) (es : List Event) (t : Tally)
     → busy ≡ 0 → Counts f read picks busy [] es t → t.sum ≡ sum_by f (outermost picks (tree_of es))
 counts_read f read picks busy es t idle h =
@@ -280,7 +280,7 @@ tallies_keep f read picks busy M = record {
   reads = counts_read f read picks busy;
 }
 
--- sums over outermost parts are within what is at least as great as what is measured and adds up
+-- a sum over outermost parts is at most every superadditive bound of its measure
 pub record Bounds (f g : Tree → ℕ) : Type 0 where
   pub above : (t : Tree) → f t ≤ g t
   pub series : (a b : Tree) → g a + g b ≤ g (Seq a b)
@@ -317,7 +317,7 @@ outer_in_within f g B picks busy (o ∷ os) es =
     let h = outer_sum_within f g B picks (active_in picks busy (o ∷ os)) (tree_of es) in let i = outer_in_within f g B
     picks busy os o.outer in omega arith
 
--- pieces that ran apart
+-- pieces that were executed separately
 outer_append : (f : Tree → ℕ) (picks : Mark → Bool) (busy : ℕ) (os : List Open) (es fs : List Event)
     → outer_in f picks busy os (es ++ fs)
     ≡ outer_in f picks busy os es + outer_sum f picks (active_in picks busy os) (tree_of fs)
@@ -326,7 +326,7 @@ outer_append f picks busy (o ∷ os) es fs =
     let a = adds_append (outer_sum f picks (active_in picks busy (o ∷ os)))
     (outer_adds f picks (active_in picks busy (o ∷ os))) es fs in omega arith
 
--- where counted parts are open round a piece, nothing of it is summed
+-- if counted parts are open around a piece, its sum is left out
 left_out_at : (f : Tree → ℕ) (picks : Mark → Bool) (n : ℕ) (t : Tree) (b : Bool) → (n == 0) ≡ b
     → outer_sum f picks n t ≡ unless_at b (outer_sum f picks 0 t)
 left_out_at f picks n t true e =
@@ -353,7 +353,7 @@ counts_further f read there picks busy os es fs t u h g = record {
   began_is = h.began_is;
 }
 
--- nothing more, whatever is open
+-- 0 is 0 in either case
 pub unless_nothing : (b : Bool) → unless_at b 0 ≡ 0
 unless_nothing true = refl
 unless_nothing false = refl

@@ -1,4 +1,4 @@
--- Lemmas of strand weights: parts in series need no call, and what is metered along a part.
+-- Lemmas about strand weights: parts in series need no call, and readings are metered along a part.
 use Rattle.std.specs.Prelude.{◌≡◌, ℕ, ◌+◌, ◌-◌, ◌≤◌, Bool, true, false, List, [], ◌∷◌, ◌++◌, Option, Some, None, refl}
 use Rattle.std.proofs.Common.{sym, ◌∙◌, ap, subst, arith}
 use Rattle.cw_model.specs.declared.burden.Burden.{Burden}
@@ -16,7 +16,7 @@ use Rattle.cw_measure.specs.StrandWeights.{ShowsWeight, TellsLate, TellsWeight, 
 use Rattle.cw_measure.specs.lemmas.BlockWeights.{top-after_all, child_charge}
 use Rattle.cw_measure.specs.lemmas.OpenParts.{work_adds, sum_begun, left_work}
 
--- one event more in the block that runs
+-- one more event in the current block
 pub after_all-append : (burden : Burden) (L : BlockWeight) (es fs : List Event)
     → after_all burden L (es ++ fs) ≡ after_all burden (after_all burden L es) fs
 after_all-append burden L [] fs = refl
@@ -28,7 +28,7 @@ block_more burden [] es e = after_all-append burden (Straight 0) es (e ∷ [])
 block_more burden (o ∷ os) es e =
     after_all-append burden (enters o.spawned (block_weight burden os o.outer)) es (e ∷ [])
 
--- whether a block is split is told by its events
+-- the events of a block determine whether it is split
 abbrev pub is_split : BlockWeight → Bool
 is_split (Straight n) = false
 is_split (Split l n) = true
@@ -72,7 +72,7 @@ pub span_marked : (burden : Burden) (mark : Option Mark) (t : Tree)
 span_marked burden None t = refl
 span_marked burden (Some m) t = refl
 
--- the path of a part that has ended, after the path that it began with
+-- the path at the end of a part, relative to the path at its start
 pub ended_weight : (burden : Burden) (o : Open) (os : List Open) (es : List Event) → has_spawned es ≡ false
     → weight_in burden (o ∷ os) es ≡ weight_in burden (o ∷ os) [] + burdened_span burden (tree_of es)
 ended_weight burden o os es e =
@@ -95,7 +95,7 @@ work_meters = record {
   at_end = λ o os es h. let a = sum_begun work work_adds o os in omega arith;
 }
 
--- the same with the block as a variable
+-- a strand represents a block, with the block as a variable
 pub record ShowsBlock (below : List BurdenedBlock → Type 0) (L : BlockWeight) (v : StrandWeight) : Type 0 where
   pub now_is : v.now ≡ now_of L
   pub blocks_are : StandsOn below L v.blocks
@@ -116,7 +116,7 @@ pub now_gone_on : (k : ℕ) (L : BlockWeight) → now_of (gone_on k L) ≡ now_o
 now_gone_on k (Straight n) = refl
 now_gone_on k (Split l n) = refl
 
--- a block that has not spawned stands on what lies below it
+-- the blocks below a block that has not spawned
 pub stands_straight : (below : List BurdenedBlock → Type 0) (L : BlockWeight) (bs : List BurdenedBlock)
     → is_split L ≡ false → StandsOn below L bs → below bs
 stands_straight below (Straight n) bs e h = h
@@ -151,7 +151,7 @@ shows_left burden o os es v b e h = by_kind o.spawned b h
     by_kind false b h = in_series_ends burden o.mark o.outer os es v e h
     by_kind true b h = cc
 
--- what is kept of a run is within its work with a charge for each spawn
+-- the weights of a run are at most its work plus one charge for each spawn
 pub span_within : (burden : Burden) (t : Tree) → burdened_span burden t ≤ burdened_work burden t
 span_within burden (Leaf k) = omega arith
 span_within burden (Seq a b) = let g = span_within burden a in let h = span_within burden b in omega arith
@@ -233,7 +233,7 @@ series_need_no_call burden path = record {
   };
 }
 
--- what is told is told late, too
+-- a path that represents a run is also a late path
 pub told_late : (burden : Burden) (os : List Open) (es : List Event) (path : BurdenedPath)
     → TellsWeight burden os es path → TellsLate burden os es path
 told_late burden os es path h =
@@ -243,7 +243,7 @@ told_late burden os es path h =
     λ x. ShowsWeight burden os es (record { now = x; blocks = reversed path.blocks.items [] }) in
     record { late = omega arith; tells = record { shows = subst T e h.shows; noted_is = refl } }
 
--- a part in series begins, and ends, without a call
+-- a part in series begins and ends without a call
 pub late_begun : (burden : Burden) (mark : Option Mark) (os : List Open) (es : List Event) (path : BurdenedPath)
     → TellsLate burden os es path → TellsLate burden (in_series mark es os) [] path
 late_begun burden mark os es path h =

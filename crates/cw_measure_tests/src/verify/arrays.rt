@@ -1,4 +1,4 @@
-//! Which small codes with arrays, cuts and loops fit, and that a code of the greatest size does, by hand.
+//! Which small codes with arrays, cuts and loops are well-formed, and that a code of the maximum size is, by hand.
 
 use crate::verify::codes::{
     Frame, GIVING, NOTHING, Placed, add_frame, end_function, no_code, place, place_all, refusal_of,
@@ -11,19 +11,19 @@ use std::alloc::{AllocError, Global};
 /// An instruction of a function. Lists of array slots are named by their index in the code.
 #[derive(Clone, Copy)]
 enum Step {
-    /// This one.
+    /// This instruction.
     Just(Instr),
-    /// Function 2 is called in place, with the arrays of a list.
+    /// A plain call of function 2, with the arrays of a list.
     Call(u32),
-    /// Function 2 is spawned, with the arrays of a list.
+    /// A spawn of function 2, with the arrays of a list.
     Spawn(u32),
-    /// Function 3 is called in place, with the arrays of a list.
+    /// A plain call of function 3, with the arrays of a list.
     CallOnTwo(u32),
-    /// The array of a slot is cut, into two slots.
+    /// Cuts the array of a slot into two slots.
     Cut(u32, u32, u32),
     /// The first call of a loop's function, with the arrays of a list.
     Start(u32, u32),
-    /// A call that function 4 makes of itself, with the arrays of a list.
+    /// A recursive call of function 4, with the arrays of a list.
     Recur(CallKind, u32),
 }
 
@@ -61,7 +61,7 @@ fn push_all(instrs: &mut Vec<Instr>, steps: &[Step]) -> Result<(), AllocError> {
     Ok(())
 }
 
-/// A function, placed after the instructions that stand already.
+/// Adds a function after the existing instructions.
 fn place_steps(code: &mut Code, f: Func, steps: &[Step]) -> Result<(), AllocError> {
     let start = code.instrs.len();
     push_all(&mut code.instrs, steps)?;
@@ -78,16 +78,16 @@ const CLOSE: Step = Just(Instr::Close);
 
 const SYNC: Step = Just(Instr::Sync);
 
-/// The length of the array parameter.
+/// Pushes the length of the array parameter.
 const LENGTH: Step = Just(Instr::Length(0));
 
-/// Into an element of the array parameter.
+/// Writes an element of the array parameter.
 const SET: Step = Just(Instr::SetElement(0, 9));
 
-/// A new array beside the array parameter.
+/// Makes a new array in the slot after the array parameter.
 const NEW: Step = Just(Instr::NewArray(1, 9));
 
-/// The array parameter is cut.
+/// Cuts the array parameter.
 const HALVE: Step = Cut(0, 1, 2);
 
 const END_CUT: Step = Just(Instr::EndCut);
@@ -120,15 +120,15 @@ static FRAME: Frame = Frame {
 
 static GIVES: [Instr; 2] = [Instr::Push(1), Instr::ReturnValue];
 
-/// A function that takes an array and gives an integer.
+/// A function that takes an array and returns an integer.
 const OF_ONE: Func = Func {
     array_params: 1,
     arrays: 1,
     ..GIVING
 };
 
-/// Function 2 takes an array and gives an integer, function 3 takes two arrays and gives nothing, function 4 takes two
-/// integers and an array, function 5 an integer alone, function 6 two integers.
+/// Function 2 takes an array and returns an integer, function 3 takes two arrays and returns nothing, function 4
+/// takes two integers and an array, function 5 only an integer, function 6 two integers.
 static OTHERS: [Placed; 5] = [
     (OF_ONE, &[Instr::Length(0), Instr::ReturnValue]),
     (
@@ -167,7 +167,7 @@ static OTHERS: [Placed; 5] = [
     ),
 ];
 
-/// One integer parameter of two slots and one array parameter of five slots.
+/// One integer parameter with two slots and one array parameter with five slots.
 const TRIED: Func = Func {
     params: 1,
     slots: 2,
@@ -176,7 +176,8 @@ const TRIED: Func = Func {
     ..GIVING
 };
 
-/// The body of such a function, and the number of the refusal of code with it after its main, or 0 where it fits.
+/// The body of such a function, and the number of the fault of code with it after its `main`, or 0 if it is
+/// well-formed.
 type Case = (&'static [Step], u8);
 
 fn place_tried(alloc: Global, code: &mut Code, f: Func, steps: &[Step]) -> Result<(), AllocError> {
@@ -192,7 +193,7 @@ fn refusal(alloc: Global, f: Func, steps: &[Step]) -> Result<u8, AllocError> {
     refusal_of(alloc, code)
 }
 
-/// The index of the first case that comes out otherwise.
+/// Returns the index of the first case with another result.
 fn wrong_case(alloc: Global, cases: &[Case]) -> Result<Option<usize>, AllocError> {
     for (k, (steps, number)) in cases.iter().enumerate() {
         if refusal(alloc, TRIED, *steps)? != *number {
@@ -243,7 +244,7 @@ static SLOTS: [Case; 13] = [
     (&[ONE, NEW, ONE, END], 0),
     (&[ONE, Just(Instr::NewArray(5, 9)), ONE, END], 6),
     (&[NEW, ONE, END], 6),
-    // an array is no operand
+    // an array is not an operand
     (&[ONE, NEW, END], 6),
     // into a parameter
     (&[ONE, Just(Instr::NewArray(0, 9)), ONE, END], 6),
@@ -258,15 +259,15 @@ fn slots(rt: HostRuntime) -> Result<(), AllocError> {
 static LISTS: [Case; 11] = [
     (&[Call(FIRST), ONE, END], 0),
     (&[Call(SECOND), ONE, END], 0),
-    // too few arrays, too many, a slot that is not there
+    // too few arrays, too many, a slot that does not exist
     (&[Call(NONE), ONE, END], 6),
     (&[Call(BOTH), ONE, END], 6),
     (&[Call(MISSING), ONE, END], 6),
-    // a list that is not there has no slot
+    // a list that does not exist has no slot
     (&[Call(NO_LIST), ONE, END], 6),
     (&[ONE, ONE, Start(6, NO_LIST), ONE, END], 0),
     (&[CallOnTwo(BOTH), ONE, END], 0),
-    // an array twice, never reached too
+    // an array twice, also if never reached
     (&[CallOnTwo(TWICE), ONE, END], 6),
     (&[ONE, END, CallOnTwo(TWICE), ONE, END], 6),
     (&[CallOnTwo(FIRST), ONE, END], 6),
@@ -280,7 +281,7 @@ fn lists(rt: HostRuntime) -> Result<(), AllocError> {
 
 static SPAWNS: [Case; 14] = [
     (&[Call(FIRST), LENGTH, END], 0),
-    // an array that a spawn has
+    // an array that a spawn has taken
     (&[Spawn(FIRST), LENGTH, END], 6),
     (&[Spawn(FIRST), ONE, Just(Instr::Element(0, 9)), END], 6),
     (&[Spawn(FIRST), ONE, ONE, SET, ONE, END], 6),
@@ -288,14 +289,14 @@ static SPAWNS: [Case; 14] = [
     (&[Spawn(FIRST), Spawn(FIRST), ONE, END], 6),
     (&[Spawn(FIRST), Call(FIRST), ONE, END], 6),
     (&[Spawn(FIRST), ONE, HALVE, END_CUT, ONE, END], 6),
-    // another one, and after the join
+    // another array, and after the join
     (&[Spawn(FIRST), Spawn(SECOND), ONE, END], 0),
     (&[Spawn(FIRST), SYNC, LENGTH, END], 0),
     // its own block joins it, and no other
     (&[OPEN, Spawn(FIRST), CLOSE, LENGTH, END], 0),
     (&[Spawn(FIRST), OPEN, CLOSE, LENGTH, END], 6),
     (&[Spawn(FIRST), OPEN, CLOSE, SYNC, LENGTH, END], 0),
-    // an operand left over
+    // an operand is left
     (&[ONE, Spawn(FIRST), END], 6),
 ];
 
@@ -307,7 +308,7 @@ fn spawns(rt: HostRuntime) -> Result<(), AllocError> {
 
 const STORE: Step = Just(Instr::Store(1));
 
-/// The length of the left part of `HALVE`.
+/// Pushes the length of the left part of `HALVE`.
 const LENGTH_OF_PART: Step = Just(Instr::Length(1));
 
 static CUTS: [Case; 15] = [
@@ -321,14 +322,14 @@ static CUTS: [Case; 15] = [
     (&[ONE, HALVE, CLOSE, ONE, END], 6),
     (&[OPEN, END_CUT, ONE, END], 6),
     (&[END_CUT, ONE, END], 6),
-    // an operand left over
+    // an operand is left
     (&[ONE, HALVE, ONE, END_CUT, END], 6),
-    // the array while it is cut, a part of it, and the array after
+    // the array while it is cut, a part of it, and the array afterwards
     (&[ONE, HALVE, LENGTH, STORE, END_CUT, ONE, END], 6),
     (&[ONE, HALVE, LENGTH_OF_PART, STORE, END_CUT, ONE, END], 0),
     (&[ONE, HALVE, END_CUT, LENGTH, END], 0),
     (&[ONE, HALVE, Call(SECOND), END_CUT, ONE, END], 0),
-    // the end of the cut joins the call that has a part; after it the part is there
+    // the end of the cut joins the call that has a part; after it, the part is there
     (&[ONE, HALVE, Spawn(SECOND), END_CUT, ONE, END], 0),
     (
         &[ONE, HALVE, Spawn(SECOND), END_CUT, LENGTH_OF_PART, END],
@@ -343,7 +344,7 @@ fn cuts(rt: HostRuntime) -> Result<(), AllocError> {
 }
 
 static PARTS: [Case; 13] = [
-    // slots that are not there, or not apart
+    // slots that do not exist, or are not distinct
     (&[ONE, Cut(5, 1, 2), END_CUT, ONE, END], 6),
     (&[ONE, Cut(0, 5, 2), END_CUT, ONE, END], 6),
     (&[ONE, Cut(0, 1, 5), END_CUT, ONE, END], 6),
@@ -353,7 +354,7 @@ static PARTS: [Case; 13] = [
     // into a parameter
     (&[ONE, Cut(1, 0, 2), END_CUT, ONE, END], 6),
     (&[ONE, Cut(1, 2, 0), END_CUT, ONE, END], 6),
-    // a new array into a part of a cut, and beside it
+    // a new array into a part of a cut, and into another slot
     (
         &[
             ONE,
@@ -378,7 +379,7 @@ static PARTS: [Case; 13] = [
         ],
         0,
     ),
-    // the parts of a part beside the other part, and into it
+    // the parts of a part into other slots, and into the slot of the other part
     (
         &[ONE, HALVE, ONE, Cut(1, 3, 4), END_CUT, END_CUT, ONE, END],
         0,
@@ -399,45 +400,45 @@ fn parts(rt: HostRuntime) -> Result<(), AllocError> {
     Ok(())
 }
 
-/// The integer parameter.
+/// Loads the integer parameter.
 const TEST: Step = Just(Instr::Load(0));
 
 const SPAWN: Step = Spawn(FIRST);
 
 const OTHER: Step = Spawn(SECOND);
 
-/// Past a spawn.
+/// Jumps over a spawn.
 const PAST_ONE: Step = Just(Instr::SkipIfZero(1));
 
-/// Past a spawn and the skip of the other branch.
+/// Jumps over a spawn and the skip of the other branch.
 const PAST_TWO: Step = Just(Instr::SkipIfZero(2));
 
-/// Past a cut and the skip of the other branch.
+/// Jumps over a cut and the skip of the other branch.
 const PAST_CUT: Step = Just(Instr::SkipIfZero(3));
 
-/// Past a scope, or the spawn of the other branch.
+/// Jumps over a scope, or the spawn of the other branch.
 const ON_ONE: Step = Just(Instr::Skip(1));
 
-/// Past the cut of the other branch.
+/// Jumps over the cut of the other branch.
 const ON_CUT: Step = Just(Instr::Skip(2));
 
 const DIFFER: Step = Cut(0, 1, 3);
 
 static BRANCHES: [Case; 7] = [
-    // one branch has left the array empty
+    // one branch has left the array slot empty
     (&[TEST, PAST_ONE, SPAWN, LENGTH, END], 6),
     (&[TEST, PAST_ONE, SPAWN, SYNC, LENGTH, END], 0),
-    // each branch has left another one empty
+    // each branch has left a different slot empty
     (
         &[TEST, PAST_TWO, SPAWN, ON_ONE, OTHER, SYNC, LENGTH, END],
         0,
     ),
-    // a later turn finds an array empty that the first one did not
+    // a later iteration finds an array slot empty that the first one did not
     (
         &[LENGTH, Just(Instr::Store(0)), SPAWN, Just(Instr::GoBack(3))],
         6,
     ),
-    // in a block that a cut began, that another one began, and in a scope
+    // in a block that a cut began, in one that another cut began, and in a scope
     (
         &[
             TEST, PAST_CUT, ONE, HALVE, ON_CUT, ONE, HALVE, END_CUT, ONE, END,
@@ -465,13 +466,13 @@ fn branches(rt: HostRuntime) -> Result<(), AllocError> {
 static LOOPS: [Case; 15] = [
     (&[ONE, ONE, Start(4, FIRST), ONE, END], 0),
     (&[ONE, ONE, ONE, Start(4, FIRST), END], 0),
-    // an argument missing
+    // an argument is missing
     (&[ONE, Start(4, FIRST), ONE, END], 6),
-    // a function of one integer has no range, and one that is not there
+    // a function of one integer has no range, and a function that does not exist
     (&[ONE, ONE, Start(5, NONE), ONE, END], 6),
     (&[ONE, ONE, Start(7, NONE), ONE, END], 6),
     (&[ONE, ONE, Start(4, BOTH), ONE, END], 6),
-    // an array that a spawn has
+    // an array that a spawn has taken
     (&[SPAWN, ONE, ONE, Start(4, FIRST), ONE, END], 6),
     (&[ONE, ONE, Start(4, FIRST), LENGTH, END], 0),
     (&[ONE, ONE, Recur(CallKind::Plain, FIRST), LENGTH, END], 0),
@@ -492,15 +493,16 @@ fn loops(rt: HostRuntime) -> Result<(), AllocError> {
     Ok(())
 }
 
-/// A function of as many names as one may have.
+/// A function with the maximum number of names.
 const WIDEST: Func = Func {
     slots: 128,
     arrays: 128,
     ..GIVING
 };
 
-// As many instructions as a program may have, in as many scopes as a source can open, in a function of as many names
-// as it may declare: they fit, in time and memory that go with the instructions alone.
+// The maximum number of instructions of a program, in the maximum number of open scopes, in a function with the
+// maximum number of names: the code is well-formed, and time and memory are proportional to the number of
+// instructions.
 #[test]
 fn many(rt: HostRuntime) -> Result<(), AllocError> {
     let alloc = rt.alloc();

@@ -1,11 +1,11 @@
-//! Small codes: their sites, their lists of arrays, and their functions one after another.
+//! Small codes: their sites, their lists of arrays, and their functions.
 
 use cw_code::code::{Code, Func, Instr, Loan, Reducer, Site};
 use cw_model::syntax::{CallKind, Name, Reduction};
 use cw_verify::verify::verify;
 use std::alloc::{AllocError, Global};
 
-/// A function without parameters that gives nothing and has no name.
+/// A function without parameters and slots that returns nothing.
 pub const NOTHING: Func = Func {
     start: 0,
     end: 0,
@@ -17,7 +17,7 @@ pub const NOTHING: Func = Func {
     readers: 0,
 };
 
-/// A function without parameters that gives an integer and has no name.
+/// A function without parameters and slots that returns an integer.
 pub const GIVING: Func = Func {
     gives_int: true,
     ..NOTHING
@@ -26,17 +26,17 @@ pub const GIVING: Func = Func {
 /// A function and its instructions.
 pub type Placed = (Func, &'static [Instr]);
 
-/// What the functions of a code refer to.
+/// The tables to which the functions of a code refer.
 pub struct Frame {
-    /// The call sites, numbered from 1: of which kind, and of which function.
+    /// The call sites, numbered from 1: their kinds and their functions.
     pub sites: &'static [(CallKind, u32)],
-    /// The lists of array slots that calls take.
+    /// The lists of array slots whose arrays calls take.
     pub passed: &'static [&'static [u32]],
     /// The lists of arrays that calls are lent.
     pub lent: &'static [&'static [Loan]],
 }
 
-/// Code with nothing in it.
+/// Returns empty code.
 pub fn no_code(alloc: Global) -> Code {
     Code {
         instrs: Vec::new(alloc),
@@ -103,14 +103,14 @@ fn add_lent(alloc: Global, code: &mut Code, lists: &[&[Loan]]) -> Result<(), All
     Ok(())
 }
 
-/// What its functions refer to is put into a code.
+/// Adds the tables to which functions refer to a code.
 pub fn add_frame(alloc: Global, code: &mut Code, frame: &Frame) -> Result<(), AllocError> {
     add_sites(alloc, code, frame.sites)?;
     add_passed(alloc, code, frame.passed)?;
     add_lent(alloc, code, frame.lent)
 }
 
-/// A reducer, the next one.
+/// Adds the next reducer.
 pub fn add_reducer(
     alloc: Global,
     code: &mut Code,
@@ -122,21 +122,21 @@ pub fn add_reducer(
     Ok(())
 }
 
-/// A function, placed after the instructions that stand already.
+/// Adds a function after the existing instructions.
 pub fn place(code: &mut Code, f: Func, body: &[Instr]) -> Result<(), AllocError> {
     let start = code.instrs.len();
     code.instrs.extend_from_slice(body)?;
     end_function(code, f, start)
 }
 
-/// The instructions from this one on are those of a function.
+/// Adds a function that consists of the instructions from `start` on.
 pub fn end_function(code: &mut Code, f: Func, start: usize) -> Result<(), AllocError> {
     let end = code.instrs.len();
     code.funcs.push(Func { start, end, ..f })?;
     Ok(())
 }
 
-/// Functions, one after another.
+/// Adds functions, in order.
 pub fn place_all(code: &mut Code, all: &[Placed]) -> Result<(), AllocError> {
     for (f, body) in all {
         place(code, *f, *body)?;
@@ -144,7 +144,7 @@ pub fn place_all(code: &mut Code, all: &[Placed]) -> Result<(), AllocError> {
     Ok(())
 }
 
-/// The number of the refusal of a code, or 0 where it fits.
+/// Returns the number of the fault of a code, or 0 if it is well-formed.
 pub fn refusal_of(alloc: Global, code: Code) -> Result<u8, AllocError> {
     match verify(alloc, code) {
         Ok(_) => Ok(0),

@@ -1,4 +1,4 @@
-//! Which small codes fit that lend arrays to calls which read them.
+//! Which small codes are well-formed that lend arrays to calls which read them.
 
 use crate::verify::codes::{
     Frame, GIVING, NOTHING, Placed, add_frame, end_function, no_code, place, place_all, refusal_of,
@@ -14,23 +14,23 @@ use std::alloc::{AllocError, Global};
 /// An instruction of a function. Lists of loans are named by their index in the code.
 #[derive(Clone, Copy)]
 enum Step {
-    /// This one.
+    /// This instruction.
     Just(Instr),
-    /// Function 2 is called in place, and lent the arrays of a list.
+    /// A plain call of function 2, which is lent the arrays of a list.
     Call(u32),
-    /// Function 2 is spawned, and lent the arrays of a list.
+    /// A spawn of function 2, which is lent the arrays of a list.
     Spawn(u32),
-    /// Function 3 is called in place, and lent the arrays of a list.
+    /// A plain call of function 3, which is lent the arrays of a list.
     CallOnTwo(u32),
     /// Function 4 takes the first array, and is lent the arrays of a list.
     TakeOne(u32),
-    /// Function 5 takes the first array, called in place.
+    /// A plain call of function 5, which takes the first array.
     Pass,
-    /// Function 5 takes the first array, spawned.
+    /// A spawn of function 5, which takes the first array.
     SpawnPassed,
-    /// The array of a slot is cut, into two slots.
+    /// Cuts the array of a slot into two slots.
     Cut(u32, u32, u32),
-    /// The first call of a loop's function, with no array.
+    /// The first call of a loop's function, without arrays.
     Start(u32),
 }
 
@@ -70,7 +70,7 @@ fn push_all(instrs: &mut Vec<Instr>, steps: &[Step]) -> Result<(), AllocError> {
     Ok(())
 }
 
-/// A function, placed after the instructions that stand already.
+/// Adds a function after the existing instructions.
 fn place_steps(code: &mut Code, f: Func, steps: &[Step]) -> Result<(), AllocError> {
     let start = code.instrs.len();
     push_all(&mut code.instrs, steps)?;
@@ -87,21 +87,21 @@ const CLOSE: Step = Just(Instr::Close);
 
 const SYNC: Step = Just(Instr::Sync);
 
-/// The integer parameter.
+/// Loads the integer parameter.
 const TEST: Step = Just(Instr::Load(0));
 
-/// The length of the array parameter.
+/// Pushes the length of the array parameter.
 const LENGTH: Step = Just(Instr::Length(0));
 
-/// Into an element of the array parameter.
+/// Writes an element of the array parameter.
 const SET: Step = Just(Instr::SetElement(0, 9));
 
-/// The array parameter is cut.
+/// Cuts the array parameter.
 const HALVE: Step = Cut(0, 1, 2);
 
 const END_CUT: Step = Just(Instr::EndCut);
 
-/// The length of the array that is read.
+/// Pushes the length of the lent array.
 const READ_LENGTH: Step = Just(Instr::ReadLength(0));
 
 // Lists of loans, by their index in the code.
@@ -150,14 +150,14 @@ static FRAME: Frame = Frame {
 
 static GIVES: [Instr; 2] = [Instr::Push(1), Instr::ReturnValue];
 
-/// A function that reads an array and gives an integer.
+/// A function that reads an array and returns an integer.
 const READING: Func = Func {
     readers: 1,
     ..GIVING
 };
 
-/// Function 2 reads an array and gives an integer, function 3 reads two arrays, function 4 takes an array and reads one,
-/// function 5 takes one, functions 6 and 7 take two integers, and function 7 reads an array too.
+/// Function 2 reads an array and returns an integer, function 3 reads two arrays, function 4 takes an array and reads
+/// one, function 5 takes one, functions 6 and 7 take two integers, and function 7 also reads an array.
 static OTHERS: [Placed; 6] = [
     (READING, &[Instr::ReadLength(0), Instr::ReturnValue]),
     (
@@ -203,7 +203,7 @@ static OTHERS: [Placed; 6] = [
     ),
 ];
 
-/// One integer parameter of two slots, one array parameter of five slots and one array that it reads.
+/// One integer parameter with two slots, one array parameter with five slots, and one lent array.
 const TRIED: Func = Func {
     params: 1,
     slots: 2,
@@ -220,17 +220,17 @@ fn place_tried(alloc: Global, code: &mut Code, steps: &[Step]) -> Result<(), All
     place_all(code, &OTHERS)
 }
 
-/// The number of the refusal of code with a function of this body after its main, or 0 where it fits.
+/// Returns the number of the fault of code with a function of this body after its `main`, or 0 if it is well-formed.
 fn refusal(alloc: Global, steps: &[Step]) -> Result<u8, AllocError> {
     let mut code = no_code(alloc);
     place_tried(alloc, &mut code, steps)?;
     refusal_of(alloc, code)
 }
 
-/// The body of such a function, and the number of its refusal, or 0 where it fits.
+/// The body of such a function, and the number of its fault, or 0 if it is well-formed.
 type Case = (&'static [Step], u8);
 
-/// The index of the first case that comes out otherwise.
+/// Returns the index of the first case with another result.
 fn wrong_case(alloc: Global, cases: &[Case]) -> Result<Option<usize>, AllocError> {
     for (k, (steps, number)) in cases.iter().enumerate() {
         if refusal(alloc, *steps)? != *number {
@@ -265,17 +265,17 @@ fn a_main_that_reads_an_array(rt: HostRuntime) -> Result<(), AllocError> {
 static LOANS: [Case; 16] = [
     (&[Call(FIRST), ONE, END], 0),
     (&[Call(READER), ONE, END], 0),
-    // too few, too many, none that is there
+    // too few, too many, one that does not exist
     (&[Call(NONE), ONE, END], 6),
     (&[Call(BOTH), ONE, END], 6),
     (&[Call(MISSING), ONE, END], 6),
     (&[Call(NO_READER), ONE, END], 6),
     (&[Call(NO_LIST), ONE, END], 6),
     (&[CallOnTwo(BOTH), ONE, END], 0),
-    // one array twice, and beside one that was lent
+    // one array twice, and together with a lent one
     (&[CallOnTwo(TWICE), ONE, END], 0),
     (&[CallOnTwo(MIXED), ONE, END], 0),
-    // an array that the call takes too, never reached too
+    // an array that the call also takes, also if never reached
     (&[TakeOne(SECOND), ONE, END], 0),
     (&[TakeOne(READER), ONE, END], 0),
     (&[TakeOne(FIRST), ONE, END], 6),
@@ -292,13 +292,13 @@ fn loans(rt: HostRuntime) -> Result<(), AllocError> {
 }
 
 static FROZEN: [Case; 15] = [
-    // read beside the call, and lent again
+    // read in parallel with the call, and lent again
     (&[Spawn(FIRST), LENGTH, END], 0),
     (&[Spawn(FIRST), ONE, Just(Instr::Element(0, 9)), END], 0),
     (&[Spawn(FIRST), Spawn(FIRST), ONE, END], 0),
     (&[Spawn(FIRST), Call(FIRST), ONE, END], 0),
     (&[Spawn(READER), READ_LENGTH, END], 0),
-    // written, made anew, cut, in the place of a part, passed
+    // written, made anew, cut, replaced by a part, passed
     (&[Spawn(FIRST), ONE, ONE, SET, ONE, END], 6),
     (
         &[Spawn(SECOND), ONE, Just(Instr::NewArray(1, 9)), ONE, END],
@@ -310,7 +310,7 @@ static FROZEN: [Case; 15] = [
     (&[Spawn(FIRST), SpawnPassed, ONE, END], 6),
     // passed first
     (&[SpawnPassed, Spawn(FIRST), ONE, END], 6),
-    // another one, beside a call in place, and after the join
+    // another array, after a plain call, and after the join
     (&[Spawn(SECOND), ONE, ONE, SET, ONE, END], 0),
     (&[Call(FIRST), ONE, ONE, SET, ONE, END], 0),
     (&[Spawn(FIRST), SYNC, ONE, ONE, SET, ONE, END], 0),
@@ -322,7 +322,7 @@ fn frozen(rt: HostRuntime) -> Result<(), AllocError> {
     Ok(())
 }
 
-/// Past a spawn.
+/// Jumps over a spawn.
 const PAST: Step = Just(Instr::SkipIfZero(1));
 
 static BLOCKS: [Case; 10] = [
@@ -337,10 +337,10 @@ static BLOCKS: [Case; 10] = [
     // in one branch
     (&[TEST, PAST, Spawn(FIRST), ONE, ONE, SET, ONE, END], 6),
     (&[TEST, PAST, Spawn(FIRST), LENGTH, END], 0),
-    // behind the next turn of a loop
+    // after the next iteration of a loop
     (&[ONE, ONE, SET, Spawn(FIRST), Just(Instr::GoBack(4))], 6),
     (&[Spawn(FIRST), Just(Instr::GoBack(1))], 0),
-    // a part of a cut, which its end joins, and the array that is cut
+    // a part of a cut, which the end of the cut joins, and the array that is cut
     (&[ONE, HALVE, Spawn(SECOND), END_CUT, ONE, END], 0),
     (&[ONE, HALVE, Spawn(FIRST), END_CUT, ONE, END], 6),
 ];
@@ -351,7 +351,7 @@ fn blocks(rt: HostRuntime) -> Result<(), AllocError> {
     Ok(())
 }
 
-/// A function with three array slots and two readers.
+/// A function with three array slots and two lent arrays.
 const READING_TWO: Func = Func {
     arrays: 3,
     readers: 2,
@@ -363,8 +363,8 @@ fn place_reading_two(code: &mut Code, number: u32) -> Result<(), AllocError> {
     place_steps(code, READING_TWO, &[Just(Instr::ReadLength(number)), END])
 }
 
-/// What a verified code reads at its third place: the array slot, and how many arrays the functions of that place and of
-/// main's read; or nothing.
+/// Returns the array slot that the third instruction of verified code reads, and the numbers of lent arrays of its
+/// function and of `main`; zeros if it is no such instruction.
 fn read_in(code: &Verified) -> (u32, usize, usize) {
     match code.ops.get(2) {
         Some(Op::Length(_, slot)) => (*slot, code.readers_at(2), code.readers_at(1)),
@@ -372,7 +372,7 @@ fn read_in(code: &Verified) -> (u32, usize, usize) {
     }
 }
 
-/// What reads this array that its call was lent, in such a function, after a main that reads none.
+/// Returns `read_in` for such a function that reads this lent array, after a `main` that reads none.
 fn slot_of(alloc: Global, number: u32) -> Result<(u32, usize, usize), AllocError> {
     let mut code = no_code(alloc);
     place_reading_two(&mut code, number)?;
@@ -382,7 +382,7 @@ fn slot_of(alloc: Global, number: u32) -> Result<(u32, usize, usize), AllocError
     }
 }
 
-/// The number of an array that a call was lent, and what reads it.
+/// The number of a lent array, and the expected result of `slot_of`.
 static SLOTS: [(u32, (u32, usize, usize)); 3] = [(0, (4, 2, 0)), (1, (3, 2, 0)), (2, (0, 0, 0))];
 
 #[test]
@@ -398,7 +398,7 @@ fn place_two(code: &mut Code, f: Func) -> Result<(), AllocError> {
     place(code, f, &GIVES)
 }
 
-/// The number of the refusal of a function of so many array slots that reads so many arrays, and names none.
+/// Returns the number of the fault of a function with these numbers of array slots and lent arrays, which uses none.
 fn refusal_of_many(alloc: Global, arrays: usize, readers: usize) -> Result<u8, AllocError> {
     let mut code = no_code(alloc);
     let f = Func {
@@ -410,7 +410,7 @@ fn refusal_of_many(alloc: Global, arrays: usize, readers: usize) -> Result<u8, A
     refusal_of(alloc, code)
 }
 
-/// The array slots of a function, the arrays that it reads, and the number of its refusal.
+/// The array slots of a function, its lent arrays, and the number of its fault.
 static MANY: [(usize, usize, u8); 8] = [
     (0, 4_294_967_296, 0),
     (1, 4_294_967_295, 0),
@@ -419,7 +419,7 @@ static MANY: [(usize, usize, u8); 8] = [
     (1, 4_294_967_296, 6),
     (4_294_967_296, 1, 6),
     (4_294_967_297, 0, 6),
-    // more than a count tells
+    // more than a count can hold
     (1, 18_446_744_073_709_551_615, 6),
     (18_446_744_073_709_551_615, 18_446_744_073_709_551_615, 6),
 ];

@@ -1,4 +1,4 @@
--- A call that ended is one event of its caller, and a sync block of the one round it.
+-- A call that ended is one event of its caller, and a sync block that ended is one event of the enclosing block.
 use Rattle.std.specs.Prelude.{◌≡◌, ℕ, false, Option, Some, None, refl}
 use Rattle.cw_model.specs.declared.syntax.CallKind.{CallKind}
 use Rattle.cw_model.specs.declared.syntax.CallKind.TheVariants.{Plain, Spawned}

@@ -1,4 +1,4 @@
--- A block that a spawned call has come back to has spawned: that call is its last event.
+-- A block to which a spawned call has returned has spawned: this call is its last event.
 use Rattle.std.proofs.Common.{◌≡◌, ℕ, ℤ, Bool, true, false, Option, Some, None, List, [], ◌∷◌, ◌++◌, refl, ap, sym, ◌∙◌, subst}
 use Rattle.std.specs.Prelude.{slice_get}
 use Rattle.cw_model.specs.declared.syntax.CallKind.{CallKind}

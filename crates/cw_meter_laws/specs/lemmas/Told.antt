@@ -1,4 +1,4 @@
--- Which parts of a run each instruction begins, ends and joins: what is told of it holds where it leads.
+-- The parts of a run that each instruction begins, ends and joins: a property of these events holds after the step.
 use Rattle.std.proofs.Common.{◌≡◌, ℤ, false, Option, Some, None, List, [], ◌∷◌, ◌++◌, refl, ap, subst}
 use Rattle.std.specs.Prelude.{slice_get}
 use Rattle.cw_model.specs.Syntax.{Name}
@@ -19,7 +19,7 @@ use Rattle.cw_meter_laws.specs.Opens.{is_spawned, call_mark, block_mark, opens_r
 use Rattle.cw_code.specs.lemmas.Acts.{IsLocal, acts_both, closing, uncutting, returning}
 use Rattle.cw_meter_laws.specs.lemmas.Events.{call_event_is, block_event_is}
 
--- what holds where a move leads: of the open parts and the events there, or of those of the whole run where it ends
+-- a property of the open parts and events after a step; at the end of a whole run, of the run's only event
 abbrev pub AtEnd : (List Open → List Event → Type 0) → Origin → Trace → Type 0
 AtEnd P Main t = P [] (whole t)
 AtEnd P (Rest site) t = Unit {0}
@@ -31,14 +31,14 @@ After P from (Stops trap line lines) = Unit {0}
 After P from Stuck = Unit {0}
 
 module _ (P : List Open → List Event → Type 0) (from : Origin) where
-  -- a block ends, or a call
+  -- the end of a block, and the end of a call
   abbrev pub BlockEnds : List Open → List Event → Type 0
   BlockEnds os es = (o : Open) (outer : List Open) → os ≡ o ∷ outer → o.spawned ≡ false → P outer (meters.ticked (parts.closed o es))
 
   abbrev pub CallEnds : List Open → List Event → Type 0
   CallEnds os es = (o : Open) (outer : List Open) → os ≡ o ∷ outer → P outer (parts.closed o (meters.synced es))
 
-  -- a block begins
+  -- the start of a block
   abbrev pub BlockBegins : Code → BlockKind → List Open → List Event → Type 0
   BlockBegins code Scope os es = P (meters.begun false None es os) []
   BlockBegins code (Region k) os es = (tag : Name) → slice_get code.tags k ≡ Some tag → P (meters.begun false (Some (Execution tag)) es os) []
@@ -75,7 +75,7 @@ module _ (P : List Open → List Event → Type 0) (from : Origin) where
       at_end Main h = h (record { spawned = false; mark = Some (Invocation 0); outer = [] }) [] refl
       at_end (Rest site) h = tt
 
-  -- an instruction that goes on in its block begins and ends nothing
+  -- an instruction that continues in its block begins and ends nothing
   ticks : (code : Code) (i : Instr) (os : List Open) (es : List Event) → IsLocal i → Tells code i os es → P os (meters.ticked es)
   ticks code (instr.Call kind c) os es here h = absurd here
   ticks code (instr.Recur kind c) os es here h = absurd here

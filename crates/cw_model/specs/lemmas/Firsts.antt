@@ -1,4 +1,4 @@
--- One byte is the first that is not ASCII.
+-- Only one position is the first that is not ASCII.
 use Rattle.std.proofs.Common.{◌≡◌, ℕ, ◌<◌, ◌≤◌, List, ◌⊎◌, inl, inr, arith}
 use Rattle.std.proofs.lemmas.Bool.{cases_lt}
 use Rattle.cw_model.specs.Text.{IsFirstAbove}

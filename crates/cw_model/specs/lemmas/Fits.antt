@@ -1,4 +1,4 @@
--- What typing says of arrays and arguments, whether or not they may be written.
+-- Consequences of typing for arrays and arguments, whether writable or not.
 use Rattle.std.specs.Prelude.{◌≡◌, Bool, true, false, ◌&&◌, if◌then◌else◌, List, [], ◌∷◌}
 use Rattle.std.proofs.Common.{refl}
 use Rattle.std.specs.List.{list_all}
@@ -10,19 +10,19 @@ use Rattle.cw_model.specs.Syntax.{is_array_kind, is_written_kind, wants_array}
 use Rattle.cw_model.specs.Names.{same_name}
 use Rattle.cw_model.specs.Typing.{Known, is_fine, is_array, is_writable, is_argument, are_arguments}
 
--- an expression for an integer, and an array alone for an array
+-- the argument fits a parameter, apart from whether an array is writable
 abbrev pub fits_kind : Known → (array : Bool) → Expr → Bool
 fits_kind known false e = is_fine known e
 fits_kind known true (Variable a) = is_array known a
 fits_kind known true _ = false
 
--- one argument for each parameter
+-- there is one fitting argument for each parameter, apart from whether arrays are writable
 abbrev pub fit_kinds : Known → List Param → List Expr → Bool
 fit_kinds known [] [] = true
 fit_kinds known (p ∷ ps) (e ∷ es) = fits_kind known (wants_array p) e && fit_kinds known ps es
 fit_kinds known _ _ = false
 
--- what may be written is an array
+-- a writable name is an array
 pub written_is_array : (k : NameKind) → is_written_kind k ≡ true → is_array_kind k ≡ true
 written_is_array name_kind.Integer h = cc
 written_is_array name_kind.Array h = refl

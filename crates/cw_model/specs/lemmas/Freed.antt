@@ -1,4 +1,4 @@
--- A tree with free sites: it keeps the grouping, and looks at no site that is not in the tree.
+-- A tree with zero-cost sites keeps its grouping, and depends only on the sites in it.
 use Rattle.std.proofs.Common.{◌≡◌, ℕ, ◌+◌, ◌<◌, Bool, true, false, refl}
 use Rattle.std.specs.Prelude.{nat_lt, if◌then◌else◌}
 use Rattle.std.proofs.lemmas.Bool.{and_parts, ltb-true}

@@ -1,4 +1,4 @@
--- Rules that are kept: neither of two lists has a line.
+-- Rules that are kept: if a concatenation of lines is empty, both lists are.
 use Rattle.std.proofs.Common.{◌≡◌, ℕ, Bool, true, false, List, [], ◌∷◌, ◌++◌, refl}
 use Rattle.cw_model.specs.Lines.{unless}
 
@@ -10,7 +10,7 @@ pub right_none : (xs ys : List ℕ) → xs ++ ys ≡ [] → ys ≡ []
 right_none [] ys h = h
 right_none (x ∷ xs) ys h = cc
 
--- a rule that no line breaks
+-- a rule is kept if it has no line
 pub kept : (b : Bool) (line : ℕ) → unless b line ≡ [] → b ≡ true
 kept true line h = refl
 kept false line h = cc

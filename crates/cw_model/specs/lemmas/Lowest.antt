@@ -1,4 +1,4 @@
--- The least of lines, in whatever order they are noted.
+-- The lowest of a list of lines does not depend on the order.
 use Rattle.std.proofs.Common.{◌≡◌, ℕ, ◌≤◌, Bool, true, false, nat_le, if◌then◌else◌, List, [], ◌∷◌, ◌++◌, Option}
 use Rattle.std.proofs.Common.{Some, None, All, Contains, ◌⊎◌, refl, sym, ap, ◌∙◌, arith, inl, inr, subst}
 use Rattle.std.proofs.lemmas.List.Elements.{All-cons, All-contains, Contains-append_left, Contains-append_right}
@@ -19,12 +19,12 @@ lowest-lesser : (o : Option ℕ) (x : ℕ) (ys : List ℕ) → lowest (lesser o 
 lowest-lesser o x [] = refl
 lowest-lesser o x (y ∷ ys) = ap (λ p. lowest p ys) (lesser-lesser o x y) ∙ lowest-lesser (lesser o y) x ys
 
--- the order of the lines says nothing
+-- the order of the lines does not matter
 pub lowest-swap : (o : Option ℕ) (xs ys : List ℕ) → lowest (lowest o xs) ys ≡ lowest (lowest o ys) xs
 lowest-swap o [] ys = refl
 lowest-swap o (x ∷ xs) ys = lowest-swap (lesser o x) xs ys ∙ ap (λ p. lowest p xs) (lowest-lesser o x ys)
 
--- what the least of lines is
+-- the lowest line of a list, after `m`, with its properties
 record Lowest (m : ℕ) (xs : List ℕ) : Type 0 where
   pub least : ℕ
   pub is : lowest (Some m) xs ≡ Some least
@@ -81,13 +81,13 @@ least_line (x ∷ xs) n h =
       least = All-cons (λ o. l.least ≤ o) x xs l.below l.all;
     })
 
--- no line is the least of none
+-- an empty list has no lowest line
 pub no_least : (lines : List ℕ) (line : ℕ) → lines ≡ [] → IsLeastLine lines line → ⊥
 no_least lines line none least =
     let P : List ℕ → Type 0 = λ ls. Contains ls line in
     All-contains (λ _. ⊥) [] line (λ k d h. omega (arith, h)) (subst P none least.there)
 
--- there is one least line
+-- a list has at most one lowest line
 pub one_least : (lines : List ℕ) (l m : ℕ) → IsLeastLine lines l → IsLeastLine lines m → l ≡ m
 one_least lines l m a b =
     let le = All-contains (λ other. l ≤ other) lines m a.least b.there in

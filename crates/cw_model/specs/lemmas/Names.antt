@@ -1,4 +1,4 @@
--- Names that are compared, and those of parameters.
+-- Comparison of names, and the names of parameters.
 use Rattle.std.proofs.Common.{◌≡◌, ◌∙◌, Bool, true, false, List, [], ◌∷◌, ◌++◌, refl, sym, ap}
 use Rattle.std.specs.Prelude.{if◌then◌else◌, map}
 use Rattle.std.proofs.lemmas.Slice.Eq.{bytes_eq-Decides}
@@ -45,7 +45,7 @@ among_push x (k ∷ ks) n kind = go (same_name x k.0) (same_name x n) (among_pus
     go true false h = refl
     go false q h = h
 
--- those that are known of them are these
+-- the names that are in scope for the parameters are the names of the parameters
 pub heads_are : (x : Name) (ps : List Param) → is_among x (map (λ k. k.0) (known_of ps)) ≡ is_among x (names_of ps)
 heads_are x [] = refl
 heads_are x (p ∷ ps) =

@@ -1,10 +1,10 @@
--- The tree of a list of events, up to how it is grouped.
+-- The tree of a list of events, up to grouping.
 use Rattle.std.proofs.Common.{ℕ, zero, suc, List, [], ◌∷◌, ◌++◌, add-one, add_comm}
 use Rattle.cw_model.specs.Trees.{Tree, Leaf, Seq, Par, Event, Series, Fork, Join, works, parts_of, tree_of}
 use Rattle.cw_model.specs.TreeLaws.{Regrouped, same, back, further, to_the_right, as_one_strand, nothing_before}
 use Rattle.cw_model.specs.TreeLaws.{in_series, in_fork}
 
--- the two parts of a list of events, each grouped in some way
+-- the two trees of a list of events, each up to grouping
 pub record PartsAre (events : List Event) (first second : Tree) : Type 0 where
   pub to_join : Regrouped (parts_of events).0 first
   pub beyond : Regrouped (parts_of events).1 second

@@ -1,4 +1,4 @@
--- Trees that differ only in grouping have one normal form, and all that is read off them is the same.
+-- Trees that differ only in grouping have one normal form and equal measures.
 use Rattle.std.proofs.Common.{◌≡◌, ℕ, zero, suc, ◌+◌, Bool, true, false, List, [], ◌∷◌, ◌++◌, arith, refl, sym, ◌∙◌}
 use Rattle.std.proofs.Common.{ap, add-zero, suc-add, append_assoc, append-nil}
 use Prim.Native.Nat.add
@@ -14,7 +14,7 @@ use Rattle.cw_model.specs.Rows.{calls_of}
 use Rattle.cw_model.specs.TreeLaws.{Regrouped, same, back, further, to_the_right, as_one_strand, nothing_before}
 use Rattle.cw_model.specs.TreeLaws.{nothing_after, in_series, in_fork, in_mark, ReadSame}
 
--- two strands before a tree are one
+-- two strands before a tree merge into one
 leaf-leaf_before : (j k : ℕ) (t : Tree) → leaf_before j (leaf_before k t) ≡ leaf_before (j + k) t
 leaf-leaf_before zero k t = rw add.zero refl
 leaf-leaf_before (suc j) zero t = rw add-zero refl
@@ -38,7 +38,7 @@ same_before (in_series {a = a} {a' = a'} {b = b} {b' = b'} r s) later =
 same_before (in_fork r s) later = rw (same_before r (Leaf 0), same_before s (Leaf 0)) refl
 same_before (in_mark mark r) later = rw (same_before r (Leaf 0)) refl
 
--- a strand before a tree is one in series with it
+-- a strand before a tree equals, up to grouping, the series of both
 leaf_is_before : (k : ℕ) (t : Tree) → Regrouped (leaf_before k t) (Seq (Leaf k) t)
 leaf_is_before zero t = back (nothing_before t)
 leaf_is_before (suc k) (Leaf j) = back (as_one_strand (suc k) j)
@@ -63,18 +63,18 @@ is_before (Marked mark t) later =
     further (part_is_before (Marked mark (before t (Leaf 0))) later)
     (in_series (in_mark mark (further (is_before t (Leaf 0)) (nothing_after t))) (same later))
 
--- a tree's normal form is the tree, grouped otherwise
+-- the normal form of a tree differs from the tree only in grouping
 pub normal_is_regrouped : (t : Tree) → Regrouped (normal t) t
 normal_is_regrouped t = further (is_before t (Leaf 0)) (nothing_after t)
 
--- what differs only in grouping has one normal form
+-- trees that differ only in grouping have the same normal form
 pub same_normal : (t u : Tree) → Regrouped t u → normal t ≡ normal u
 same_normal t u r = same_before r (Leaf 0)
 
 pub normal-normal : (t : Tree) → normal (normal t) ≡ normal t
 normal-normal t = same_normal (normal t) t (normal_is_regrouped t)
 
--- the readings
+-- Each measure is equal for trees that differ only in grouping.
 
 same_work : {t u : Tree} → Regrouped t u → work t ≡ work u
 same_work (same t) = refl
@@ -118,7 +118,7 @@ weight-append site xs ys =
     rw filter-append (sum_by-append (λ (leaf : ℕ × ℕ). leaf.1) (filter (λ leaf. leaf.0 == site) xs)
     (filter (λ leaf. leaf.0 == site) ys))
 
--- a leaf's weight is a site's, or none of it
+-- the weight of a leaf if it belongs to the site, otherwise 0
 abbrev pub weight_if : Bool → ℕ → ℕ
 weight_if true k = k
 weight_if false k = 0
@@ -178,7 +178,7 @@ same_leaves site outer (in_fork {child = a} {child' = a'} {rest = b} {rest' = b'
     ) refl
 same_leaves site outer (in_mark mark r) = same_leaves site (site_inside mark outer) r
 
--- the same choice between what weighs the same
+-- a choice by equal weights between lists of equal weights
 same_choice : (site : ℕ) (m n m' n' : ℕ) (xs ys xs' ys' : List (ℕ × ℕ)) → m ≡ m' → n ≡ n' →
     weight_of_site site xs ≡ weight_of_site site xs' → weight_of_site site ys ≡ weight_of_site site ys' →
     weight_of_site site (if nat_le m n then xs else ys) ≡ weight_of_site site (if nat_le m' n' then xs' else ys')
@@ -216,7 +216,7 @@ same_chosen site outer (in_fork {child = a} {child' = a'} {rest = b} {rest' = b'
     (same_chosen site outer r) (same_chosen site outer s)
 same_chosen site outer (in_mark mark r) = same_chosen site (site_inside mark outer) r
 
--- a reading of the marked parts, summed over the outermost ones
+-- a sum of a measure over the outermost marked parts
 module _ (reading : Tree → ℕ) (marked : Mark → Bool) (keeps : (t u : Tree) → Regrouped t u → reading t ≡ reading u)
   where
     same_outermost : {t u : Tree} → Regrouped t u

@@ -1,4 +1,4 @@
--- The span of a tree is no more than its work.
+-- The span of a tree is at most its work.
 use Rattle.std.proofs.Common.{◌≤◌, arith}
 use Rattle.cw_model.specs.Trees.{Tree, Leaf, Seq, Par, Marked, work, span}
 

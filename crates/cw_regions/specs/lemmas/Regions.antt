@@ -1,4 +1,4 @@
--- Lemmas of region tables: what lies outside of regions needs no call.
+-- Lemmas about region tables: events outside of regions need no call.
 use Rattle.std.specs.Prelude.{◌≡◌, ℕ, false, List, [], ◌∷◌, ◌++◌, Option, Some, None, refl}
 use Rattle.cw_model.specs.declared.burden.Burden.{Burden}
 use Rattle.cw_model.specs.Syntax.{Name}
@@ -12,7 +12,7 @@ use Rattle.cw_regions.specs.declared.table.RegionTable.{RegionTable}
 use Rattle.cw_regions.specs.RegionRows.{row_of, work_tally, span_tally, burdened_tally}
 use Rattle.cw_regions.specs.Regions.{Readings, Tags, CountsTag, IsNoExecution, RegionsNeedNoCall}
 
--- a row for each of its tallies
+-- a row, by each of its tallies
 row_work : (burden : Burden) (along : Readings burden) (tag : Name) (busy : ℕ) (os : List Open) (es : List Event)
     (r : Row)
     (k : ℕ) → CountsTag burden along tag busy os es r → CountsTag burden along tag busy os (es ++ Work k ∷ []) r
@@ -55,7 +55,7 @@ row_other_left burden along tag busy o os es r e h = record {
       h.burdened_is;
 }
 
--- parts that are no execution
+-- parts that are not executions
 no_execution : (mark : Option Mark) (tag : Name) → IsNoExecution mark → is_counted (is_tag tag) mark ≡ false
 no_execution None tag h = refl
 no_execution (Some (Invocation site)) tag h = refl

@@ -1,4 +1,4 @@
-//! Mains with arrays, and what their reducers come to.
+//! Mains with arrays, and the totals of their reducers.
 
 use crate::machine::{Row, Setting, Wanted, holds};
 use crate::programs::{Around, Part};
@@ -8,7 +8,7 @@ use cw_model::total::Total;
 
 const END: Instr = Instr::ReturnValue;
 
-/// A main with two integer slots and five array slots.
+/// A `main` with two integer slots and five array slots.
 pub(crate) const MAIN: Part = Part {
     gives_int: true,
     params: 0,
@@ -18,7 +18,7 @@ pub(crate) const MAIN: Part = Part {
     body: &[],
 };
 
-/// Such a main with nothing beside it, and two reducers: the greatest, and a sum.
+/// A `main` without other functions, with two reducers: a maximum and a sum.
 pub(crate) const ALONE: Around = Around {
     main: MAIN,
     others: &[],
@@ -27,16 +27,16 @@ pub(crate) const ALONE: Around = Around {
     tags: &[],
 };
 
-/// The same.
+/// `ALONE`, as a static.
 pub(crate) static ARRAYS: Around = ALONE;
 
-/// The same whose first integer slot is a parameter.
+/// `ALONE`, with a parameter in the first integer slot.
 pub(crate) static ARRAYS_OF_ONE: Around = Around {
     main: Part { params: 1, ..MAIN },
     ..ALONE
 };
 
-/// What the two reducers come to where they are told nothing.
+/// The totals of the two reducers without updates.
 pub(crate) const NEITHER: &[Total] = &[Total::Max(None), Total::Sum(0)];
 
 static ONE_ARRAY: [Row; 7] = [
@@ -64,7 +64,7 @@ static ONE_ARRAY: [Row; 7] = [
         cost: 7,
         wanted: Wanted::Ends(3, &[], NEITHER),
     },
-    // one past the end, and before the first; what was printed before stays
+    // one index after the end, and one before the start; what was printed before stays
     Row {
         name: "a read outside",
         setting: Setting::ArraysOfOne,
@@ -163,7 +163,7 @@ static SUMS: [Row; 2] = [
             &[Total::Max(Some(5)), Total::Sum(-18_446_744_073_709_551_616)],
         ),
     },
-    // four turns of 12, the last test of 4, and 12 around them
+    // four iterations of 12, the last test of 4, and 12 around them
     Row {
         name: "a[i] for i = 2, 4 .. below 10 becomes 1, and then a[4] * 10 + a[5]",
         setting: Setting::Arrays,

@@ -16,7 +16,7 @@ const INTO_THIRD: Instr = Instr::Call(
     },
 );
 
-// The same into the second slot.
+// A spawned difference, into the second slot.
 const INTO_SECOND: Instr = Instr::Call(
     CallKind::Spawned,
     Callee {

@@ -12,7 +12,7 @@ const PLUS: Instr = Instr::Binary(Operator::Plus, 2);
 
 const TIMES: Instr = Instr::Binary(Operator::Times, 2);
 
-// int f(int a[]) { a[0] = 7; return len(a); } at five instructions
+// `int f(int a[]) { a[0] = 7; return len(a); }`, which costs five instructions.
 const FILL: Part = Part {
     gives_int: true,
     params: 0,
@@ -28,29 +28,29 @@ const FILL: Part = Part {
     ],
 };
 
-/// Beside main a function that sets the first element of an array to 7 and gives the array's length at five
-/// instructions. It takes main's array 2.
+/// A `main` with a function that sets the first element of an array to 7 and returns the array's length, for five
+/// instructions. It takes the array 2 of `main`.
 pub(crate) static FILLED: Around = Around {
     others: &[FILL],
     passed: &[&[2]],
     ..ALONE
 };
 
-/// The same that takes main's array 4.
+/// `FILLED`, with a function that takes the array 4 of `main`.
 pub(crate) static FILLED_PART: Around = Around {
     others: &[FILL],
     passed: &[&[4]],
     ..ALONE
 };
 
-/// The same that takes main's array 0 or 1.
+/// `FILLED`, with a function that takes the array 0 or 1 of `main`.
 pub(crate) static FILLED_TWO: Around = Around {
     others: &[FILL],
     passed: &[&[0], &[1]],
     ..ALONE
 };
 
-// The first array's two parts.
+// The two parts of the first array.
 const FIRST: Halves = Halves {
     array: 0,
     left: 1,
@@ -64,20 +64,20 @@ const SECOND: Halves = Halves {
     right: 4,
 };
 
-// A call of that function, whose result goes into the first slot.
+// A call of `FILL`, whose result goes into the first slot.
 const FILLS: Callee = Callee {
     target: Some(0),
     ..CALLED
 };
 
-/// The same spawned.
+/// A spawn of `FILL`, whose result goes into the first slot.
 pub(crate) const FILLS_BESIDE: Callee = Callee {
     target: Some(0),
     ..SPAWNED
 };
 
 static CUTS: [Row; 5] = [
-    // a is 5, 7, 0, the call gives 2 and a part is empty after it: 7 + 2 + 50 + 0
+    // `a` is 5, 7, 0, the call returns 2, and a part is empty after it: 7 + 2 + 50 + 0
     Row {
         name: "a of 3 is cut at 1, the right part is filled by a spawned call, and the left one here",
         setting: Setting::Filled,
@@ -110,7 +110,7 @@ static CUTS: [Row; 5] = [
         cost: 28,
         wanted: Wanted::Ends(59, &[], NEITHER),
     },
-    // a of 4 at 3, then its left part at 1, whose right part has the places 1 and 2
+    // `a` of 4 at 3, then its left part at 1, whose right part has the elements 1 and 2
     Row {
         name: "parts of parts",
         setting: Setting::FilledPart,
@@ -187,8 +187,7 @@ const CUT_AT: &[Instr] = &[
     END,
 ];
 
-// A function of two arrays that passes the first one on to be filled, and sets the first element of the second one to
-// 3.
+// A function of two arrays that passes the first one on to `FILL`, and sets the first element of the second one to 3.
 const SWAP: Part = Part {
     gives_int: true,
     params: 0,
@@ -207,7 +206,7 @@ const SWAP: Part = Part {
     ],
 };
 
-/// Beside main both these functions: the first one takes an array of SWAP's, and SWAP main's in the other order.
+/// Both functions: `FILL` takes an array of `SWAP`, and `SWAP` takes the arrays of `main` in the other order.
 pub(crate) static SWAPPED: Around = Around {
     others: &[FILL, SWAP],
     passed: &[&[0], &[1, 0]],
@@ -215,7 +214,7 @@ pub(crate) static SWAPPED: Around = Around {
 };
 
 static PASSING: [Row; 2] = [
-    // 7 + 7 + 2 + 1 at 17 and two calls of five
+    // 7 + 7 + 2 + 1, with 17 instructions and two calls of five
     Row {
         name: "a spawned call has the array up to the join, and another array is made meanwhile",
         setting: Setting::FilledTwo,
@@ -249,7 +248,7 @@ static PASSING: [Row; 2] = [
         cost: 27,
         wanted: Wanted::Ends(17, &[], NEITHER),
     },
-    // swap takes 1 and 0: its first array, of 6, is filled with 7, and its second one with 3
+    // `SWAP` takes 1 and 0: its first array, of 6, is filled with 7, and its second one with 3
     Row {
         name: "two arrays in the other order, through a call that passes one on",
         setting: Setting::Swapped,

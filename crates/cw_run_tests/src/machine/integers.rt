@@ -1,4 +1,4 @@
-//! Mains on integers alone: values, loops and traps.
+//! Mains on integers only: values, loops and traps.
 
 use crate::machine::{Row, Setting, UNTOLD, Wanted, holds};
 use cw_code::code::{Callee, Instr, UnaryOperator};
@@ -68,7 +68,7 @@ static VALUES: [Row; 6] = [
     },
 ];
 
-// The sum of 1 up to the argument: a turn is 11 instructions, and the end 4.
+// The sum of 1 up to the argument: an iteration costs 11 instructions, and the end costs 4.
 const SUM: &[Instr] = &[
     Instr::Load(0),
     Instr::SkipIfZero(9),
@@ -120,7 +120,7 @@ static LOOPS: [Row; 4] = [
     },
 ];
 
-// A print of 4, and then 1 by the argument.
+// Prints 4, then divides 1 by the argument.
 const DIVISION: &[Instr] = &[
     Instr::Push(4),
     Instr::Print,
@@ -130,7 +130,7 @@ const DIVISION: &[Instr] = &[
     END,
 ];
 
-// A call of main by itself, whose result goes into the second slot.
+// A recursive call of `main`, whose result goes into the second slot.
 const AGAIN: Callee = Callee {
     function: 0,
     site: 1,

@@ -1,4 +1,4 @@
-//! Loops by halves over an array.
+//! Divide-and-conquer loops over an array.
 
 use crate::machine::arrays::{ALONE, MAIN, NEITHER};
 use crate::machine::{Row, Setting, Wanted, holds};
@@ -6,7 +6,7 @@ use crate::programs::{Around, Part};
 use cw_code::code::{BlockKind, Halves, Inner, Instr};
 use cw_model::syntax::{CallKind, Operator};
 
-// A part that a loop's function gives to itself.
+// The array slots that a loop's function passes to itself.
 const LEFT: Inner = Inner {
     function: 1,
     passed: 0,
@@ -17,7 +17,7 @@ const RIGHT: Inner = Inner {
     passed: 1,
 };
 
-// A loop's function by halves: a leaf where the range is one turn, in which a[i] becomes i.
+// The function of a divide-and-conquer loop: a leaf if the range has one iteration, in which `a[i]` becomes `i`.
 const HALVING: Part = Part {
     gives_int: false,
     params: 2,
@@ -80,7 +80,7 @@ const HALVING: Part = Part {
     ],
 };
 
-/// A main with three parameters, and that loop beside it.
+/// A `main` with three parameters, and the loop's function.
 pub(crate) static HALVED: Around = Around {
     main: Part {
         params: 3,
@@ -92,8 +92,8 @@ pub(crate) static HALVED: Around = Around {
     ..ALONE
 };
 
-/// Makes an array of 3, starts the loop on the range that the first two arguments bound, and gives the element at the
-/// third.
+/// Makes an array of 3, starts the loop on the range with the first two arguments as bounds, and returns the element
+/// at the third.
 pub(crate) const LOOPING: &[Instr] = &[
     Instr::Push(3),
     Instr::NewArray(0, 1),
@@ -112,7 +112,7 @@ pub(crate) const LOOPING: &[Instr] = &[
 ];
 
 static TURNS: [Row; 7] = [
-    // two leaves of 30 and a node of 26 in 8
+    // two leaves of 30 and a node of 26, with 8 around them
     Row {
         name: "two leaves, the second one's element",
         setting: Setting::Halved,
@@ -145,7 +145,7 @@ static TURNS: [Row; 7] = [
         cost: 38,
         wanted: Wanted::Ends(2, &[], NEITHER),
     },
-    // a leaf of 14, wherever the range lies
+    // a leaf of 14, wherever the range is
     Row {
         name: "no turn",
         setting: Setting::Halved,

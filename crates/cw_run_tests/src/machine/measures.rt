@@ -1,4 +1,4 @@
-//! What is counted of small runs, worked out by hand on their strand trees.
+//! The measures of small runs, worked out by hand on their strand trees.
 
 use crate::machine::arrays::ALONE;
 use crate::machine::cuts::FILLS_BESIDE;
@@ -18,8 +18,8 @@ type Site = (u64, u64, u64, u64, u64);
 /// The work, span and burdened span of a run or of a tag.
 type Spans = (u64, u64, u128);
 
-// A main on its arguments, with a burden of 10 on these edges, its value, what is counted of it, the count of its rows
-// of sites, those of them that were worked out, and all its rows of tags.
+// A `main` with its arguments and a burden of 10 on these edges: its value, its measures, the number of its rows of
+// sites, the rows that were worked out, and all its rows of tags.
 #[derive(Clone, Copy)]
 struct Counted {
     name: &'static str,
@@ -34,7 +34,7 @@ struct Counted {
     regions: &'static [(&'static str, Spans)],
 }
 
-// Whether a site has such a row.
+// Returns whether a site has this row.
 fn has_site(ended: &Ended, number: u32, hand: Site) -> bool {
     match ended.sites.get(&number) {
         Some(row) => (row.calls, row.own_work, row.own_span, row.work, row.span) == hand,
@@ -42,7 +42,7 @@ fn has_site(ended: &Ended, number: u32, hand: Site) -> bool {
     }
 }
 
-// Whether there are so many rows of sites, and these among them.
+// Returns whether there are this many rows of sites, including these.
 fn has_sites(ended: &Ended, count: usize, sites: &[(u32, Site)]) -> bool {
     for (number, hand) in sites {
         if !has_site(ended, *number, *hand) {
@@ -52,7 +52,7 @@ fn has_sites(ended: &Ended, count: usize, sites: &[(u32, Site)]) -> bool {
     ended.sites.len() == count
 }
 
-// Whether a tag has such a row.
+// Returns whether a tag has this row.
 fn has_region(ended: &Ended, tag: &[u8], hand: Spans) -> bool {
     match ended.regions.get(tag) {
         Some(row) => (row.work, row.span, row.burdened) == hand,
@@ -60,7 +60,7 @@ fn has_region(ended: &Ended, tag: &[u8], hand: Spans) -> bool {
     }
 }
 
-// Whether these are the rows of tags.
+// Returns whether these are the rows of tags.
 fn has_regions(ended: &Ended, regions: &[(&str, Spans)]) -> bool {
     for (tag, hand) in regions {
         if !has_region(ended, tag.as_bytes(), *hand) {
@@ -70,7 +70,7 @@ fn has_regions(ended: &Ended, regions: &[(&str, Spans)]) -> bool {
     ended.regions.len() == regions.len()
 }
 
-// Whether a run is the one that was worked out.
+// Returns whether a run has the values that were worked out.
 fn is_counted(ended: &Ended, counted: &Counted) -> bool {
     let Ended { value, measure, .. } = ended;
     *value == counted.value
@@ -79,7 +79,7 @@ fn is_counted(ended: &Ended, counted: &Counted) -> bool {
         && has_regions(ended, counted.regions)
 }
 
-// Whether a run comes to what was worked out.
+// Executes a run, and returns whether it has the values that were worked out.
 fn holds(alloc: Global, counted: &Counted) -> Result<bool, Fault> {
     let burden = Burden {
         charge: 10,
@@ -90,8 +90,8 @@ fn holds(alloc: Global, counted: &Counted) -> Result<bool, Fault> {
     Ok(is_counted(&ended, counted))
 }
 
-// int fib(int n) { if (n < 2) return n; a = spawn fib(n - 1); b = fib(n - 2); sync; return a + b; }: 8 instructions up
-// to the spawn, 4 beside the child, and 5 after the join; 6 where n is below 2.
+// `int fib(int n) { if (n < 2) return n; a = spawn fib(n - 1); b = fib(n - 2); sync; return a + b; }`: 8 instructions
+// up to the spawn, 4 in parallel with the child, and 5 after the join; 6 if n is below 2.
 const FIB: Part = Part {
     gives_int: true,
     params: 1,
@@ -133,7 +133,7 @@ const FIB: Part = Part {
     ],
 };
 
-/// Main, and beside it the numbers of Fibonacci by spawns.
+/// A `main`, and the Fibonacci numbers by spawns.
 pub(crate) static BESIDE_FIB: Around = Around {
     others: &[FIB],
     passed: &[&[]],
@@ -172,11 +172,11 @@ static FIBS: [Counted; 2] = [
             (0, (1, 4, 4, 171, 66)),
             (1, (0, 0, 0, 0, 0)),
             (2, (0, 0, 0, 0, 0)),
-            // in place: of n = 5, 3, 2, 1, 1, 0, 0, 0, all inside the first; the chosen path goes by the spawned
-            // children of 5, 4 and 3 and then, in fib(2), by the rest with fib(0)
+            // plain calls: n = 5, 3, 2, 1, 1, 0, 0, 0, all inside the first; the chosen path goes through the spawned
+            // children of 5, 4 and 3 and then, in fib(2), through the continuation with fib(0)
             (3, (8, 81, 19, 167, 62)),
-            // spawned: of n = 4, 3, 2, 2, 1, 1, 1; in no other one of them lie that of 4 and that of 2 in the second
-            // fib(3)
+            // spawned calls: n = 4, 3, 2, 2, 1, 1, 1; the outermost ones are the call of 4 and the call of 2 in the
+            // second fib(3)
             (4, (7, 86, 43, 127, 72)),
         ],
         regions: &[],
@@ -213,7 +213,7 @@ const INTO_SECOND: Instr = Instr::Call(
     },
 );
 
-// A spawn, and beside it a sync block that spawns and joins at its end: 3, child 4; 1, (3, child 4), 1, 2; 1 and 2.
+// A spawn, and in parallel a sync block that spawns and joins at its end: 3, child 4; 1, (3, child 4), 1, 2; 1 and 2.
 const SCOPE: &[Instr] = &[
     Instr::Push(9),
     Instr::Push(2),
@@ -230,7 +230,7 @@ const SCOPE: &[Instr] = &[
     Instr::ReturnValue,
 ];
 
-// The same with a region.
+// A spawn, and in parallel a region that spawns and joins at its end, with the numbers of `SCOPE`.
 const REGION: &[Instr] = &[
     Instr::Push(9),
     Instr::Push(2),
@@ -247,7 +247,7 @@ const REGION: &[Instr] = &[
     Instr::ReturnValue,
 ];
 
-// The value is 9 less 2.
+// The value is 9 minus 2.
 static BLOCKS: [Counted; 3] = [
     // 3 + max(4, 1 + 7 + 1 + 2) + 3; the block with burdens is 3 + max(4, 10)
     Counted {
@@ -274,7 +274,7 @@ static BLOCKS: [Counted; 3] = [
         sites: &[(0, (1, 13, 13, 21, 17)), (4, (2, 8, 4, 8, 8))],
         regions: &[("", (7, 7, 13))],
     },
-    // on both edges the block is 3 + max(14, 10), and the children still take less than the rests
+    // on both edges the block is 3 + max(14, 10), and the children are still lighter than the continuations
     Counted {
         name: "a region, on both edges",
         setting: Setting::Small,
@@ -290,7 +290,8 @@ static BLOCKS: [Counted; 3] = [
 ];
 
 static REGIONS: [Counted; 2] = [
-    // so many turns of 11 instructions as the argument says, 2 of each in a region, and 4 at the end
+    // the argument is the number of iterations, of 11 instructions each, 2 of them in a region, with 4 instructions
+    // at the end
     Counted {
         name: "turns with a region in each",
         setting: Setting::Small,
@@ -317,7 +318,7 @@ static REGIONS: [Counted; 2] = [
         sites: &[],
         regions: &[("", (6, 6, 6))],
     },
-    // after a spawn of 4 that the outer one joins: 3, child 4; 1, 2, 1
+    // after a spawn of 4 that the outer region joins: 3, child 4; 1, 2, 1
     Counted {
         name: "a region in one of the same tag",
         setting: Setting::Small,
@@ -345,7 +346,7 @@ static REGIONS: [Counted; 2] = [
     },
 ];
 
-// 6 up to the cut; in it a spawn, child 5 beside 3; and 4 after it
+// 6 up to the cut; in it a spawn, child 5 in parallel with 3; and 4 after it
 const CUT: &[Instr] = &[
     Instr::Push(3),
     Instr::NewArray(0, 2),
@@ -383,7 +384,7 @@ static CUTS: [Counted; 2] = [
         sites: &[(0, (1, 14, 11, 19, 16)), (4, (1, 5, 5, 5, 5))],
         regions: &[],
     },
-    // the child takes 15, and the rest 13
+    // the child takes 15, and the continuation 13
     Counted {
         name: "a cut, on both edges",
         setting: Setting::Filled,
@@ -399,7 +400,8 @@ static CUTS: [Counted; 2] = [
 ];
 
 static LOOPS: [Counted; 2] = [
-    // 8 of main round a node: 18 up to its cut; in it 3, a half of 30 beside 3 and the other half of 30; and 2 after it
+    // 8 of `main` around a node: 18 up to its cut; in it 3, a half of 30 in parallel with 3 and the other half of 30;
+    // and 2 after it
     Counted {
         name: "a loop by halves",
         setting: Setting::Halved,
@@ -410,14 +412,14 @@ static LOOPS: [Counted; 2] = [
         measure: (94, 64, 74),
         site_count: 5,
         sites: &[
-            // what a loop's functions do is main's own
+            // the instructions of a loop's functions belong to `main`
             (0, (1, 94, 64, 94, 64)),
             (3, (0, 0, 0, 0, 0)),
             (4, (0, 0, 0, 0, 0)),
         ],
         regions: &[],
     },
-    // the first half takes 40 beside the other one's 43
+    // the first half takes 40, in parallel with the other one's 43
     Counted {
         name: "a loop by halves, on both edges",
         setting: Setting::Halved,

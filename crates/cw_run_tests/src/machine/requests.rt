@@ -1,4 +1,4 @@
-//! Arguments, limits and burdens that a run refuses.
+//! Arguments, limits and burdens that a run rejects.
 
 use crate::machine::{MOST, Setting, code_in};
 use cw_code::code::Instr;
@@ -11,7 +11,7 @@ use std::alloc::Global;
 use std::sync::Arc;
 
 // A run of four instructions on one argument, with these arguments, this limit and this charge, and the number of its
-// refusal, or 0 where it ends with its value.
+// fault, or 0 if it finishes with its value.
 #[derive(Clone, Copy)]
 struct Request {
     name: &'static str,
@@ -96,7 +96,7 @@ impl Request {
     }
 }
 
-// The number of the refusal of a run.
+// Returns the number of the fault of a run.
 fn refusal(alloc: Global, code: Arc<Verified>, request: &Request) -> u8 {
     match run_alone(alloc, code, request.args, request.limit, request.burden()) {
         Ok(_) => 0,
@@ -104,7 +104,7 @@ fn refusal(alloc: Global, code: Arc<Verified>, request: &Request) -> u8 {
     }
 }
 
-// The same with nothing counted.
+// Returns the number of the fault of a run of values only.
 fn plain_refusal(alloc: Global, code: Arc<Verified>, request: &Request) -> u8 {
     match values_alone(alloc, code, request.args, request.limit, request.burden()) {
         Ok(_) => 0,
@@ -112,7 +112,7 @@ fn plain_refusal(alloc: Global, code: Arc<Verified>, request: &Request) -> u8 {
     }
 }
 
-// Whether both runs are answered so.
+// Returns whether both runs have this result.
 fn is_answered(alloc: Global, request: &Request) -> Result<bool, Fault> {
     let code = code_in(alloc, Setting::Small, BODY)?;
     let counted = refusal(alloc, Arc::try_clone(&code)?, request);

@@ -7,7 +7,7 @@ use cw_schedule::schedules::{Schedule, schedule_alone};
 use cw_text::Fault;
 use std::alloc::Global;
 
-// fib(4), of a main that takes no arguments.
+// fib(4), of a `main` without arguments.
 const FIB_OF_4: &[Instr] = &[
     Instr::Push(4),
     INTO_FIRST,
@@ -15,20 +15,20 @@ const FIB_OF_4: &[Instr] = &[
     Instr::ReturnValue,
 ];
 
-// Its schedule within a limit.
+// Returns the schedule of fib(4) within a limit.
 fn scheduled(alloc: Global, args: &[i64], limit: u64, processors: u64) -> Result<Schedule, Fault> {
     let code = code_in(alloc, Setting::Fib, FIB_OF_4)?;
     schedule_alone(alloc, code, args, limit, processors)
 }
 
-// The steps on so many processors: on one as many as its work, on three or more as its span. On two there are two
-// strands to run in 36 steps, and one in 30.
+// The number of steps on each number of processors: on one it is the work, on three or more the span. On two, there
+// are two ready strands in 36 steps, and one in 30.
 static STEPS: [(u64, u64); 4] = [(1, 102), (2, 66), (3, 53), (1_000_000, 53)];
 
-// Each holds within each of these limits.
+// Each case holds within each of these limits.
 static LIMITS: [u64; 3] = [102, 1_000_000, MOST];
 
-// Whether the schedule within a limit on so many processors takes so many steps.
+// Returns whether the schedule within a limit on this number of processors takes this number of steps.
 fn takes(alloc: Global, limit: u64, processors: u64, greedy: u64) -> bool {
     match scheduled(alloc, &[], limit, processors) {
         Ok(schedule) => {
@@ -53,7 +53,7 @@ fn fib(rt: HostRuntime) {
     }
 }
 
-// The arguments, the limit and the processors, and the number of the fault, or 0 where there is a schedule.
+// The arguments, the limit and the processors, and the number of the fault, or 0 if there is a schedule.
 static REFUSALS: [(&[i64], u64, u64, u8); 7] = [
     (&[], 102, 1, 0),
     (&[], 101, 1, 7),

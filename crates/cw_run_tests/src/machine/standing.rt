@@ -1,5 +1,5 @@
-//! How runs stand that trap: the values of the instruction that traps, and what is round it. Each at its cost, and over
-//! its limit at one less.
+//! The states of runs at a trap: the operands of the instruction that traps, and its surroundings. Each run is at its
+//! exact cost, and over the limit with one less.
 
 use crate::machine::loops::LOOPING;
 use crate::machine::{Setting, code_in};
@@ -13,14 +13,14 @@ use std::alloc::Global;
 
 const END: Instr = Instr::ReturnValue;
 
-// The first array's two parts.
+// The two parts of the first array.
 const PARTS: Halves = Halves {
     array: 0,
     left: 1,
     right: 2,
 };
 
-/// A main, its arguments and its cost up to the trap; the trap's number and line, and what is told of it.
+/// A `main`, its arguments and its cost up to the trap; the trap's number and line, and what is reported about it.
 #[derive(Clone, Copy)]
 struct Stood {
     name: &'static str,
@@ -66,7 +66,7 @@ static OPERATORS: [Stood; 5] = [
         had: Had::Two(Operator::Divide, 7, 0),
         round: &[],
     },
-    // an operand of main stays below
+    // an operand of `main` remains below
     Stood {
         name: "a sum above the greatest number",
         setting: Setting::Small,
@@ -212,7 +212,7 @@ static ARRAYS: [Stood; 6] = [
     },
 ];
 
-// Whether a run stood so.
+// Returns whether the state of a run at its trap is the expected one.
 fn is_as(standing: &Standing, row: &Stood) -> bool {
     standing.trap.number() == row.trap
         && standing.line == row.line
@@ -221,7 +221,7 @@ fn is_as(standing: &Standing, row: &Stood) -> bool {
         && standing.further == 0
 }
 
-// Whether it stands so at its cost.
+// Returns whether a run has the expected state at its cost.
 fn stands(alloc: Global, code: &Verified, row: &Stood) -> bool {
     match stand_at_trap(alloc, code, row.args, row.cost) {
         Ok(Some(standing)) => is_as(&standing, row),
@@ -229,7 +229,7 @@ fn stands(alloc: Global, code: &Verified, row: &Stood) -> bool {
     }
 }
 
-// Whether it is over its limit at one less.
+// Returns whether a run exceeds the limit with one less.
 fn is_over(alloc: Global, code: &Verified, row: &Stood) -> bool {
     match stand_at_trap(alloc, code, row.args, row.cost.wrapping_sub(1)) {
         Err(fault) => fault.number() == 7,
@@ -237,7 +237,7 @@ fn is_over(alloc: Global, code: &Verified, row: &Stood) -> bool {
     }
 }
 
-// Whether a row holds.
+// Returns whether a test case holds.
 fn is_stood(alloc: Global, row: &Stood) -> bool {
     match code_in(alloc, row.setting, row.body) {
         Ok(code) => stands(alloc, &code, row) && is_over(alloc, &code, row),
@@ -259,7 +259,7 @@ fn arrays(rt: HostRuntime) {
     }
 }
 
-// The number of the fault that a run on this argument has, and 0 where it ends.
+// Returns the number of the fault of a run on this argument, or 0 if it finishes.
 fn number_of(alloc: Global, args: &[i64], limit: u64) -> Result<u8, Fault> {
     let code = code_in(alloc, Setting::Small, &[Instr::Load(0), END])?;
     match stand_at_trap(alloc, &code, args, limit) {

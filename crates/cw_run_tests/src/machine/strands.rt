@@ -21,7 +21,7 @@ const JOINED: i128 = -4;
 
 const CALLED: i128 = -5;
 
-// A cut as a number, if it is one.
+// Returns a cut as a number, if it is one.
 fn number_of(cut: Cut) -> Option<i128> {
     match cut {
         Cut::Nothing => None,
@@ -33,7 +33,7 @@ fn number_of(cut: Cut) -> Option<i128> {
     }
 }
 
-// What a chunk keeps, as numbers: so many instructions as that many, where there are any.
+// Appends the entries of a chunk as numbers: instructions as their number, if there are any, then the cut.
 fn add_numbers(numbers: &mut Vec<i128>, entries: &[Entry]) -> Result<(), AllocError> {
     for entry in entries {
         if entry.before > 0 {
@@ -46,7 +46,7 @@ fn add_numbers(numbers: &mut Vec<i128>, entries: &[Entry]) -> Result<(), AllocEr
     Ok(())
 }
 
-// Whether these are kept.
+// Returns whether these entries are kept.
 fn are_kept(alloc: Global, chunks: &[Vec<Entry>], hand: &[i128]) -> Result<bool, AllocError> {
     let mut numbers = Vec::new(alloc);
     for chunk in chunks {
@@ -55,7 +55,7 @@ fn are_kept(alloc: Global, chunks: &[Vec<Entry>], hand: &[i128]) -> Result<bool,
     Ok(numbers.as_slice() == hand)
 }
 
-// Whether this is kept of a run of so many strands, which are not too many.
+// Returns whether this is kept of a run with this number of strands, which are not too many.
 fn keeps(
     alloc: Global,
     setting: Setting,
@@ -72,8 +72,9 @@ fn keeps(
     Ok(same)
 }
 
-// fib(4): 2 of main, its call, and 2 more; a call spawns after 8, calls after 4 beside the child, and has 5 after the
-// join; one below 2 is one strand of 6. Of the 23 strands one is the first, and 22 begin at a cut.
+// fib(4): 2 of `main`, its call, and 2 more; a call spawns after 8, calls after 4 in parallel with the child, and has
+// 5 after the join; a call with n below 2 is one strand of 6. The first of the 23 strands begins the run, and 22
+// begin at a cut.
 const FIB_OF_4: &[Instr] = &[
     Instr::Push(4),
     INTO_FIRST,
@@ -93,7 +94,7 @@ fn fib(rt: HostRuntime) -> Result<(), Fault> {
     Ok(())
 }
 
-/// void p(int v) { print(v); } int main() { cilk_spawn p(1); cilk_spawn p(2); print(3); cilk_sync; return 0; }
+/// `void p(int v) { print(v); } int main() { cilk_spawn p(1); cilk_spawn p(2); print(3); cilk_sync; return 0; }`
 pub(crate) static BESIDE_SHOW: Around = Around {
     others: &[Part {
         gives_int: false,

@@ -1,4 +1,4 @@
-//! What a run is answered with: values, and what its reducers come to.
+//! The answer to a run: its values, and the totals of its reducers.
 
 use crate::report::code_with;
 use cw_machine::values::Values;
@@ -12,9 +12,9 @@ use std::alloc::{AllocError, Global};
 // How a run ended.
 #[derive(Clone, Copy)]
 enum End {
-    // It left this value, printed these and left these totals.
+    // It returned this value, after it printed these lines, with these totals.
     Value(i64, &'static [i64], &'static [Total]),
-    // It trapped, and had printed these.
+    // It trapped after it printed these lines.
     Trap(&'static [i64]),
 }
 
@@ -27,7 +27,7 @@ struct Answer {
     text: &'static [u8],
 }
 
-// The values of a run, or why it has none.
+// Returns the values of a run, or its fault.
 fn values_of(alloc: Global, end: &End) -> Result<Result<Values, Fault>, AllocError> {
     match end {
         End::Value(value, lines, totals) => Ok(Ok(Values {
@@ -43,7 +43,7 @@ fn values_of(alloc: Global, end: &End) -> Result<Result<Values, Fault>, AllocErr
     }
 }
 
-// Whether a run is answered so.
+// Returns whether a run has this answer.
 fn is_answered(alloc: Global, told: &Answer) -> Result<bool, Fault> {
     let code = code_with(alloc, told.reducers, &[])?;
     let values = values_of(alloc, &told.end)?;

@@ -5,14 +5,14 @@ use cw_report::{Counted, write_fault};
 use cw_text::{Fault, Place};
 use std::alloc::Global;
 
-// Whether a fault is told by this line.
+// Returns whether this line reports a fault.
 fn is_told(alloc: Global, fault: &Fault, line: &str) -> bool {
     let mut sink = Counted::new(Vec::new(alloc));
     let answer = write_fault(&mut sink, fault);
     answer.is_ok() && sink.into_inner().as_slice() == line.as_bytes()
 }
 
-// The fault of this number, of this line where it is of a line.
+// Returns the fault with this number, in this line if it has one.
 fn fault_of(alloc: Global, number: u8, line: u32) -> Fault {
     match number {
         1 => Fault::Lexical(Place { line }),
@@ -34,7 +34,7 @@ fn fault_of(alloc: Global, number: u8, line: u32) -> Fault {
     }
 }
 
-// Each fault by its number, its line, and how it is told.
+// Each fault with its number, its line, and its report.
 static FAULTS: [(u8, u32, &str); 12] = [
     (1, 1, "refused 1 line 1\n"),
     (2, 20, "refused 2 line 20\n"),

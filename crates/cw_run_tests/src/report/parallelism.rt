@@ -1,4 +1,4 @@
-//! Parallelism, which is rounded down, in the table of tags of code with none.
+//! Parallelism, rounded down, in the table of tags of code without tags.
 
 use crate::report::tables::{Asked, End, Report, is_taken};
 use cw_meter::Readings;
@@ -96,7 +96,7 @@ static SCALES: [(Readings, &[u8]); 11] = [
     ),
 ];
 
-// Whether the table of code with no tags, of a run with these readings, is this one.
+// Returns whether this is the table of code without tags, for a run with these readings.
 fn is_scaled(alloc: Global, measure: Readings, text: &'static [u8]) -> Result<bool, Fault> {
     let report = Report {
         name: "",

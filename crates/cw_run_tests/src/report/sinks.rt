@@ -1,4 +1,4 @@
-//! A text on sinks with little room, and on one that fails.
+//! A text on sinks with little room, and on a sink that fails.
 
 use crate::report::Taken;
 use cw_report::{Counted, Sink, write_text};
@@ -7,7 +7,7 @@ use std::alloc::{AllocError, Global};
 use std::io;
 use std::io::{Cursor, Write};
 
-// A text to a sink with so much room.
+// Writes a text to a sink with this room.
 fn text_to_room(alloc: Global, text: &[u8], room: usize) -> Result<Taken, AllocError> {
     let mut bytes = vec![in alloc; 0; room]?;
     let mut sink = Counted::new(Cursor::new(bytes.as_mut_slice()));
@@ -33,7 +33,7 @@ fn a_full_sink_has_a_beginning(rt: HostRuntime) -> Result<(), AllocError> {
     Ok(())
 }
 
-// Fails at each write and at each flush.
+// A sink that fails at each write and at each flush.
 #[derive(Drop)]
 struct Broken;
 

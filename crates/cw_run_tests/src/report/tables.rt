@@ -1,4 +1,4 @@
-//! The tables of tags and of call sites, with numbers worked out on paper, on sinks with much and little room.
+//! The tables of tags and of call sites, with numbers worked out on paper, on sinks with much and with little room.
 
 use crate::report::{Taken, code_with};
 use cw_machine::alone::Ended;
@@ -14,10 +14,10 @@ use indexmap::IndexMap;
 use std::alloc::{AllocError, Global};
 use std::io::Cursor;
 
-/// More than any text here takes.
+/// More room than any text here takes.
 pub(crate) const ROOM: usize = 500;
 
-/// Which report.
+/// The kind of a report.
 #[derive(Clone, Copy)]
 pub(crate) enum Asked {
     Run,
@@ -28,13 +28,13 @@ pub(crate) enum Asked {
 /// How a run ended.
 #[derive(Clone, Copy)]
 pub(crate) enum End {
-    /// It has these readings, and these rows under its tags.
+    /// It finished with these readings, and these rows for its tags.
     Readings(Readings, &'static [(&'static str, RegionRow)]),
-    /// It trapped, and had printed these.
+    /// It trapped after it printed these lines.
     Trap(&'static [i64]),
-    /// It was over its limit.
+    /// It exceeded its limit.
     OverLimit,
-    /// It was out of memory.
+    /// It ran out of memory.
     Memory,
 }
 
@@ -72,10 +72,10 @@ const LEAF: SiteRow = SiteRow {
     span: 0,
 };
 
-// The rows of call sites under their numbers.
+// The rows of call sites by number.
 static SITES: [(u32, SiteRow); 3] = [(0, ROOT), (1, FIB), (2, LEAF)];
 
-// Those rows of call sites.
+// Adds these rows of call sites.
 fn place_sites(sites: &mut IndexMap<u32, SiteRow>) -> Result<(), AllocError> {
     for (number, row) in &SITES {
         sites.insert(*number, *row)?;
@@ -83,7 +83,7 @@ fn place_sites(sites: &mut IndexMap<u32, SiteRow>) -> Result<(), AllocError> {
     Ok(())
 }
 
-// These rows under their tags.
+// Adds these rows of tags.
 fn place_regions(
     alloc: Global,
     regions: &mut IndexMap<Vec<u8>, RegionRow>,
@@ -95,7 +95,7 @@ fn place_regions(
     Ok(())
 }
 
-// A run with these readings that has printed and counted nothing.
+// Returns a run with these readings, without output and rows.
 fn empty_end(alloc: Global, measure: Readings) -> Ended {
     Ended {
         value: -3,
@@ -107,7 +107,7 @@ fn empty_end(alloc: Global, measure: Readings) -> Ended {
     }
 }
 
-// A run with these readings, and these rows under its tags.
+// Returns a run with these readings, and these rows for its tags.
 fn ended_with(
     alloc: Global,
     measure: Readings,
@@ -120,7 +120,7 @@ fn ended_with(
     Ok(ended)
 }
 
-// A trap after these lines.
+// Returns a trap after these lines.
 fn trap_after(alloc: Global, lines: &[i64]) -> Result<Fault, AllocError> {
     Ok(Fault::Trap {
         code: Trap::DivisionByZero,
@@ -129,7 +129,7 @@ fn trap_after(alloc: Global, lines: &[i64]) -> Result<Fault, AllocError> {
     })
 }
 
-// A run that ended so.
+// Returns a run with this end.
 fn ended_of(alloc: Global, end: &End) -> Result<Result<Ended, Fault>, AllocError> {
     match end {
         End::Readings(measure, rows) => Ok(Ok(ended_with(alloc, *measure, rows)?)),
@@ -139,7 +139,7 @@ fn ended_of(alloc: Global, end: &End) -> Result<Result<Ended, Fault>, AllocError
     }
 }
 
-// Its values, or why it has none.
+// Returns the values of a run, or its fault.
 fn values_of(alloc: Global, end: &End) -> Result<Result<Values, Fault>, AllocError> {
     match end {
         End::Readings(..) => Ok(Ok(Values {
@@ -153,7 +153,7 @@ fn values_of(alloc: Global, end: &End) -> Result<Result<Values, Fault>, AllocErr
     }
 }
 
-// A run: its code, how it ended and its values.
+// A run: its code, its outcome and its values.
 #[derive(Drop)]
 struct Run {
     code: Verified,
@@ -161,7 +161,7 @@ struct Run {
     values: Result<Values, Fault>,
 }
 
-// The run that a report is of.
+// Returns the run of a report.
 fn run_of(alloc: Global, report: &Report) -> Result<Run, Fault> {
     Ok(Run {
         code: code_with(alloc, &[], report.tags)?,
@@ -170,7 +170,7 @@ fn run_of(alloc: Global, report: &Report) -> Result<Run, Fault> {
     })
 }
 
-// A report to a sink with so much room.
+// Writes a report to a sink with this room.
 fn report_to_room(
     alloc: Global,
     asked: Asked,
@@ -194,7 +194,7 @@ fn report_to_room(
     })
 }
 
-/// Whether a sink with more room than it takes takes the whole report, and one without room nothing.
+/// Returns whether a sink with more room than needed takes the whole report, and a sink without room takes nothing.
 pub(crate) fn is_taken(alloc: Global, report: &Report) -> Result<bool, Fault> {
     let run = run_of(alloc, report)?;
     let none = report_to_room(alloc, report.asked, &run, 0)?;
@@ -202,7 +202,7 @@ pub(crate) fn is_taken(alloc: Global, report: &Report) -> Result<bool, Fault> {
     Ok(none.is_beginning(report.text, 0) && all.is_beginning(report.text, ROOM))
 }
 
-// Whether sinks with each room take a beginning of the report.
+// Returns whether sinks with each amount of room take a prefix of the report.
 fn is_taken_by_rooms(alloc: Global, report: &Report) -> Result<bool, Fault> {
     let run = run_of(alloc, report)?;
     for room in 0..ROOM {
@@ -294,7 +294,7 @@ static SCALES: [Report; 2] = [
 
 const STOPPED: End = End::Trap(&[7, -1]);
 
-// A run that did not end has no table.
+// A run that did not finish has no table.
 static NOT_ENDED: [Report; 7] = [
     Report {
         name: "what was printed before a trap",

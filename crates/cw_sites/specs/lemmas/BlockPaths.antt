@@ -1,4 +1,4 @@
--- Lemmas of blocks: what a strand keeps of one stands for the paths of its events.
+-- Lemmas about blocks: the paths of a block represent the paths of its events.
 use Rattle.std.specs.Prelude.{◌≡◌, ℕ, ◌+◌, ◌≤◌, ◌<◌, List, [], ◌∷◌, Option, Some, None}
 use Rattle.std.proofs.Common.{sym, ◌∙◌, ap, subst, inl, inr, arith}
 use Rattle.std.proofs.lemmas.Bool.{cases_lt}
@@ -11,7 +11,7 @@ use Rattle.cw_sites.specs.lemmas.ChosenPaths.{plus-assoc, plus-nowhere_last, tak
 use Rattle.cw_sites.specs.lemmas.ChosenPaths.{either-none, onward-assoc, onward-fresh_first, onward-fresh_last}
 use Rattle.cw_sites.specs.lemmas.ChosenPaths.{reading-of_events}
 
--- what is kept stands for counters whose continuation begins after a path
+-- the paths represent counters whose continuation begins after a path
 abbrev pub StandsAt : (start : Path) (longest : Option Path) (continuation : Path) → BlockPath → Type 0
 StandsAt f None k (Straight n) = plus f k ≡ n
 StandsAt f None k (Split b l n) = ⊥
@@ -126,7 +126,7 @@ stands_reading before (Unsynced l k) L h = stands_finished before l k L h
 stands_reading before (Synced p l k) L h =
     sym (plus-assoc before p (best l k)) ∙ stands_finished (plus before p) l k L h
 
--- THE LAW OF A BLOCK: it adds the chosen path of its tree to what came before
+-- the law of a block: it adds the chosen path of its tree to the path before
 pub finished-after_all : (site here : ℕ) (before : Path) (es : List Event)
     → finished (after_all site here (Straight before) es) ≡ plus before (chosen site here (tree_of es))
 finished-after_all site here before es =

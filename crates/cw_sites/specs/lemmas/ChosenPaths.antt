@@ -1,4 +1,5 @@
--- Lemmas of chosen paths: they join in any grouping, and the counters of events read that of their tree.
+-- Lemmas about chosen paths: they join in any grouping, and the counters of events give the chosen path of their
+-- tree.
 use Rattle.std.specs.Prelude.{◌≡◌, ℕ, ◌+◌, ◌==◌, ◌≤◌, ◌<◌, Bool, true, false, List, [], ◌∷◌, Option, Some, None}
 use Rattle.std.specs.Prelude.{if◌then◌else◌, refl}
 use Rattle.std.proofs.Common.{sym, ◌∙◌, ap, subst, inl, inr, arith}
@@ -128,7 +129,7 @@ pub onward-fresh_last : (a : PathCounters) → onward a fresh ≡ a
 onward-fresh_last (Unsynced l k) = let e = either-none l in let f = plus-nowhere_last k in cc
 onward-fresh_last (Synced p l k) = let e = either-none l in let f = plus-nowhere_last k in cc
 
--- what the counters of a piece say of the two parts of a tree
+-- the counters of a piece give the chosen paths of the two parts of a tree
 abbrev pub Reads : PathCounters → (first second : Path) → Type 0
 Reads (Unsynced l k) first second = (best l k ≡ first) × (nowhere ≡ second)
 Reads (Synced p l k) first second = (p ≡ first) × (best l k ≡ second)
@@ -185,14 +186,14 @@ pub reads_reading : (c : PathCounters) (first second : Path) → Reads c first s
 reads_reading (Unsynced l k) first second h = h.0 ∙ sym (plus-nowhere_last first) ∙ ap (plus first) h.1
 reads_reading (Synced p l k) first second h = ap (λ (x : Path). plus x (best l k)) h.0 ∙ ap (plus first) h.1
 
--- they read the chosen path of the tree of the events so far
+-- the counters give the chosen path of the tree of the events so far
 pub reading-of_events : (site here : ℕ) (events : List Event)
     → reading (of_events site here events) ≡ chosen site here (tree_of events)
 reading-of_events site here events =
     reads_reading (of_events site here events) (chosen site here (parts_of events).0)
     (chosen site here (parts_of events).1) (reads_parts site here events)
 
--- the chosen path is a heaviest one
+-- the chosen path is a heaviest path
 pub chosen-weight : (site here : ℕ) (t : Tree) → (chosen site here t).weight ≡ span t
 chosen-weight site here (Leaf k) = refl
 chosen-weight site here (Seq a b) =

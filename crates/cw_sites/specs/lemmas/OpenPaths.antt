@@ -1,4 +1,4 @@
--- Lemmas of the path of a run so far.
+-- Lemmas about the path of a run so far.
 use Rattle.std.specs.Prelude.{◌≡◌, ℕ, ◌+◌, nat_lt, Bool, true, false, List, [], ◌∷◌, ◌++◌, Option, Some, None, refl}
 use Rattle.std.proofs.Common.{sym, ◌∙◌, ap, subst}
 use Rattle.cw_model.specs.Trees.{Mark, Tree, Event, Work, Series, Fork, Join, tree_of}
@@ -16,14 +16,14 @@ pub after_all-append : (site here : ℕ) (L : BlockPath) (es fs : List Event)
 after_all-append site here L [] fs = refl
 after_all-append site here L (e ∷ es) fs = after_all-append site here (after site here L e) es fs
 
--- one event more in the block that runs
+-- one more event in the current block
 pub block_more : (site base : ℕ) (os : List Open) (es : List Event) (e : Event)
     → block_path site base os (es ++ e ∷ []) ≡ after site (here_in base os) (block_path site base os es) e
 block_more site base [] es e = after_all-append site base (Straight nowhere) es (e ∷ [])
 block_more site base (o ∷ os) es e =
     after_all-append site (here_in base (o ∷ os)) (enters o.spawned (block_path site base os o.outer)) es (e ∷ [])
 
--- whether a block is split is told by its events
+-- the events of a block determine whether it is split
 split_after : (site here : ℕ) (L : BlockPath) (e : Event)
     → is_split (after site here L e) ≡ spawned_after (is_split L) e
 split_after site here (Straight n) (Work k) = refl
@@ -57,7 +57,7 @@ split-block_path site base [] es = split_all site base (Straight nowhere) es
 split-block_path site base (o ∷ os) es =
     split_entered site (here_in base (o ∷ os)) o.spawned (block_path site base os o.outer) es
 
--- the same with the local of the block as a variable
+-- the paths of a strand represent a block, with the block as a variable
 pub record ShowsLocal (below : List SeenBlock → Type 0) (L : BlockPath) (t : StrandPath) : Type 0 where
   pub now_is : t.now ≡ now_of L
   pub blocks_are : StandsOn below L t.blocks
@@ -80,7 +80,7 @@ extends below p L t h =
       blocks_are = stands_extended below p L t.blocks h.blocks_are;
     }
 
--- the block that runs goes on by so many instructions
+-- the current block continues with instructions
 pub shows_work : (site base : ℕ) (os : List Open) (es : List Event) (t : StrandPath) (k : ℕ) → Shows site base os es t
     → Shows site base os (es ++ Work k ∷ [])
     (record { now = plus t.now (steps_of site (here_in base os) k); blocks = t.blocks })
@@ -157,7 +157,7 @@ stays_at : (below : List SeenBlock → Type 0) (L : BlockPath) (t : StrandPath) 
 stays_at below (Straight n) t e h = record { now_is = h.now_is; blocks_are = h.blocks_are }
 stays_at below (Split b l n) t e h = cc
 
--- a join where nothing was spawned
+-- a join of a block that has spawned nothing
 pub shows_unjoined : (site base : ℕ) (os : List Open) (es : List Event) (t : StrandPath) → has_spawned es ≡ false
     → Shows site base os es t → Shows site base os (es ++ Join ∷ []) t
 shows_unjoined site base os es t e h =
@@ -168,7 +168,7 @@ shows_unjoined site base os es t e h =
     let s = subst P (sym (block_more site base os es Join)) w in
     record { now_is = s.now_is; blocks_are = s.blocks_are }
 
--- a block with nothing spawned since its last join is its path
+-- the paths of a block that has spawned nothing since its last join are one path
 pub straight : (L : BlockPath) → is_split L ≡ false → L ≡ Straight (finished L)
 straight (Straight n) e = refl
 straight (Split b l n) e = cc
@@ -178,7 +178,7 @@ pub chosen_inside : (site here : ℕ) (mark : Option Mark) (t : Tree)
 chosen_inside site here None t = refl
 chosen_inside site here (Some m) t = refl
 
--- the path of a part that has ended, after the path that it began with
+-- the path at the end of a part, relative to the path at its start
 pub ended_path : (site base : ℕ) (o : Open) (os : List Open) (es : List Event) (before : Path)
     → enters o.spawned (block_path site base os o.outer) ≡ Straight before → has_spawned es ≡ false
     → block_path site base (o ∷ os) es
@@ -261,7 +261,7 @@ shows_ended site base mark outer os es t e h =
     let s = subst Q (sym (block_more site base os outer (Fork (marked mark (tree_of es))))) g in
     record { now_is = s.now_is; blocks_are = s.blocks_are }
 
--- once nothing is open and the block has joined, the strand_path is the chosen path
+-- if no part is open and the block has joined, the path is the chosen path
 pub shows_all : (site base : ℕ) (es : List Event) (t : StrandPath) → has_spawned es ≡ false → Shows site base [] es t
     → t.now ≡ chosen site base (tree_of es)
 shows_all site base es t e h =

@@ -1,4 +1,4 @@
--- Lemmas of rows of call sites: calls that a run makes, and the path as a reading along parts.
+-- Lemmas about rows of call sites: the calls of a run, and the path as a reading along parts.
 use Rattle.std.specs.Prelude.{◌≡◌, ℕ, zero, ◌+◌, ◌==◌, Bool, true, false, if◌then◌else◌, List, [], ◌∷◌, ◌++◌, Option}
 use Rattle.std.specs.Prelude.{Some, None, refl}
 use Rattle.std.proofs.Common.{sym, ◌∙◌, ap, arith}
@@ -17,7 +17,7 @@ use Rattle.cw_sites.specs.SiteRows.{calls_in, own_tree, own_in, work_tally, span
 use Rattle.cw_sites.specs.lemmas.ChosenPaths.{chosen-weight}
 use Rattle.cw_sites.specs.lemmas.OpenPaths.{ended_path}
 
--- the weight of the path grows along a part by the part's span
+-- over a part, the weight of the path grows by the part's span
 enters_is : (b : Bool) (L : BlockPath) → enters b L ≡ Straight (now_of (enters b L))
 enters_is true L = refl
 enters_is false L = refl
@@ -43,7 +43,7 @@ path_meters site base = record {
   at_end = ended_weight site base;
 }
 
--- the sums that rows keep
+-- the sums in rows
 pub calls_adds : (site : ℕ) → Adds (calls_of site)
 calls_adds site = record { nothing = refl; series = λ a b. refl; fork = λ a b. refl }
 
@@ -67,7 +67,7 @@ own_adds site here = record {
   fork = λ a b. weight-append site (leaves here a) (leaves here b);
 }
 
--- one event more in the block that runs
+-- more events in the current block
 pub calls_append : (site : ℕ) (os : List Open) (es fs : List Event)
     → calls_in site os (es ++ fs) ≡ calls_in site os es + calls_of site (tree_of fs)
 calls_append site [] es fs = adds_append (calls_of site) (calls_adds site) es fs
@@ -102,7 +102,7 @@ row_other site base busy o os r e h =
 abbrev one_given : Bool → ℕ
 one_given b = if b then 1 else 0
 
--- what a part that has ended adds
+-- the contribution of a part that has ended
 calls_marked : (site : ℕ) (mark : Option Mark) (t : Tree)
     → calls_of site (marked mark t) ≡ one_if (is_counted (is_site site) mark) + calls_of site t
 calls_marked site None t = omega arith

@@ -1,4 +1,4 @@
--- Lemmas of tables: each run has one that shows it, and quiet parts need no call.
+-- Lemmas about tables: each run has a table that represents it, and quiet parts need no call.
 use Rattle.std.specs.Prelude.{◌≡◌, ℕ, ◌+◌, false, List, Option, Some, None, refl, slice_get}
 use Rattle.std.proofs.Common.{sym, ◌∙◌, arith}
 use Rattle.cw_model.specs.Trees.{Tree, Mark, Invocation, Execution, work}
@@ -17,7 +17,7 @@ use Rattle.cw_sites.specs.lemmas.OpenPaths.{shows_work, shows_entered, shows_spa
 use Rattle.cw_sites.specs.lemmas.OpenPaths.{shows_joined, shows_unjoined, shows_left, shows_ended, shows_all}
 use Rattle.cw_sites.specs.lemmas.SiteRows.{row_other, row_other_left}
 
--- parts that are no invocation
+-- parts that are not invocations
 pub quiet_calls : (mark : Option Mark) (q : ℕ) → IsQuiet mark → is_counted (is_site q) mark ≡ false
 quiet_calls None q h = refl
 quiet_calls (Some (Invocation site)) q h = absurd h

@@ -1,4 +1,4 @@
--- What is in a block and what is out, place by place, once others are in the place of some cells.
+-- The cells of a block that are in and those that are out, place by place, after some cells are replaced.
 use Rattle.std.proofs.Common.{◌≡◌, ℕ, ◌+◌, ◌-◌, ◌<◌, ◌≤◌, ◌⊎◌, ℤ, Bool, true, List, [], ◌∷◌, ◌++◌, length, take}
 use Rattle.std.proofs.Common.{drop, replicate, Option, Some, None, slice_get, slice_set, refl, sym, ap, ap₂, inl, inr}
 use Rattle.std.proofs.Common.{◌∙◌, arith}
@@ -12,7 +12,7 @@ use Rattle.cw_slices.specs.Blocks.{ins, outs, patched, IsIn, Have, AreIn, number
 abbrev Cells : Type 0
 Cells = List (Option ℤ)
 
--- the same place, counted otherwise
+-- equal places hold equal elements
 same_place : {X : Type 0} (xs : List X) (j k : ℕ) → j ≡ k → slice_get xs j ≡ slice_get xs k
 same_place xs j k e = ap (λ (i : ℕ). slice_get xs i) e
 
@@ -34,7 +34,7 @@ in_drop zero xs k = same_place xs k (0 + k) (omega arith)
 in_drop (suc n) [] k = refl
 in_drop (suc n) (x ∷ xs) k = in_drop n xs k ∙ same_place (x ∷ xs) (suc (n + k)) (suc n + k) (omega arith)
 
--- a list of as many, with the same at each place, is the same
+-- lists of the same length with the same element at each place are equal
 pub same_each : {X : Type 0} (xs ys : List X) → length xs ≡ length ys
     → ((k : ℕ) (x : X) → slice_get xs k ≡ Some x → slice_get ys k ≡ Some x) → xs ≡ ys
 same_each [] [] e at = refl
@@ -55,24 +55,24 @@ module _ {X : Type 0} (from : ℕ) (new cells : List X) (fits : from + length ne
   front : length (take from cells) ≡ from
   front = length-take-le from cells (omega (arith, fits))
 
-  -- as many cells are there as before
+  -- patching keeps the length
   pub length_patched : length (patched from new cells) ≡ length cells
   length_patched =
       let back : length last ≡ length cells - (from + length new) = length-drop (from + length new) cells in
       let end : length tail ≡ length new + length last = length-append new last in
       let all = length-append (take from cells) tail in omega (arith, fits, front, back, end, all)
 
-  -- those before are as they were
+  -- patching keeps the elements before the patch
   pub patched_before : (k : ℕ) → k < from → slice_get (patched from new cells) k ≡ slice_get cells k
   patched_before k lt = get_left (take from cells) tail k (omega (arith, lt, front)) ∙ in_take from cells k lt
 
-  -- the new ones are there
+  -- the patched places hold the new elements
   pub patched_at : (k : ℕ) → k < length new → slice_get (patched from new cells) (from + k) ≡ slice_get new k
   patched_at k lt =
       in_second (take from cells) tail (from + k) (omega (arith, front)) ∙
       same_place tail (from + k - length (take from cells)) k (omega (arith, front)) ∙ get_left new last k lt
 
-  -- those after are as they were
+  -- patching keeps the elements after the patch
   pub patched_after : (k : ℕ) → from + length new ≤ k → slice_get (patched from new cells) k ≡ slice_get cells k
   patched_after k le =
       in_second (take from cells) tail k (omega (arith, front, le)) ∙
@@ -80,7 +80,7 @@ module _ {X : Type 0} (from : ℕ) (new cells : List X) (fits : from + length ne
       in_second new last (k - from) (omega (arith, le)) ∙ in_drop (from + length new) cells (k - from - length new) ∙
       same_place cells (from + length new + (k - from - length new)) k (omega (arith, le))
 
--- a place of cells that are all in has its number
+-- each place of `ins xs` holds its number
 pub ins_get : (xs : List ℤ) (k : ℕ) (x : ℤ) → slice_get xs k ≡ Some x → slice_get (ins xs) k ≡ Some (Some x)
 ins_get [] k x e = absurd (none-some x e)
 ins_get (y ∷ xs) zero x e = ap (λ (o : ℤ). Some (Some o)) (same_Some y x e)
@@ -91,7 +91,7 @@ get_ins [] k x e = absurd (none-some (Some x) e)
 get_ins (y ∷ xs) zero x e = same_Some (Some y) (Some x) e
 get_ins (y ∷ xs) (suc k) x e = get_ins xs k x e
 
--- as many cells as numbers, and as many as are out
+-- `ins` and `outs` have the lengths of what they are made of
 pub length_ins : (xs : List ℤ) → length (ins xs) ≡ length xs
 length_ins [] = refl
 length_ins (x ∷ xs) = ap suc (length_ins xs)
@@ -99,7 +99,7 @@ length_ins (x ∷ xs) = ap suc (length_ins xs)
 pub length_outs : (n : ℕ) → length (outs n) ≡ n
 length_outs n = length-replicate n None
 
--- cells that are all in have their numbers, and no others
+-- `ins xs` holds exactly the numbers `xs`
 pub have_ins : (xs : List ℤ) → Have (ins xs) 0 xs
 have_ins xs k x e = same_place (ins xs) (0 + k) k (omega arith) ∙ ins_get xs k x e
 
@@ -118,7 +118,7 @@ has_each : (xs : List ℤ) (cells : Cells) → Have cells 0 xs
 has_each xs cells at k None is = absurd (never_out xs k is)
 has_each xs cells at k (Some x) is = same_place cells k (0 + k) (omega arith) ∙ at k x (get_ins xs k x is)
 
--- cells that have as many numbers as they are are all in
+-- if cells hold a number at each place, they are all in
 pub ins_have : (xs : List ℤ) (cells : Cells) → Have cells 0 xs → length xs ≡ length cells → cells ≡ ins xs
 ins_have xs cells at e = sym (same_each (ins xs) cells (length_ins xs ∙ e) (has_each xs cells at))
 
@@ -130,7 +130,7 @@ here (x ∷ xs) (c ∷ cells) at le =
     let rest = here xs cells (λ k. at (suc k)) (omega (arith, le)) in
     ap₂ (λ (a : Option ℤ) (l : Cells). a ∷ l) (same_Some c (Some x) (at 0 x refl)) rest
 
--- cells are those before, those that have the numbers and those after
+-- if cells hold `xs` from `from` on, they are the cells before, `ins xs` and the cells after
 pub middle : (from : ℕ) (xs : List ℤ) (cells : Cells) → Have cells from xs → from + length xs ≤ length cells
     → cells ≡ take from cells ++ (ins xs ++ drop (from + length xs) cells)
 middle zero xs cells at le =
@@ -143,7 +143,7 @@ middle (suc n) xs (c ∷ cells) at le =
     ap (λ (l : Cells). c ∷ l) (middle n xs cells less (omega (arith, le))
     ∙ ap (λ (j : ℕ). take n cells ++ (ins xs ++ drop j (c ∷ cells))) up)
 
--- a list is what is before a place, what is there and what is after
+-- a list is the part before a place, the element at that place and the part after it
 pub at_place : {X : Type 0} (cells : List X) (i : ℕ) (c : X) → slice_get cells i ≡ Some c
     → cells ≡ take i cells ++ (c ∷ drop (suc i) cells)
 at_place [] i c e = absurd (none-some c e)
@@ -164,7 +164,7 @@ alike_here {X = X} (suc n) v (x ∷ xs) at le =
     ap₂ (λ (a : X) (l : List X). a ∷ l) (same_Some x v (at 0 (omega arith)))
     (alike_here n v xs (λ k lt. at (suc k) (omega (arith, lt))) (omega (arith, le)))
 
--- what is the same at so many places is what is before them, that so often, and what is after
+-- a list with the same element at `n` places is the part before them, that element `n` times, and the part after
 pub alike_middle : {X : Type 0} (from n : ℕ) (v : X) (xs : List X)
     → ((k : ℕ) → k < n → slice_get xs (from + k) ≡ Some v) → from + n ≤ length xs
     → xs ≡ take from xs ++ (replicate n v ++ drop (from + n) xs)
@@ -186,14 +186,14 @@ get_replicated zero v k lt = absurd (omega (arith, lt))
 get_replicated (suc n) v zero lt = refl
 get_replicated (suc n) v (suc k) lt = get_replicated n v k (omega (arith, lt))
 
--- numbers that were given back are there
+-- numbers that were given back are in
 pub have_back : (from : ℕ) (xs : List ℤ) (cells : Cells) → from + length xs ≤ length cells
     → Have (patched from (ins xs) cells) from xs
 have_back from xs cells fits k x e =
     let as_many = length_ins xs in let lt : k < length xs = slice_get_within xs k x e in
     patched_at from (ins xs) cells (omega (arith, fits, as_many)) k (omega (arith, as_many, lt)) ∙ ins_get xs k x e
 
--- each cell has a number and a mark; those that are all in are all marked
+-- each cell has a number and a mark, and all marks of `ins xs` are true
 pub length_numbers : (cells : Cells) → length (numbers cells) ≡ length cells
 length_numbers [] = refl
 length_numbers (Some x ∷ cells) = ap suc (length_numbers cells)
@@ -208,21 +208,21 @@ pub marks_ins : (xs : List ℤ) → marks (ins xs) ≡ replicate (length xs) tru
 marks_ins [] = refl
 marks_ins (x ∷ xs) = ap (λ (l : List Bool). true ∷ l) (marks_ins xs)
 
--- which places are in: each of cells that are all in
+-- each place of `ins xs` is in
 pub in_ins : (xs : List ℤ) (k : ℕ) → k < length xs → IsIn (ins xs) k
 in_ins xs k lt = let x = there_at xs k lt in (x.0, ins_get xs k x.0 x.1)
 
--- one that was in, beside those that others are in the place of
+-- a place outside the patch that was in is still in
 pub in_beside : (from : ℕ) (new cells : Cells) (k : ℕ) → from + length new ≤ length cells
     → (k < from) ⊎ (from + length new ≤ k) → IsIn cells k → IsIn (patched from new cells) k
 in_beside from new cells k fits (inl before) is = (is.0, patched_before from new cells fits k before ∙ is.1)
 in_beside from new cells k fits (inr after) is = (is.0, patched_after from new cells fits k after ∙ is.1)
 
--- one that a list of numbers tells
+-- each place that `Have` covers is in
 pub in_have : (cells : Cells) (from k : ℕ) (xs : List ℤ) → Have cells from xs → k < length xs → IsIn cells (from + k)
 in_have cells from k xs has lt = let x = there_at xs k lt in (x.0, has k x.0 x.1)
 
--- one that was given back
+-- each place that was given back is in
 pub in_back : (from : ℕ) (xs : List ℤ) (cells : Cells) (k : ℕ) → from + length xs ≤ length cells → k < length xs
     → IsIn (patched from (ins xs) cells) (from + k)
 in_back from xs cells k fits lt = in_have (patched from (ins xs) cells) from k xs (have_back from xs cells fits) lt
@@ -242,7 +242,7 @@ listed (suc n) (c ∷ cells) all =
     let x = all 0 (omega arith) in let rest = listed n cells (λ k lt. all (suc k) (omega (arith, lt))) in
     (x.0 ∷ rest.0, ap suc rest.1, one_more c cells x.0 rest.0 x.1 rest.2)
 
--- cells are in that are in one by one
+-- cells that are in one by one are in together
 pub are_in : (cells : Cells) (from count : ℕ) → ((k : ℕ) → k < count → IsIn cells (from + k)) → AreIn cells from count
 are_in cells from count all =
     let got = listed count (drop from cells) (λ k lt. ((all k lt).0, in_drop from cells k ∙ (all k lt).1)) in

@@ -1,4 +1,4 @@
--- A slice may go to another thread, and a share of one.
+-- Slices, shares and blocks may go to another thread.
 use Rattle.std.proofs.Common.{ℕ, ℤ, Bool, true, false, List, [], ◌∷◌, Option, Some, None}
 use Prim.Native.Nat.{zero, suc}
 use mir.Syntax.{Ty}
@@ -109,7 +109,7 @@ inside_send =
     (struct_send (declared.shape Inside.the_type)
     (hold_send, (search sendable, (title_global, (search sendable, tt)))))
 
--- a check at a thread's start finds this where it is listed
+-- the check of what a new thread takes finds this lemma if it is listed
 pub slice_send : IsSend C.the_row
 slice_send = view_send (declared.row Inside.the_type) Placed placed_code C.the_view C.the_invariant inside_send
 
@@ -119,7 +119,7 @@ block_inside_send =
     (struct_send (declared.shape BlockInside.the_type)
     (kept_send, (search sendable, (search sendable, (title_global, (search sendable, tt))))))
 
--- and a block
+-- the check of what a new thread takes finds this lemma if it is listed
 pub block_send : IsSend Block.the_row
 block_send =
     view_send (declared.row BlockInside.the_type) Lodged lodged_code Block.the_view Block.the_invariant

@@ -1,4 +1,4 @@
--- What an instruction does, by the kind of its move.
+-- The effect of each kind of instruction.
 use Rattle.std.proofs.Common.{◌≡◌, ℕ, ◌+◌, ℤ, Bool, true, false, Option, Some, None, List, [], ◌∷◌}
 use Rattle.std.specs.Prelude.{slice_set}
 use Rattle.cw_model.specs.declared.trap.Trap.{Trap}
@@ -16,7 +16,7 @@ use Rattle.cw_strand_laws.specs.Jobs.{joins}
 use Rattle.cw_strand_laws.specs.Strands.{Turn, Goes, turn_call, turn_in, turn_of}
 
 module _ (code : Code) (s : State) (P : (joins : Bool) → Turn → Transition → Type 0) where
-  -- what holds of each kind of move, with what it is to a strand: on in the same call and block, into a call, into a
+  -- a property of each kind of step, with its effect on a strand: in the same call and block, into a call, into a
   -- block, at a join, out of a block, and out of a call
   pub record Moves : Type 0 where
     pub stuck : (j : Bool) (turn : Turn) → P j turn Stuck
@@ -39,7 +39,7 @@ module _ (code : Code) (s : State) (P : (joins : Bool) → Turn → Transition �
     pub returns : (v : Option ℤ) →
         P true (turn_in s.around) (back s.around v (settled s.arrived s.arrays) (synced s.trace))
 
-  -- what goes on in its block joins nothing, and is nothing to a strand
+  -- an instruction that continues in its block is no join, and has no effect on a strand
   locally : (i : Instr) (w : Transition) → IsLocal i → P false Goes w → P (joins (Some i)) (turn_of code (Some i) s.around) w
   locally (instr.Call kind c) w here h = absurd here
   locally (instr.Recur kind c) w here h = absurd here
@@ -55,7 +55,7 @@ module _ (code : Code) (s : State) (P : (joins : Bool) → Turn → Transition �
   locally instr.Return w here h = absurd here
   locally _ w here h = h
 
-  -- every instruction is of one of these kinds
+  -- each instruction is of one of these kinds
   pub acts_by : Moves → (o : Option Instr) → P (joins o) (turn_of code o s.around) (act code s o)
   acts_by moves o = acts_both code s s.results s.arrived s.around s.trace
       (λ o w w'. P (joins o) (turn_of code o s.around) w) (record {

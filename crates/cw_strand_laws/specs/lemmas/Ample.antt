@@ -1,4 +1,5 @@
--- Where memory is never wanting: strands and places with no effect that is for want of memory, and what keeps them so.
+-- Strands and places without an effect that is out of memory, and the events that preserve this if memory never runs
+-- out.
 use Rattle.std.proofs.Common.{◌≡◌, ℕ, ◌+◌, Bool, true, false, List, [], ◌∷◌, Some, sym, subst, inl, inr}
 use Rattle.std.specs.Prelude.{slice_get, nat_lt, if◌then◌else◌}
 use Rattle.std.proofs.lemmas.Option.{same_Some}

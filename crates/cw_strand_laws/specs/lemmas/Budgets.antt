@@ -1,4 +1,5 @@
--- A run that ends within one budget ends so within each that reaches, and in the same count of instructions.
+-- A run that ends within a budget ends in the same way within each sufficient budget, after the same number of
+-- instructions.
 use Rattle.std.proofs.Common.{◌≡◌, ℕ, zero, suc, ◌+◌, ◌-◌, ◌≤◌, Bool, true, false, refl, sym, ap, ◌∙◌, subst, inl}
 use Rattle.std.proofs.Common.{inr, arith}
 use Rattle.std.proofs.lemmas.Bool.{cases_lt}
@@ -37,7 +38,7 @@ takes_then a c f g h p q = record {
 pub takes_cost : (a b : ℕ) (f g : ℕ → Came) → a ≡ b → Takes a f g → Takes b f g
 takes_cost a b f g e t = subst (λ c. Takes c f g) e t
 
--- what a run within a budget says of the run within each other one
+-- the run within one budget determines the run within every other budget
 abbrev pub Exact : (budget : ℕ) → (ℕ → Came) → Came → Type 0
 Exact budget run (Arrives frame t left) = (left ≤ budget) × Takes (budget - left) run (λ n. Arrives frame t n)
 Exact budget run (Returns v arrays t left) = (left ≤ budget) × Takes (budget - left) run (λ n. Returns v arrays t n)

@@ -1,4 +1,4 @@
--- A state at the first join of its job: nothing stands round it.
+-- A state at the first join of its job has no enclosing blocks.
 use Rattle.std.specs.Prelude.{◌≡◌, Bool, true, ◌&&◌, List, [], ◌∷◌, refl}
 use Rattle.cw_code.specs.Run.{Around}
 use Rattle.cw_strand_laws.specs.Jobs.{is_first}

@@ -1,4 +1,4 @@
--- A strand of a job of code that fits always finds what its next instruction needs.
+-- A strand of a job of well-formed code always has what its next instruction needs.
 use Rattle.std.proofs.Common.{◌≡◌, ℕ, zero, suc, ℤ, pos, Bool, true, false, ◌&&◌, Option, Some, None, List, [], ◌∷◌}
 use Rattle.std.proofs.Common.{◌++◌, refl, sym, ap, ◌∙◌, subst, append_assoc}
 use Rattle.std.specs.Prelude.{map, slice_get}
@@ -21,7 +21,7 @@ use Rattle.cw_strand_laws.specs.Over.{beneath, results_under, arrived_under, und
 use Rattle.cw_strand_laws.specs.lemmas.Under.{act_under}
 use Rattle.cw_strand_laws.specs.lemmas.Budgets.{come_at, none_left, go_one}
 
--- what a run of an extent stands upon: a whole call upon nothing, a rest upon the state in which its block would go on
+-- the base of a run: none for a whole call; for a continuation, the state in which its block would continue
 pub data Base : Extent → Type 0 where
   Alone : Base WholeCall
   Upon : State → Base ToJoin
@@ -36,7 +36,7 @@ slots_of_transition x (Ends v arrays t) = x
 slots_of_transition x (Stops trap line lines) = x
 slots_of_transition x Stuck = x
 
--- what a spawned call gives changes no slot
+-- two states have equal slots
 record SameSlots (s s' : State) : Type 0 where
   pub slots : s.slots ≡ s'.slots
   pub arrays : s.arrays ≡ s'.arrays
@@ -51,7 +51,7 @@ same_slots (Some a) (Some x) results s s' e =
     record
     { slots = ap (λ w. (slots_of_transition s w).slots) e; arrays = ap (λ w. (slots_of_transition s w).arrays) e }
 
--- some arrays that a call may give back
+-- arrays that a call may return
 abbrev some_back : List Taken → Results (List ℤ)
 some_back [] = []
 some_back (x ∷ taken) = (slot_taken x, []) ∷ some_back taken
@@ -60,7 +60,7 @@ is_back : (taken : List Taken) → slots_in (some_back taken) ≡ map slot_taken
 is_back [] = refl
 is_back (x ∷ taken) = ap (λ ks. slot_taken x ∷ ks) (is_back taken)
 
--- some value that a call may give
+-- a value that a call may return
 abbrev some_given : Bool → Option ℤ
 some_given true = Some (pos 0)
 some_given false = None
@@ -70,7 +70,7 @@ is_given true = tt
 is_given false = tt
 
 module _ (code : Code) (fits : Fits code) (steps_well : FitSteps code fits) (settles : FitSettles) where
-  -- what an instruction leaves, over the base
+  -- the state after an instruction, placed over the base, is good
   abbrev pub LiftedTransition : {x : Extent} → Base x → Transition → Type 0
   LiftedTransition base (On s) = GoodState code fits (lifted base s)
   LiftedTransition base (Ends v arrays t) = Unit {0}
@@ -96,12 +96,12 @@ module _ (code : Code) (fits : Fits code) (steps_well : FitSteps code fits) (set
       rest (Stops trap line lines) k = tt
       rest Stuck k = k
 
-  -- a job that fits
+  -- a job of well-formed code
   pub record FitJob (job : Job) : Type 0 where
     pub base : Base job.extent
     pub good : GoodState code fits (lifted base (job_start job))
 
-  -- the rest of a block fits, whatever the call beside it will give
+  -- the continuation of a block is good, for all results of its call
   rest_fits : (callee : Func) (w : Waiting) (around : List Around) (limit before : ℕ) → w.kind ≡ Spawned
       → w.operands ≡ [] → AllResume code fits callee (Caller w ∷ around)
       → FitJob (record {
@@ -144,7 +144,7 @@ module _ (code : Code) (fits : Fits code) (steps_well : FitSteps code fits) (set
         };
       }
 
-  -- the job of a spawn fits
+  -- the job of a spawn is good
   pub hands_fit : (x : Extent) (base : Base x) (s : State) (e : Entering) (limit before : ℕ) → e.kind ≡ Spawned
       → GoodState code fits (lifted base (begun s e)) → FitJob (spawn_job s e.target e.taken limit before)
   hands_fit x base s e limit before kind good =
@@ -163,7 +163,7 @@ module _ (code : Code) (fits : Fits code) (steps_well : FitSteps code fits) (set
           rest_fits g.seat.func (waiting_at s (record e { kind = Spawned })) (beneath b (a ∷ around)) limit before refl
           refl g.others
 
-  -- where a run to the join arrives, over what it stands upon
+  -- the state that a run reaches at the join, placed over its base
   pub record Arrived (b : State) (frame : Standing) : Type 0 where
     pub seat : Seat code fits frame.place
     pub slots : Slots ℤ
@@ -273,7 +273,7 @@ module _ (code : Code) (fits : Fits code) (steps_well : FitSteps code fits) (set
       cases false h more =
           went (step code s) (lifted_step ToJoin (Upon b) s h good) more (sym (go_one ToJoin code n s h) ∙ e)
 
-  -- what waited over a state goes back, some of it first
+  -- pending results over a state go back into their slots, some of them first
   gone_back : (f : Func) (shape : Shape) (b : State) (frame : Standing) (slots : Slots ℤ) (arrays : Slots (List ℤ))
       (first second others : Results ℤ) (first' second' others' : Results (List ℤ))
       → frame.slots ≡ settled first slots → frame.arrays ≡ settled first' arrays
@@ -315,7 +315,7 @@ module _ (code : Code) (fits : Fits code) (steps_well : FitSteps code fits) (set
       (record s { slots = settled (first ++ second) slots; arrays = x; results = others; arrived = others' }))
       (settled_append first' second' arrays ∙ ap (settled second') (sym same')) one)
 
-  -- give leaves a state that fits
+  -- give preserves good states
   pub gives_fit : (x : Extent) (base : Base x) (s : State) (frame : Standing) (t : Trace)
       → GoodState code fits (lifted base s) → Arrived (lifted base s) frame
       → GoodState code fits (lifted base (resumed s frame t))

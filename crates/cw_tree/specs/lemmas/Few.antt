@@ -1,4 +1,4 @@
--- Where no limit is passed, a program is small.
+-- A program that exceeds no limit is small.
 use Rattle.std.proofs.Common.{◌≡◌, ℕ, ◌+◌, ◌-◌, ◌≤◌, nat_le, List, [], ◌∷◌, ◌++◌, length, map, drop, flat_map, All}
 use Rattle.std.proofs.Common.{sym, ap, ◌∙◌, arith, length-append, length-drop}
 use Rattle.std.proofs.lemmas.List.{length-map}
@@ -89,7 +89,7 @@ tags_few program h =
 abbrev IsSmall : Function → Type 0
 IsSmall f = length f.params.items + declares_in_block (parsed.block_of f.body.items) ≤ 256
 
--- a function that passes no limit declares few names, its parameters included
+-- a function that exceeds no limit declares at most 256 names, including its parameters
 pub small_head : (f : model.Function) → function_limits f ≡ [] → length f.params + declares_in_block f.body ≤ 256
 small_head f h =
     let lines = map (λ (p : Param). f.line) f.params in

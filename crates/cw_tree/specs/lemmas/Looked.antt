@@ -1,4 +1,4 @@
--- A tree whose slots, indices and counts are right is its program with each name looked up.
+-- A tree with correct slots, indices and counts is the resolved tree of its program.
 use Rattle.std.proofs.Common.{◌≡◌, ℕ, ◌==◌, List, [], ◌∷◌, ◌++◌, length, drop, true, not, ◌&&◌, if◌then◌else◌}
 use Rattle.std.proofs.Common.{Option, Some, None, refl, sym, ap, ◌∙◌, bytes_eq}
 use Rattle.std.specs.Prelude.{map, option_map}

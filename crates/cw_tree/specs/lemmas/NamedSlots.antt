@@ -1,4 +1,4 @@
--- Slots of names: a name that is known has one below their count, and no two names have the same.
+-- Slots of names: the slot of a known name is below the number of names, and distinct names have distinct slots.
 use Rattle.std.proofs.Common.{◌≡◌, suc, ◌<◌, ◌==◌, Bool, true, false, ◌||◌, if◌then◌else◌, List, [], ◌∷◌, ◌++◌, ℕ}
 use Rattle.std.proofs.Common.{length, refl, sym, ap, ◌∙◌, arith}
 use Rattle.std.proofs.lemmas.Slice.Eq.{bytes_eq-Decides}
@@ -14,7 +14,7 @@ same_as_third x y z h = ap (λ w. same_name y w) (sym ((bytes_eq-Decides x z).0 
 not_same : (x y z : Name) → same_name z y ≡ true → same_name x y ≡ false → same_name z x ≡ false
 not_same x y z ea eb = turned z x ∙ ap (λ w. same_name x w) ((bytes_eq-Decides z y).0 ea) ∙ eb
 
--- two names have one slot where they are one, if one of them is known
+-- two names, one of them known, have the same slot exactly if they are equal
 pub one_slot : (z x : Name) (names : List Name) → is_among x names ≡ true
     → (slot_of z names == slot_of x names) ≡ same_name z x
 one_slot z x [] h = cc
@@ -29,7 +29,7 @@ one_slot z x (y ∷ names) h = first (same_name z y) (same_name x y) refl refl (
     first false true ea eb h g = suc_not (slot_of z names) ∙ sym (sym (same_as_third x z y eb) ∙ ea)
     first false false ea eb h g = suc_same (slot_of z names) (slot_of x names) ∙ h g
 
--- a name that is known has a slot below, and another none
+-- the slot of a known name is below the number of names
 pub slot_in : (x : Name) (names : List Name) → is_among x names ≡ true → slot_of x names < length names
 slot_in x [] h = cc
 slot_in x (y ∷ names) h = first (same_name x y) (slot_in x names) h
@@ -48,7 +48,7 @@ slot_out x (y ∷ names) h = first (same_name x y) (slot_out x names) h
     first true f g = cc
     first false f g = ap suc (f g)
 
--- what is among the names and one more
+-- a name is among names with one appended exactly if it is among them or is the appended one
 pub among_push : (x : Name) (names : List Name) (y : Name)
     → is_among x (names ++ y ∷ []) ≡ (is_among x names || same_name x y)
 among_push x [] y = alone (same_name x y)
@@ -63,7 +63,7 @@ among_push x (z ∷ names) y = first (same_name x z) (among_push x names y)
     first true h = refl
     first false h = h
 
--- the slot of a known name stays, whatever comes behind
+-- appending names keeps the slot of a known name
 pub slot_stays : (x : Name) (names more : List Name) → is_among x names ≡ true
     → slot_of x (names ++ more) ≡ slot_of x names
 slot_stays x [] more h = cc
@@ -75,7 +75,7 @@ slot_stays x (y ∷ names) more h = first (same_name x y) (slot_stays x names mo
     first true f g = refl
     first false f g = ap suc (f g)
 
--- uses that are read one after another
+-- the first uses of a concatenation are computed list by list
 pub uses_append : (n : ℕ) (found xs ys : List Use) → first_uses n found (xs ++ ys) ≡ first_uses n (first_uses n found xs) ys
 uses_append n found [] ys = refl
 uses_append n found (x ∷ xs) ys = uses_append n (with_first n found x) xs ys

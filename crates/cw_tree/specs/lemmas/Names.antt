@@ -1,4 +1,4 @@
--- Names, lists of names, and the functions that they call.
+-- Names, lists of names, and the functions that names call.
 use Rattle.std.proofs.Common.{◌≡◌, Bool, true, false, ◌||◌, if◌then◌else◌, Some, List, [], ◌∷◌, ◌++◌, refl, ap}
 use Rattle.cw_model.specs.Syntax.{Name, Function}
 use Rattle.cw_model.specs.Names.{same_name, is_among}
@@ -24,7 +24,7 @@ among_more x y (z ∷ names) h = first (same_name x z) h (among_more x y names)
     first true h' more = refl
     first false h' more = more h'
 
--- the function that is called by a name is the one of that name
+-- the function that a name calls is the function with this name
 pub called_is : (f : Name) (fs : List Function) (g : Function) → called f fs ≡ Some g → function_named f fs ≡ g
 called_is f [] g h = absurd cc
 called_is f (k ∷ fs) g h = go (same_name f k.name) h (λ p. called_is f fs g p)

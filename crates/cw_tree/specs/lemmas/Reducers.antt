@@ -1,4 +1,4 @@
--- A reducer that reduces in some way is among the reducers.
+-- A reducer that is used with a reduction is among the reducers.
 use Rattle.std.proofs.Common.{◌≡◌, Bool, true, false, if◌then◌else◌, List, [], ◌∷◌, Some, refl}
 use Rattle.cw_model.specs.declared.syntax.Reduction.{Reduction}
 use Rattle.cw_model.specs.Syntax.{Name, Reducer}
@@ -6,7 +6,7 @@ use Rattle.cw_model.specs.Names.{same_name, is_among}
 use Rattle.cw_model.specs.Typing.{reducer_called, reduces_so}
 use Rattle.cw_tree.specs.Resolved.{reducer_names}
 
--- a name by which a reducer is called that reduces so is the name of a reducer
+-- if the reducer with this name has this reduction, the name is the name of a reducer
 pub is_named : (how : Reduction) (s : Name) (rs : List Reducer) → reduces_so how (reducer_called s rs) ≡ true
     → is_among s (reducer_names rs) ≡ true
 is_named how s [] h = h

@@ -1,4 +1,4 @@
--- A body takes no more slots than its function declares names.
+-- The number of slots that a body needs is at most the number of names that its function declares.
 use Rattle.std.proofs.Common.{Bool, true, false, not, if◌then◌else◌, map, filter, ◌≡◌, ℕ, suc, ◌+◌, ◌≤◌, max, List}
 use Rattle.std.proofs.Common.{[], ◌∷◌, ◌++◌, length, refl, ap, arith}
 use Rattle.std.proofs.lemmas.List.{length_push}

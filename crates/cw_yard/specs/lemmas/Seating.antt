@@ -1,4 +1,4 @@
--- A seat of a yard, and the same by equations.
+-- `IsSeatOf` and `IsSeated` are equivalent.
 use Rattle.std.proofs.Common.{◌≡◌, ap, Some}
 use Rattle.std.proofs.lemmas.Option.{same_Some, none-some}
 use Rattle.crossbeam_deque.specs.Handles.{view, worker_view}

@@ -13,7 +13,7 @@ use Rattle.cw_compile.proofs.compiling.heads_of.Goals as goal
 abbrev heads : List Function → List model.Head
 heads fs = map head_of (map function_of fs)
 
--- one head more
+-- the invariant after one more head
 more : (all made : List Head) (h : Head) (f : Function) (left rest : List Function) (whole : List model.Head) → made ≡ all ++ h ∷ [] → head_view h ≡ head_of (function_of f) → left ≡ f ∷ rest
     → map head_view all ++ map head_of (map function_of left) ≡ whole → map head_view made ++ map head_of (map function_of rest) ≡ whole
 more all made h f left rest whole made_is head_is left_is before =
@@ -23,7 +23,7 @@ more all made h f left rest whole made_is head_is left_is before =
     ∙ ap (λ x. map head_view all ++ x ∷ map head_of (map function_of rest)) head_is
     ∙ ap (λ fs. map head_view all ++ map head_of (map function_of fs)) (sym left_is) ∙ before
 
--- a head
+-- a head with this name and line
 abbrev named : Name → ℕ → model.Head
 named name line = record { name = name; line = line }
 

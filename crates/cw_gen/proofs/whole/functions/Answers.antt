@@ -7,7 +7,7 @@ use Rattle.cw_gen.specs.Emit.{emitted_instrs, emitted_funcs}
 use Rattle.cw_gen.proofs.Joins.{instrs_of_both, funcs_of_both}
 use Rattle.cw_gen.proofs.whole.functions.Goals as goal
 
--- the code of the source's functions, as it stands behind what was there
+-- the code of the source functions, after the code before it
 front : (c : goal.In_ok-loop_functions) →
     c.functions_with.new.instrs.items ≡ c.args.instrs.now.items ++ emitted_instrs c.args.first (with_bodies (map function_of c.args.source.now.functions.items) (map (λ b. block_of b.items) c.args.lowered.now.bodies.items))
 front c =

@@ -1,4 +1,4 @@
--- The totals made, and then those of the reducers that are left.
+-- The totals made so far, followed by the totals of the remaining reducers.
 use Rattle.std.proofs.Common.{◌≡◌, ◌++◌, drop}
 use Rattle.cw_jobs.specs.Totals as totals
 use Rattle.cw_jobs.proofs.totals.none_told.Given as goal

@@ -1,4 +1,4 @@
--- The tags so far and those that are left, and the rows under them.
+-- The tags so far, the remaining ones, and the rows under them.
 use Rattle.cw_machine.proofs.Keyed.{TagsTowards}
 use Rattle.cw_machine.proofs.alone.by_tag.Given as goal
 

@@ -20,13 +20,13 @@ use Rattle.cw_machine.proofs.Metering.{gauge_of}
 use Rattle.cw_machine.proofs.FromMain.{is_over, was_over, IsTrapped-prop, was_trapped, requested, asked_count, asked_limit, asked_burden, main_there, main_has_room, main_room, main_frame, first_run, finished, over, trapped}
 use Rattle.cw_machine.proofs.alone.run_whole.Goals as goal
 
--- what is charged is in its range, where anything is counted
+-- the charge is in its range, if anything is counted
 light_of : (d : Detail) (burden : Burden) → (burden_of d).charge ≤ burden.charge → burden.charge ≤ MOST_BURDEN → IsLight d
 light_of detail.Values burden least most = tt
 light_of detail.Strands burden least most = tt
 light_of (detail.Measures charged) burden least most = omega (arith, least, most)
 
--- a new run has main's room and a total for each reducer
+-- a new run has the stack of `main` and a total for each reducer
 is_new : {f : Func} {args : List ℤ} {room room' : ℕ} {reducers reducers' : List Reducer} {detail : Detail} {r : Run} → room ≡ room' → reducers ≡ reducers' → IsNewRun f args room reducers detail r → IsNewRun f args room' reducers' detail r
 is_new {f} {args} {room} {room'} {reducers} {reducers'} {detail} {r} e e' new = subst (λ k. IsNewRun f args k reducers' detail r) e (subst (λ k. IsNewRun f args room k detail r) e' new)
 

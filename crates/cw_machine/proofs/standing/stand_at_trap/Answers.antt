@@ -16,11 +16,11 @@ use Rattle.cw_machine.proofs.AtTrap.{is_end, was_end, over, ended, trapped}
 use Rattle.cw_machine.proofs.FromMain.{as_many_asked, Main, main_of, asked_of, is_over, was_over, IsTrapped-prop, was_trapped}
 use Rattle.cw_machine.proofs.standing.stand_at_trap.Goals as goal
 
--- the test is that of the request
+-- the test is equivalent to the test of the request
 asked_as : (v : Verified) (args : List ℤ) (params n : ℕ) → params ≡ main_params (code_view v.code) → is_asked params (length args) n no_burden ≡ true → is_request (code_view v.code) args n no_burden ≡ true
 asked_as v args params n e h = ap (λ k. is_asked k (length args) n no_burden) (sym e) ∙ h
 
--- what a run from where main begins came to
+-- the outcome of a run from the beginning of `main`
 came : (v : Verified) (ok : IsFit v) (main : Main v) (args : List ℤ) (n : ℕ) (m m' : Machine) (to to' : Halt) → BeginsRun v args m → HaltsAny v m n to' m' → to' ≡ to → Halts (code_view v.code) to m' n (first_state main.func args [] [])
 came v ok main args n m m' to to' begins runs is = subst (λ x. Halts (code_view v.code) x m' n (first_state main.func args [] [])) is (runs ok (first_state main.func args [] []) (begins ok main.func main.found))
 

@@ -27,12 +27,12 @@ decreases-operand l = 512 * l.depth
 abbrev pub decreases-operand_after : goal.decreases-operand_after
 decreases-operand_after l = 512 * l.depth + 300
 
--- what is still read gives what all would give
+-- reading the rest with the remaining bound returns what reading all operators returns
 abbrev pub invariant-chain-loop : goal.invariant-chain-loop
 invariant-chain-loop l =
     chain (level l.reading.text.now l.depth l.below) (l.below + 1) (l.depth - l.counter) (expr_of l.left) l.rest
     ≡ chain (level l.reading.text.now l.depth l.below) (l.below + 1) l.depth (expr_of l.fn.first) l.fn.tokens
 
--- what was read is all of the levels so far
+-- the value and the rest are the result of reading the levels up to `below`
 abbrev pub invariant-level-loop-below : goal.invariant-level-loop-below
 invariant-level-loop-below l = level l.reading.text.now l.depth l.below l.fn.tokens ≡ Ok (expr_of l.value, l.rest)

@@ -1,4 +1,4 @@
--- What is kept so far, with the tokens that are left, comes to what is kept of all.
+-- The recorded lines so far, continued with the remaining tokens, are the recorded lines of all tokens.
 use Rattle.std.proofs.Common.{◌≡◌, ◌≤◌, None, drop}
 use Rattle.cw_parse.specs.Nesting.{first_passed}
 use Rattle.cw_parse.proofs.nesting.first_passed.Given as goal

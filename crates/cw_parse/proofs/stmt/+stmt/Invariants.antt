@@ -25,7 +25,8 @@ decreases-stmt l = 8 * l.depth + 4
 abbrev pub decreases-line_by : goal.decreases-line_by
 decreases-line_by l = 8 * l.depth + 5
 
--- what is still read, behind what was read, is what all would give, and the numbers of call statements have room
+-- the lines so far joined to the reading of the rest are the reading of the whole block, and the call numbers stay in
+-- range
 abbrev pub invariant-lines-loop : goal.invariant-lines-loop
 invariant-lines-loop l =
     (with_front put_before (map line_of l.done.items) (row (is_mark mark.RightBrace) (λ m. (End, m)) put_before (line l.reading.text.now l.depth) (l.depth - l.counter) l.site l.rest)

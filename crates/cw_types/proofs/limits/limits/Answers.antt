@@ -28,7 +28,7 @@ five a b c d e p q r s t u none first second third fourth fifth =
     ∙ sym (lowest-append (lowest None a) b (c ++ (d ++ e)))
     ∙ sym (lowest-append None a (b ++ (c ++ (d ++ e))))
 
--- the least of lines, noted at once, by what is said of it
+-- recording the least of some lines is the same as recording all of them
 once : (p q least : Option ℕ) (lines : List ℕ) → q ≡ lowest p (option_to_list least) → least ≡ lowest None lines → q ≡ lowest p lines
 once p q least lines noted is = noted ∙ ap (λ o. lowest p (option_to_list o)) is ∙ lowest_least p lines
 

@@ -8,13 +8,13 @@ use Rattle.cw_types.specs.Scope.{kinds}
 use Rattle.cw_types.specs.Scope.{Declared, kind_and_line, newest}
 use Rattle.cw_types.proofs.rules.of_use.Goals as goal
 
--- what a name is known as says what may stand there
+-- the kind of a known name determines where it fits
 stands : (x y : Name) (known : Known) (kind at : NameKind) → y ≡ x → known_as y kind known → kind ≡ at → (wanted : NameKind) →
     is_known x (may_stand wanted) known ≡ may_stand wanted at
 stands x y known kind at same known_so is wanted =
     ap (λ (z : Name). is_known z (may_stand wanted) known) (sym same) ∙ known_so wanted ∙ ap (may_stand wanted) is
 
--- and in which line
+-- the line of a known name is the line of its newest declaration
 told : (x y : Name) (locals : List Declared) (kind at : NameKind) (line : ℕ) → y ≡ x → option_map kind_and_line (newest y locals) ≡ Some (kind, line) → kind ≡ at →
     option_map kind_and_line (newest x locals) ≡ Some (at, line)
 told x y locals kind at line same first is =

@@ -1,4 +1,4 @@
--- A `&` to cells is a `&` to a row, whether they are owned or a part of the right to them is. Assumes `Logic`.
+-- A `&` to cells is a `&` to a row, if the cells are owned or only a part of the right is. Assumes `Logic`.
 use denote.Param.Shared.{copy_shared}
 use denote.Struct.Field.{RawPtr-field, usize-field}
 use denote.Struct.Laws.{RawPtr-copy, usize-copy}

@@ -1,4 +1,4 @@
--- `put` writes one place of cells that are owned, through the pointer.
+-- `put` writes one place of owned cells through the pointer.
 use Rattle.cw_slices.proofs.Steps.{◌≡◌, ◌+◌, ◌*◌, ◌^◌, ◌<◌, ◌∙◌, List, [], ◌∷◌, length, refl, sym, ap, arith, named, proved, fact}
 use Rattle.cw_slices.proofs.Steps.{id⊢, ftrue, flft, froom, Val, vint, vptr, vunit, w64, tables, ‵, raw, ◌⊛◌}
 use Rattle.cw_slices.proofs.Steps.{at_ret, ◌$◌, ◌∵◌, !, qed, done, move, keep, drop, use1, use3, split, join, fsplit, fsplit3}
@@ -51,7 +51,7 @@ put_spec 𝓤 𝓛 𝓜 𝓡 wired =
     let y : W.Ghost = ((κs, qs, bounds, a, (vptr rb ro ∷ [], (vint w64 i ∷ [], (vs, tt)))), gh) in
     qed 𝓛 (((‵ (flft κ q) ⊛ ‵ ftrue) ⊛ ‵ (owns (types_at f.ended.signature.params κs) a y.0.4)) ∷ raw (fact 𝓤 Asked) ∷ []) ∵
     move ! (1 ∷ []) $ heard ! Asked (λ asked. split ! $ split ! $ move ! (2 ∷ []) $ fsplit3 ! $ fsplit3 ! $ move ! (4 ∷ []) $ fsplit ! $ keep ! (3 ∷ 4 ∷ 6 ∷ 0 ∷ 7 ∷ []) $
-    -- [what the borrow is seen at; the borrow; its token; the number; the other tokens]
+    -- [the state of the borrow; the borrow; its token; the number; the other tokens]
     let ix : i < length h.items = omega (arith, asked.1, h.ok.0) in let fx : i < length h.filled = omega (arith, asked.1, h.ok.1) in
     enter ! 𝓣.C 𝓣.Λ code.function (vptr rb ro ∷ vint w64 i ∷ v ∷ []) _ $ alloc_all ! (λ l. pass_all ! refl ((tt, tt), ((tt, record { fits = small }), (good, tt))) $
     opens ! tt Cells.the_row {h = h} rb ro (λ us. move ! (1 ∷ []) $ peeks ! Cells.the_row (Is Cells.the_row) (shows 𝓛 Cells.the_row) h us (λ so. fsplit ! $ drop ! $

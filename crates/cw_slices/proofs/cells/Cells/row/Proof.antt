@@ -1,4 +1,4 @@
--- `row` shows the words as a row's: a `&` to a part holds what a `&` to a row does.
+-- `row` reads the words as the words of a row: a `&` to a part of the right holds the same as a `&` to a row.
 use Rattle.cw_slices.proofs.Steps.{[], ◌∷◌, List, refl, proved, id⊢, Val, vptr, named, tables, ‵, raw, ◌⊛◌, at_ret, ◌$◌, ◌∵◌, !, qed, done, move, keep, drop, use1, split, fsplit}
 use Rattle.cw_slices.proofs.Steps.{fjoin, feq_i, addr, enter, of_opd, stop, first, blocks, exec, returns, alloc_all, pass_all, free_all, look_at, get, through, sets, sets_last, env}
 use Rattle.cw_slices.proofs.Steps.{owns, plain, types_at, yes, nothing, alive, says, suffices, Stays, walk_of, stay_dropped, Goes-dropped, ends_at}

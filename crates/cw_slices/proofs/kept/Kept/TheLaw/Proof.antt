@@ -1,4 +1,4 @@
--- A `&` to a row of which cells are out is a `&` to a row with those places empty. Assumes `Logic`.
+-- A `&` to a row with cells out is a `&` to a row in which those places are empty. Assumes `Logic`.
 use denote.Param.Shared.{copy_shared}
 use denote.Struct.Field.{RawPtr-field, usize-field}
 use denote.Struct.Laws.{RawPtr-copy, usize-copy}

@@ -1,4 +1,4 @@
--- `halve` takes half of the right to a run out of a row, and tells where it begins.
+-- `halve` takes half of the right to a run out of a row, and returns where the run begins.
 use Rattle.cw_slices.proofs.Steps.{◌≡◌, ◌+◌, ◌*◌, ◌^◌, ◌<◌, ◌≤◌, ◌∙◌, List, [], ◌∷◌, true, length, replicate, refl, sym, ap, arith, named, proved, fact, id⊢, ftrue, flft, Val, vint, vptr}
 use Rattle.cw_slices.proofs.Steps.{w64, tables, ‵, raw, ◌⊛◌, at_ret, ◌$◌, ◌∵◌, !, qed, done, move, keep, drop, use1, split, join, fsplit, fsplit3, fjoin, fjoin3, feq_i, flt_i, flt_l}
 use Rattle.cw_slices.proofs.Steps.{rewrite, suffices, agg, sub, whole, stop, fld, load, lit, bin, of_opd, no_more, and_then, enter, first, blocks, exec, returns, alloc_all, pass_all}
@@ -45,7 +45,7 @@ halve_spec 𝓤 𝓛 𝓜 𝓡 wired =
     qed 𝓛 (((‵ (flft κ q) ⊛ ‵ ftrue) ⊛ ‵ (owns (types_at f.ended.signature.params κs) a y.0.4)) ∷ (raw (fact 𝓤 Within) ⊛ (raw (fact 𝓤 There) ⊛ raw (fact 𝓤 Alike))) ∷ []) ∵
     move ! (1 ∷ []) $ split ! $ heard ! Within (λ within. split ! $ heard ! There
     (λ there. heard ! Alike (λ even. split ! $ split ! $ move ! (2 ∷ []) $ fsplit3 ! $ fsplit3 ! $ move ! (4 ∷ []) $ fsplit ! $ keep ! (3 ∷ 4 ∷ 6 ∷ 7 ∷ []) $
-    -- [what the borrow is seen at; the borrow; its token; the other tokens]
+    -- [the state of the borrow; the borrow; its token; the other tokens]
     let xs = there.0 in let count : length xs ≡ k = there.1 in let fits : n + length xs ≤ length h.cells = omega (arith, within, count) in
     enter ! 𝓣.C 𝓣.Λ code.function (vptr rb ro ∷ vint w64 n ∷ vint w64 k ∷ []) _ $ alloc_all !
     (λ l. pass_all ! refl ((tt, tt), ((tt, record { fits = are.1.0.1 }), ((tt, record { fits = are.1.1.0.1 }), tt))) $

@@ -1,4 +1,4 @@
--- `keep` makes a row that is all in of a span.
+-- `keep` makes a row that is all in from a span.
 use Rattle.cw_slices.proofs.Steps.{◌^◌, ◌<◌, [], ◌∷◌, refl, sym, ◌∙◌, w64, proved, vint, fact, tables, ‵, raw, ◌⊛◌, ◌$◌, ◌∵◌, !, qed, done, move, keep, use1, split, fsplit, fsplit3, fjoin, rewrite}
 use Rattle.cw_slices.proofs.Steps.{agg, enter, no_more, and_then, returns, alloc_all, pass_all, free_all, look_at, get, sets, owns, plain, types_at, yes, usize, RawPtr, ptr_val, rawptr_vals}
 use Rattle.cw_slices.proofs.Steps.{rawptr_Tells, uint_vals, uint_Tells, nothing, heard, alive, suffices, Stays, walk_of, stay_dropped, Goes-dropped, ends_at, span_owned, bare}

@@ -42,7 +42,7 @@ meet_spec 𝓤 𝓛 𝓜 𝓡 wired =
     move ! (1 ∷ []) $ split ! $ heard ! Within (λ within. split ! $ heard ! There
     (λ there. heard ! Alike (λ even. split ! $ split ! $ move ! (2 ∷ []) $ fsplit3 ! $ fsplit3 ! $ move ! (4 ∷ []) $ fsplit ! $ fsplit ! $ keep !
     (4 ∷ 5 ∷ 7 ∷ 1 ∷ 8 ∷ []) $
-    -- [what the borrow is seen at; the borrow; its token; the run; the other tokens]
+    -- [the state of the borrow; the borrow; its token; the run; the other tokens]
     rewrite ! 3 (λ p. ‵ (span_owned p s.items s.filled s.halved)) there.0 refl $ rewrite ! 3 (λ fs. ‵ (span_owned (h.ptr +ₚ (n * 8)) s.items fs s.halved)) (there.2 ∙ sym (marks_ins s.items)) refl $
     enter ! 𝓣.C 𝓣.Λ code.function (vptr rb ro ∷ vint w64 n ∷ bare ∷ []) _ $ alloc_all ! (λ l. pass_all ! refl ((tt, tt), ((tt, record { fits = are.1.0.1 }), ((tt, tt), tt))) $
     opens ! tt Kept.the_row {h = h} rb ro (λ us. move ! (1 ∷ []) $ peeks ! Kept.the_row (Is Kept.the_row) (shows 𝓛 Kept.the_row) h us (λ so. fsplit ! $ drop ! $

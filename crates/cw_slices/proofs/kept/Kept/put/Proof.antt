@@ -52,7 +52,7 @@ put_spec 𝓤 𝓛 𝓜 𝓡 wired =
     let y : W.Ghost = ((κs, qs, bounds, a, (vptr rb ro ∷ [], (vint w64 i ∷ [], (vs, tt)))), gh) in
     qed 𝓛 (((‵ (flft κ q) ⊛ ‵ ftrue) ⊛ ‵ (owns (types_at f.ended.signature.params κs) a y.0.4)) ∷ (raw (fact 𝓤 Asked) ⊛ raw (fact 𝓤 Own)) ∷ []) ∵
     move ! (1 ∷ []) $ split ! $ heard ! Asked (λ asked. heard ! Own (λ own. split ! $ split ! $ move ! (2 ∷ []) $ fsplit3 ! $ fsplit3 ! $ move ! (4 ∷ []) $ fsplit ! $ keep ! (3 ∷ 4 ∷ 6 ∷ 0 ∷ 7 ∷ []) $
-    -- [what the borrow is seen at; the borrow; its token; the number; the other tokens]
+    -- [the state of the borrow; the borrow; its token; the number; the other tokens]
     let ix : i < h.len = omega (arith, slice_get_within h.cells i (Some asked.0) asked.1, h.ok.0) in
     enter ! 𝓣.C 𝓣.Λ code.function (vptr rb ro ∷ vint w64 i ∷ v ∷ []) _ $ alloc_all ! (λ l. pass_all ! refl ((tt, tt), ((tt, record { fits = small }), (good, tt))) $
     opens ! tt Kept.the_row {h = h} rb ro (λ us. move ! (1 ∷ []) $ peeks ! Kept.the_row (Is Kept.the_row) (shows 𝓛 Kept.the_row) h us (λ so. fsplit ! $ drop ! $

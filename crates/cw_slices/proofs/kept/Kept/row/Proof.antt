@@ -1,4 +1,4 @@
--- `row` shows the words as a row's: a `&` to a row of which cells are out holds what a `&` to a row does.
+-- `row` reads the words as the words of a row: a `&` to a row with cells out holds the same as a `&` to a row.
 use Rattle.cw_slices.proofs.Steps.{[], ◌∷◌, List, refl, sym, ◌∙◌, proved, id⊢, Val, vptr, named, tables, ‵, raw, ◌⊛◌, at_ret, ◌$◌, ◌∵◌, !, qed, done, move, keep, drop, use1, split}
 use Rattle.cw_slices.proofs.Steps.{fsplit, fjoin, feq_i, addr, enter, of_opd, stop, first, blocks, exec, returns, alloc_all, pass_all, free_all, look_at, get, through, sets}
 use Rattle.cw_slices.proofs.Steps.{sets_last, env, owns, plain, types_at, yes, nothing, alive, suffices, Stays, walk_of, stay_dropped, Goes-dropped, ends_at}

@@ -8,7 +8,7 @@ use Rattle.cw_verify.proofs.Numbering.{after_meeting, joined_outer, known_set, p
 use Rattle.cw_verify.proofs.Spreading.{shapes_at, come_new, come_more}
 use Rattle.cw_verify.proofs.search.Search.come.Goals as goal
 
--- the blocks of what was there have the number of their place
+-- the enclosing blocks of a reached pc have its number
 there_numbered : (names : Names) (items : List (Option Found)) (numbers : List ℕ) (last k : ℕ) (o d : Option Found) (t : Found) → k < length items → o ≡ get_or items k d → o ≡ Some t → AreNumbered names (shapes_of items) numbers last →
     HasNumber names last (number_of numbers k) (rounds_of t.outer.value)
 there_numbered names items numbers last k o d t lt e is h = h k (shape_view t) (shapes_at items k o d lt e ∙ ap (λ x. Some (option_map shape_view x)) is)

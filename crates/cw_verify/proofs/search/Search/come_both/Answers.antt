@@ -19,7 +19,7 @@ returns-in-Ok-come-clause-comes c =
       spread_both (so_far old) (so_far mid) (so_far new) (work_of old) (work_of mid) (work_of new) c.in-Ok.reached c.in-Ok-come.more (come_length 0 (so_far old) c.args.k shape (so_far mid) first.0) first.1 second.1,
     )
 
--- the copy has the number too
+-- the copy has the same number
 copied : (names : Names) (last last' number : ℕ) (shape copy : Found) → last' ≡ last → shape_view copy ≡ shape_view shape → HasNumber names last number (rounds_of shape.outer.value) → HasNumber names last' number (rounds_of copy.outer.value)
 copied names last last' number shape copy e f h = subst (λ l. HasNumber names l number (rounds_of copy.outer.value)) (sym e) (subst (HasNumber names last number) (sym (ap (λ s. s.outer) f)) h)
 
