@@ -1,7 +1,7 @@
 #!/usr/bin/env python3
 """Mutates the definitions one clause at a time, and reports which worked examples refuse each mutated clause.
 
-    turn.py [--file NAME | --turn [NUMBER] | --every N] [--jobs N] [--write]
+    turn.py [--file NAME | --new | --turn [NUMBER] | --every N] [--jobs N] [--write]
 
 Each row of clauses.csv is a mutated clause. The text `stands` must occur once in a definition file; a blank in it matches any
 white space. In a copy of the crate it is replaced by `turned`, and the worked examples are proved again. The column `file` is
@@ -9,9 +9,9 @@ a file of cw_model, or CRATE/NAME. The column `refused_by` names the first examp
 program shows the difference. Without --write the column is compared: each example that it names must fail, otherwise the
 status is 1. With --write it is filled.
 
---file tries the rows of one file, --turn the sample of a commit (by default of the current one), --every the first of each N
-rows. Further answers are `unread` (the mutated text is no definition) and `late` (the examples take more than LATEST seconds
-of processor time). The script needs `rt` on the path.
+--file tries the rows of one file, --new those whose column `refused_by` is empty, --turn the sample of a commit (by default of
+the current one), --every the first of each N rows. Further answers are `unread` (the mutated text is no definition) and `late`
+(the examples take more than LATEST seconds of processor time). The script needs `rt` on the path.
 """
 import argparse
 import csv
@@ -248,7 +248,8 @@ def sample(rows, number):
 def chosen(rows, given):
     """Returns the rows that the arguments ask for."""
     if given.turn is None:
-        return [row for row in rows if given.file in (None, row["file"])][:: given.every]
+        mine = [row for row in rows if given.file in (None, row["file"]) and not (given.new and row["refused_by"])]
+        return mine[:: given.every]
     number = commit.number() if given.turn == -1 else given.turn
     print("the sample of commit %d; again by --turn %d" % (number, number), flush=True)
     return sample(rows, number)
@@ -265,6 +266,7 @@ def prove_unchanged(rows, base):
 def main():
     parser = argparse.ArgumentParser()
     parser.add_argument("--file", help="tries only the rows of this definition file")
+    parser.add_argument("--new", action="store_true", help="tries only the rows whose column refused_by is empty")
     parser.add_argument("--turn", type=int, nargs="?", const=-1, help="tries the sample of a commit, by default of the current one")
     parser.add_argument("--every", type=int, default=1, help="tries only the first of each so many rows")
     parser.add_argument("--jobs", type=int, default=2, help="checks at a time")

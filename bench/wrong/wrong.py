@@ -74,7 +74,7 @@ def kit():
 
 
 def libraries_of():
-    """What crates.txt says that each crate stands on."""
+    """Returns the libraries of each crate, by crates.txt."""
     with open(os.path.join(TOP, "crates.txt"), encoding="utf-8") as file:
         lines = [line.partition("#")[0].strip() for line in file]
     split = [line.partition(":") for line in lines if line]
@@ -82,7 +82,7 @@ def libraries_of():
 
 
 def below(crate, uses):
-    """The libraries of the repository below a crate."""
+    """Returns the libraries of the repository below a crate."""
     found = [name for name in uses[crate] if name in uses]
     for name in found:
         found += [it for it in uses[name] if it in uses and it not in found]
@@ -94,7 +94,7 @@ def folder_of(crate):
 
 
 def text_of(crate):
-    """A sum of the crate's text: of each file of its src, specs and proofs."""
+    """Returns a sum of the crate's text: of each file of its src, specs and proofs."""
     found = hashlib.sha256()
     for part in PARTS:
         for at, folders, names in os.walk(os.path.join(folder_of(crate), part)):
@@ -144,7 +144,7 @@ def edited(row):
 
 def misfits(rows):
     """Returns what is wrong with edits and rows as texts: one without the other, an edit that cannot be applied, a row that names
-    no function, or that says something else of public contracts than public.py."""
+    no function."""
     said = []
     named = {(row["crate"], row["edit"]) for row in rows}
     stand = {
@@ -161,16 +161,21 @@ def misfits(rows):
         if isinstance(why := edited(row), str):
             said.append("%s: bad edit: %s" % (label, why))
         said += ["%s: the crate has no function %s" % (label, it) for it in row["only"].split() if not public.named(row["crate"], it)]
-        if row["public"] != public_column(row):
-            said.append("%s: the column `public` must be %s" % (label, public_column(row)))
     return said
+
+
+def incomplete(rows):
+    """Returns what is wrong with the columns: a reason that is missing, or another word on public contracts than public.py has."""
+    said = ["%s/%s: no reason says why it is not refused" % (it["crate"], it["edit"]) for it in rows if it["answer"] != REFUSED and not it["why"]]
+    wrong = [(it, public_column(it)) for it in rows if it["public"] != public_column(it)]
+    return said + ["%s/%s: the column `public` must be %s (--write)" % (it["crate"], it["edit"], word) for it, word in wrong]
 
 
 # --- trials
 
 
 def words_of(crate, libraries, only):
-    """The words of a check of these functions of a crate."""
+    """Returns the command that checks these functions of a crate."""
     home, uses = kit(), libraries_of()
     words = [home + "/bin/rattle", "check", "--crate-name", crate]
     words += ["src/main.rt" if os.path.isfile(folder_of(crate) + "/src/main.rt") else "src/lib.rt"]
@@ -191,7 +196,7 @@ def words_of(crate, libraries, only):
 
 
 def lacking(crate, libraries):
-    """The first library below a crate that is not built, if there is one."""
+    """Returns the first library below a crate that is not built, if there is one."""
     uses = libraries_of()
     formats = {name: "%s/crates/%s/out/rlib/%s.rlib/format" % (libraries, name, name) for name in below(crate, uses)}
     return next((name for name, file in formats.items() if not os.path.isfile(file)), None)
@@ -202,7 +207,7 @@ def bound():
 
 
 def check(crate, libraries, folder, only):
-    """Proves these functions of a copy of a crate; gives the status, what was said and the seconds of a processor."""
+    """Proves these functions of a copy of a crate. Returns the status, the output and the seconds of processor time."""
     with tempfile.TemporaryFile("w+", errors="replace") as out:
         how = {"cwd": folder, "stdin": subprocess.DEVNULL, "stdout": out, "stderr": out, "preexec_fn": bound}
         ran = subprocess.Popen(words_of(crate, libraries, only), **how)
@@ -217,7 +222,7 @@ def check(crate, libraries, folder, only):
 
 
 def linked(one, other):
-    """Copies a file of what was proved by a second name: a check replaces such a file and changes none."""
+    """Copies a file of a proof as a second name: a check replaces such files and never changes one."""
     try:
         os.link(one, other) if one.endswith(".oantt") else shutil.copy2(one, other)
     except OSError:
@@ -225,7 +230,7 @@ def linked(one, other):
 
 
 def copy_of(crate, folder, kept):
-    """Copies a crate's text, with what an earlier check of the same crate kept, where there is any."""
+    """Copies a crate's text, and the proofs that an earlier check of the crate kept, if there are any."""
     for part in PARTS:
         if os.path.isdir(os.path.join(folder_of(crate), part)):
             shutil.copytree(os.path.join(folder_of(crate), part), os.path.join(folder, part))
@@ -237,23 +242,23 @@ def copy_of(crate, folder, kept):
 
 
 def unread(line, changed):
-    """Whether a line says that a text cannot be read: one of src or specs, or one that the edit changes."""
+    """Returns whether a line says that a text of src or specs, or one that the edit changes, cannot be read."""
     at = re.match(r"(?:\./)?(\S+?):\d+:\d+: error: (?:(`[^`]*`): )?(.*)", line)
     if not at or at[1] not in changed and not at[1].startswith(("src/", "specs/")):
         return False
     said = re.sub(r"`[^`]*`", "", at[3])
-    # (what stands on a lemma that is refused tells nothing of its own)
+    # what depends on a refused lemma says nothing of its own
     if re.match(r"\d+ declarations? that depends? on", said):
         return False
     return not at[2] or bool(re.search(r"is not in scope|has no field|is no name|operand is missing|expected the end|cannot continue", said))
 
 
-# a proof file that names what the edit took away, and what cites such a proof: no goal was tried
+# a proof file that names something that the edit removed, or that cites such a proof: no goal was tried
 NAMES = r"(note: )?(\./)?proofs/.*(has no field|is not in scope|has no `|was not admitted|too (many|few) arguments)"
 
 
 def answer(status, said, changed):
-    """What a check with an edit in place comes to, and the line that says so."""
+    """Returns the answer of a check with an edit, and the line of the output that shows it."""
     lines = said.rstrip("\n").split("\n")
     if status in (-signal.SIGXCPU, -signal.SIGKILL):
         return NOT_TRIED, "it took more than %d seconds" % LATEST if status == -signal.SIGXCPU else "it was killed"
@@ -273,13 +278,13 @@ def answer(status, said, changed):
 
 
 class Trials:
-    """The trials of one crate: its functions as they stand, and then each edit over what that kept."""
+    """The trials of one crate: its functions without an edit, then each edit, with the proofs that the first check kept."""
 
     def __init__(self, crate, rows, libraries, room):
         self.crate, self.rows, self.libraries, self.base = crate, rows, libraries, os.path.join(room, crate)
 
     def control(self):
-        """Proves the functions of all rows as they stand. Gives why none can be tried, if so, and the seconds that it took."""
+        """Proves the functions of all rows without an edit. Returns the reason if no mutant can be tried, and the seconds."""
         if name := lacking(self.crate, self.libraries):
             return "the library %s is not built" % name, 0
         only = sorted({name for row in self.rows for name in row["only"].split()})
@@ -289,11 +294,11 @@ class Trials:
         if answer(status, said, {})[0] == LET_THROUGH:
             return "", seconds
         told = [line for line in said.split("\n") if ": error" in line or line.startswith("only=")] or said.split("\n")[-2:]
-        return "not proved as it stands: " + told[0][:300], seconds
+        return "not proved without an edit: " + told[0][:300], seconds
 
     def trial(self, row):
-        """Proves the functions of a row with its edit in place. Gives the answer, what says so, the seconds, and how many functions
-        these are with those that they call."""
+        """Proves the functions of a row with its edit. Returns the answer, the line that shows it, the seconds, and the number of
+        these functions with those that they call."""
         texts = edited(row)
         if isinstance(texts, str):
             return BAD, texts, 0, ""
@@ -349,12 +354,13 @@ def write_table(rows):
 
 
 def put(row, came, said, seconds, proofs):
-    """Writes what was found into the table, as it stands by now: others may write theirs meanwhile."""
+    """Writes a result into the table, which is read again: another process may have changed it."""
     rows = read_table()
     own = next(it for it in rows if (it["crate"], it["edit"]) == (row["crate"], row["edit"]))
     own.update(answer=came, seconds=str(round(seconds)), proofs=proofs)
     own["text"] = text_of(row["crate"]) if came in (REFUSED, LET_THROUGH) else ""
     own["why"] = "" if came == REFUSED else own["why"] if came == row["answer"] else said
+    own["public"] = public_column(own)
     write_table(rows)
 
 
@@ -433,7 +439,7 @@ def print_turns(rows):
 
 
 def chosen(rows, names):
-    """The rows of these crates and edits."""
+    """Returns the rows of these crates and mutants."""
     labels = {"%s/%s" % (row["crate"], row["edit"]) for row in rows} | {row["crate"] for row in rows}
     if unknown := [name for name in names if name not in labels]:
         raise SystemExit("no crate and no edit of the table: " + " ".join(unknown))
@@ -455,8 +461,7 @@ def main():
             row["public"] = public_column(row)
         write_table(rows)
     bad = misfits(rows)
-    if not given.names:
-        bad += ["%s/%s: no reason says why it is not refused" % (it["crate"], it["edit"]) for it in rows if it["answer"] != REFUSED and not it["why"]]
+    bad += [] if given.names or bad else incomplete(rows)
     for said in bad:
         print(said)
     if bad:

@@ -1,5 +1,4 @@
--- Worked examples of gains: the spans if a function's instructions took no time. Each line was worked out by hand.
--- `a || b` is a child of weight a in parallel with a continuation of weight b.
+-- Worked examples of what functions would bring if they were free. Each line was worked out by hand.
 use Rattle.std.specs.Prelude.{◌≡◌, ℕ, Bool, false, ◌==◌, List, [], ◌∷◌, ◌++◌, codes}
 use Rattle.cw_model.specs.declared.limits.TheConstants.{USUAL_LIMIT}
 use Rattle.cw_model.specs.declared.syntax.Operator.TheVariants.{Less}
@@ -14,7 +13,7 @@ use Rattle.cw_model.specs.Examples.{serial, lines, ScalesBoth}
 use Rattle.cw_model.specs.ExamplePrograms.{f, g, h, i, n, p, t, main, number, minus, int_param, int_function}
 use Rattle.cw_model.specs.ExamplePrograms.{void_function, of_functions, on_line, block, give, call, spawn, main_of, alone}
 
--- at this burden, the gain report with at most `top` functions has these rows
+-- at a burden the gain report of at most so many functions has these rows
 abbrev pub Gains : (top : ℕ) → Program → (args : List ℕ) → (burden : ℕ) → List (List ℕ) → Type 0
 Gains top program args burden rows =
     report_text (Gain top) program (on_spawns burden) (serial program args USUAL_LIMIT) ≡ gain_header ++ lines rows
@@ -32,7 +31,7 @@ SpansIfFree frees program args k = in_answer (serial program args USUAL_LIMIT) �
     in_answer (Ended v printed totals tree) = span_if_free frees tree
     in_answer _ = 0
 
--- a call of nine instructions in parallel with a call of five
+-- a call of nine instructions beside one of five
 abbrev pub near_tie_program : Program
 near_tie_program = of_functions (
     void_function f []
@@ -57,7 +56,7 @@ halves_program = of_functions (
     ∷ int_function main 3 (int_param n ∷ []) (on_line 3 (call 3 h (Variable n ∷ []) ∷ give (number 0) ∷ []))
     ∷ [])
 
--- a loop in a region, with two iterations; each iteration is a leaf with one call
+-- a loop in a region, of two turns, each a call and each a leaf
 abbrev pub loop_in_region_program : Program
 loop_in_region_program = of_functions (
     void_function p [] End
@@ -84,9 +83,9 @@ same_own_span_program = of_functions (
     ∷ main_of (call 1 g [] ∷ call 2 f [] ∷ give (number 0) ∷ [])
     ∷ [])
 
--- the gains of functions
+-- what functions would bring
 pub record GainExamples : Type 0 where
-  -- the child costs 9, the continuation 1 + 5 + 1: the span is 1 + 9 + 1, and 1 + 7 + 1 if f took no time
+  -- the child costs 9, the rest 1 + 5 + 1: the span is 1 + 9 + 1, and 1 + 7 + 1 if f were free
   pub near_tie : Gains 10 near_tie_program [] 10
       (codes ",0,0,18,11,11,1.636,19" ∷ codes "f,1,1,9,9,9,2.000,19" ∷ codes "main,1,1,4,2,9,2.000,15" ∷ [])
   pub not_on_the_path : SpansIfFree (is_site_of (sites_of near_tie_program) g) near_tie_program [] 11
@@ -96,21 +95,21 @@ pub record GainExamples : Type 0 where
   -- the path goes through the second call, whose own span is 18; if that were free, 2 + 8 + (8 + 5 + 1) + 1 + 2
   pub one_site_of_two : SpansIfFree (λ site. site == 2) halves_program (2 ∷ []) 27
   pub other_site_of_two : SpansIfFree (λ site. site == 1) halves_program (2 ∷ []) 35
-  -- a leaf costs 26 without its call: 1 + 3 + 17 + (3 + 27) + 1 + 1 + 2
+  -- a leaf costs 26 beside its call: 1 + 3 + 17 + (3 + 27) + 1 + 1 + 2
   pub loop_in_region : Gains 10 loop_in_region_program [] 10
       (codes ",0,0,82,55,55,1.490,65" ∷ codes "main,1,1,80,54,1,82.000,11" ∷ codes "p,1,2,2,1,54,1.518,64" ∷ [])
-  -- the child is charged, too: 1 + (10 + 9 || 10 + 1 + 5 + 1) + 1; without f 1 + (10 || 17) + 1, and without
-  -- main (10 + 9 || 10 + 5)
+  -- the child is charged, too: 1 + max (10 + 9) (10 + 1 + 5 + 1) + 1; without f it is 1 + max 10 17 + 1, and without
+  -- main max (10 + 9) (10 + 5)
   pub both_edges : GainsBoth 10 near_tie_program [] 10
       (codes ",0,0,18,11,11,1.636,21" ∷ codes "f,1,1,9,9,9,2.000,19" ∷ codes "main,1,1,4,2,9,2.000,19" ∷ [])
-  -- the first leaf costs 25 + 4 + 1 + 3, the second one 25 + 4 after the 3 of its call: 1 + 3 + 17 + (33 || 32) + 1 +
-  -- 1 + 2, of which the tag has all but 1 + 1 + 2
+  -- the first leaf costs 25 + 4 + 1 + 3, the second one 25 + 4 after the 3 of its call: 1 + 3 + 17 + max (10 + 33) (10 + 32)
+  -- + 1 + 1 + 2, of which the tag has all but 1 + 1 + 2
   pub loop_of_both_edges : ScalesBoth first_iteration_program [] 10
       (codes ",90,58,1.551,68,1.323" ∷ codes "t,86,54,1.592,64,1.343" ∷ [])
-  -- without p it is 25 + (10 + 30 || 10 + 32), without main (10 + 3 || 10)
+  -- without p it is 25 + max (10 + 30) (10 + 32), without main max (10 + 3) 10
   pub loop_gain_of_both_edges : GainsBoth 10 first_iteration_program [] 10
       (codes ",0,0,90,58,58,1.551,68" ∷ codes "main,1,1,87,55,3,30.000,13" ∷ codes "p,1,1,3,3,57,1.578,67" ∷ [])
-  -- among equal own spans, the function that is first in the source
+  -- of equal own spans the first one by place
   pub same_own_span : Gains 10 same_own_span_program [] 0
       (codes ",0,0,10,10,10,1.000,10" ∷ codes "main,1,1,4,4,6,1.666,6" ∷ codes "f,1,1,3,3,7,1.428,7"
       ∷ codes "g,1,1,3,3,7,1.428,7" ∷ [])

@@ -21,6 +21,7 @@ returns c = record {
   region_in_a_spawned_call = refl;
   region_behind_a_spawn = refl;
   scope_behind_a_spawn = refl;
+  region_as_a_continuation = refl;
   one_turn = refl;
   two_turns = refl;
   three_turns = refl;
