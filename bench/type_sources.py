@@ -91,6 +91,19 @@ def operands_in(n):
     return f"void w{n}(){{int x=1;{('x=' + '+'.join(['x'] * 120) + ';') * 4}}}\n"
 
 
+def spawns_in(n):
+    """256 names, 60 loops in one another, and in the innermost one 60 spawns whose results are joined at once."""
+    heads = "".join(f"while(x{w}<1){{x{w}=x{w}+1;" for w in range(60))
+    spawns = "".join(f"x{w + 60}=cilk_spawn f(1);cilk_sync;" for w in range(60))
+    return f"void w{n}(){{{declared(256)}{heads}{spawns}{'}' * 60}}}\n"
+
+
+def spawns_apart_in(n):
+    """The statements of `spawns_in`, with the 60 loops one after another; the check must take about as long."""
+    loops = "".join(f"while(x{w}<1){{x{w}=x{w}+1;x{w + 60}=cilk_spawn f(1);cilk_sync;}}" for w in range(60))
+    return f"void w{n}(){{{declared(256)}{loops}}}\n"
+
+
 LAST = "void last({}){{}}\n".format(",".join(f"int a{i}[]" if i % 2 else f"int a{i}" for i in range(16)))
 REDUCERS = "".join(f"reducer sum s{i};\n" for i in range(32))
 
@@ -108,6 +121,8 @@ KINDS = {
     "sums": (sums_in, REDUCERS),
     "names": (names_in, ""),
     "operands": (operands_in, ""),
+    "spawns": (spawns_in, "int f(int v){return v;}\n"),
+    "spawns_apart": (spawns_apart_in, "int f(int v){return v;}\n"),
 }
 
 
