@@ -522,8 +522,8 @@ def weighed(program, name, source, words):
         and 0 < len(text) <= EXPLAIN_BYTES
         and plain
     )
-    told = f"{plain_check[2]:.3f} s and {plain_check[3] >> 20} MiB, explained {more[2]:.3f} s and {more[3] >> 20} MiB, {len(text)} bytes"
-    return fine, more[2] / within, f"{'ok ' if fine else 'BAD'} {name}: {told}"
+    figures = f"{plain_check[2]:.3f} s and {plain_check[3] >> 20} MiB, explained {more[2]:.3f} s and {more[3] >> 20} MiB, {len(text)} bytes"
+    return fine, more[2] / within, f"{'ok ' if fine else 'BAD'} {name}: {figures}"
 
 
 def explain(program):
