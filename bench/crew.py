@@ -77,10 +77,10 @@ SMALL = [("fib", FIB, ["7"]), ("chain", CHAIN, ["20"]), ("arrays", ARRAYS, []), 
 # limit within a loop whose iterations are calls; a trap while 300 endless continuations wait; the same with 64 open regions
 NO_BASE = FIB.replace("if (n < 2) { return n; } ", "")
 FORK = "void f() { cilk_spawn f(); f(); } int main() { f(); return 0; }"
-BEHIND = """int loop(int n) { int i = 0; while (i < n) { i = i + 1; } return i; }
+AFTER_LOOP = """int loop(int n) { int i = 0; while (i < n) { i = i + 1; } return i; }
 int main(int n) { int x = 0; int y = 0; x = cilk_spawn loop(n); y = loop(n); y = y / (n - y); cilk_sync; return x + y; }"""
-TURNS = "reducer sum s; int main(int n) { cilk_for (int i = 0; i < n; i++) grain 1 { s += i; } return n; }"
-RESTS = """void endless() { int k = 0; while (k >= 0) { k = 1 - k; } }
+ITERATIONS = "reducer sum s; int main(int n) { cilk_for (int i = 0; i < n; i++) grain 1 { s += i; } return n; }"
+CONTINUATIONS = """void endless() { int k = 0; while (k >= 0) { k = 1 - k; } }
 int f(int n) { int a[8]; int x = 0; if (n < 1) { return 1 / n; } x = cilk_spawn f(n - 1); endless(); a[1] = n; cilk_sync; return x + a[1]; }
 int main(int n) { int r = 0; r = f(n); return r; }"""
 REGIONS = """void endless() { int k = 0; while (k >= 0) { k = 1 - k; } }
@@ -90,9 +90,9 @@ GIVEN_UP = [
     ("no_base", NO_BASE, ["30"]),
     ("fork", FORK, []),
     ("limit", FIB, ["60", "--limit", "100000000"]),
-    ("behind", BEHIND, ["10000000"]),
-    ("turns", TURNS, ["1000000", "--limit", "20000000"]),
-    ("rests", RESTS, ["300"]),
+    ("after_loop", AFTER_LOOP, ["10000000"]),
+    ("iterations", ITERATIONS, ["1000000", "--limit", "20000000"]),
+    ("continuations", CONTINUATIONS, ["300"]),
     ("regions", REGIONS, ["64"]),
 ]
 GRIND = ["valgrind", "-q", "--leak-check=full", "--show-leak-kinds=all", "--errors-for-leak-kinds=all", "--error-exitcode=99"]
@@ -279,9 +279,9 @@ def speed(program, rounds="9"):
 
 def both(command, took, rounds):
     """Adds `rounds` runs of a command with one and with two workers; returns the medians of one worker and of the ratios."""
-    for turn in range(rounds):
-        # they take turns to run first; other work on the machine affects both runs of a round alike, so the ratio of a round counts
-        for workers in (("1", "2"), ("2", "1"))[turn % 2]:
+    for number in range(rounds):
+        # one and two workers alternate as the first; other work on the machine affects both runs of a round alike, so the ratio of a round counts
+        for workers in (("1", "2"), ("2", "1"))[number % 2]:
             took[workers].append(taken([*command, workers]))
     one = [statistics.median(it) for it in zip(*took["1"])]
     return one, [statistics.median(b / a for a, b in zip(*it)) for it in zip(*(zip(*found) for found in took.values()))]
@@ -401,11 +401,11 @@ def pieces(program):
             for mode in ("run", "sites"):
                 for count in PIECES:
                     words = [mode, str(path), count, "--limit", "100000000000", "--workers"]
-                    expected, alone = memory(program, [*words, "1"])
-                    cells = [f"1: {alone:.0f} MB"]
+                    expected, single = memory(program, [*words, "1"])
+                    cells = [f"1: {single:.0f} MB"]
                     for workers in HOLDERS:
                         found, used = memory(program, [*words, str(workers)])
-                        wrong += found != expected or used > alone + MOST_MORE
+                        wrong += found != expected or used > single + MOST_MORE
                         cells.append(f"{workers}: {used:.0f} MB" + ("" if found == expected else " BAD"))
                     print(f"{name}, {mode}, {count} spawns, workers {'  '.join(cells)} (at most {MOST_MORE} MB more than one)", flush=True)
     return wrong
