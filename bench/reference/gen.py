@@ -28,8 +28,8 @@ class Function:
     """A function. Kinds of parameters: `i` an integer, `a` an array, `c` an array that is only read, `d` the number of further levels of
     a recursion."""
 
-    def __init__(self, name, gives_value, params):
-        self.name, self.gives_value, self.params = name, gives_value, params
+    def __init__(self, name, returns_value, params):
+        self.name, self.returns_value, self.params = name, returns_value, params
 
 
 class Names:
@@ -258,7 +258,7 @@ class Generator:
             else:
                 arguments.append(self.count + " - 1" if function is self.itself else self.pick("0123"))
         targets = self.names.written()
-        target = self.pick(targets) if function.gives_value and targets and self.chance(0.7) else None
+        target = self.pick(targets) if function.returns_value and targets and self.chance(0.7) else None
         spawns = self.chance(0.6)
         if spawns:
             self.names.held[-1].update((name, True) for name in given + [target] * (target is not None))
@@ -268,8 +268,8 @@ class Generator:
 
     # Items.
 
-    def function(self, name, gives_value, params):
-        function = Function(name, gives_value, params)
+    def function(self, name, returns_value, params):
+        function = Function(name, returns_value, params)
         self.names, self.itself, self.count, heads = Names(), None, None, []
         for kind in params:
             param = self.new("q" if kind in "ac" else "p")
@@ -280,11 +280,11 @@ class Generator:
         body = []
         for _ in range(self.random.randint(6, 12) if name == "main" else self.random.randint(2, 7)):
             body += self.statement(0)
-        if gives_value:
+        if returns_value:
             body.append("return %s;" % self.expr())
         elif self.chance(0.2):
             body.append("return;")
-        self.lines += ["%s %s(%s) {" % ("int" if gives_value else "void", name, ", ".join(heads))]
+        self.lines += ["%s %s(%s) {" % ("int" if returns_value else "void", name, ", ".join(heads))]
         self.lines += indented(body) + ["}"]
         return function
 

@@ -48,12 +48,12 @@ class Types(Faults):
             self.function(function)
 
     def function(self, function):
-        self.known, self.line, self.gives_value = {}, function.line, function.gives_value
+        self.known, self.line, self.returns_value = {}, function.line, function.returns_value
         for name, kind in function.params:
             self.declare(name, kind)
-        self.require(not self.gives_value or surely_returns(function.body), "may end without a return")
+        self.require(not self.returns_value or surely_returns(function.body), "may end without a return")
         arrays = any(kind != "int" for _, kind in function.params)
-        self.require(function.name != "main" or self.gives_value and not arrays, "main is not an int function of integers")
+        self.require(function.name != "main" or self.returns_value and not arrays, "main is not an int function of integers")
         self.block(function.body, True)
 
     def declare(self, name, kind):
@@ -105,7 +105,7 @@ class Types(Faults):
         pass
 
     def of_return(self, may_return, e):
-        self.require(may_return and (e is not None) == self.gives_value, "a return inside a sync block, or with the wrong value")
+        self.require(may_return and (e is not None) == self.returns_value, "a return inside a sync block, or with the wrong value")
         if e is not None:
             self.expr(e)
 
@@ -151,7 +151,7 @@ class Types(Faults):
                 self.require(e[0] == "name" and self.known.get(e[1]) in kinds, "no such array")
         if target is not None:
             self.use(target, "int")
-            self.require(function.gives_value, "a void call has no result")
+            self.require(function.returns_value, "a void call has no result")
 
 
 def surely_returns(body):

@@ -7,8 +7,8 @@ LEVELS = [["==", "!="], ["<", "<=", ">", ">="], ["+", "-"], ["*", "/", "%"]]
 
 
 class Function:
-    def __init__(self, gives_value, line, name, params, body):
-        self.gives_value, self.line, self.name, self.params, self.body = gives_value, line, name, params, body
+    def __init__(self, returns_value, line, name, params, body):
+        self.returns_value, self.line, self.name, self.params, self.body = returns_value, line, name, params, body
 
 
 class Site:
@@ -81,8 +81,8 @@ class Reader:
         return items
 
     def function(self):
-        gives_value, line = self.next() == "int", self.lines[self.at]
-        return Function(gives_value, line, self.next(), self.list(self.param), self.block())
+        returns_value, line = self.next() == "int", self.lines[self.at]
+        return Function(returns_value, line, self.next(), self.list(self.param), self.block())
 
     def param(self):
         """Returns a parameter's name and its kind: `int`, `array` or `const`, an array that is only read."""

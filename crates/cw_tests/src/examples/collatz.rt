@@ -6,7 +6,7 @@ use std::test::Fail;
 const EXAMPLE: Example = Example {
     words: "collatz.cilk 5",
     source: "// Computes, for each number from 1 to n, the number of Collatz steps to 1 (halve, or triple and add 1), and prints them in
-// the order of the numbers, in whatever order the spawned calls run.
+// the order of the numbers, also when the spawned calls run in another order.
 // cilkwork run collatz.cilk 5
 // By hand: 1: 0 steps; 2: 1; 3, 10, 5, 16, 8, 4, 2, 1: 7; 4: 2; 5, 16, 8, 4, 2, 1: 5.
 
