@@ -45,7 +45,7 @@ def source(name):
     return path if path.exists() else HERE.parent / "examples" / f"{name}.cilk"
 
 
-def taken(command):
+def processor_time(command):
     """Runs a command and returns its processor time in seconds."""
     before = resource.getrusage(resource.RUSAGE_CHILDREN)
     subprocess.run(command, stdout=subprocess.DEVNULL, stderr=subprocess.DEVNULL)
@@ -53,7 +53,7 @@ def taken(command):
     return after.ru_utime + after.ru_stime - before.ru_utime - before.ru_stime
 
 
-def clock(command):
+def run_time(command):
     """Runs a command and returns its run time in seconds."""
     before = time.perf_counter()
     subprocess.run(command, stdout=subprocess.DEVNULL, stderr=subprocess.DEVNULL)
@@ -103,7 +103,7 @@ def gains(program, rounds="15"):
         for name, size, *_ in PROGRAMS:
             for kind, *more in (["scale"], ["gain", "--top", "1"], ["gain", "--top", "10"]):
                 command = [program, kind, *more, "--workers", "1", source(name), size]
-                least[name, *more] = min(least.get((name, *more), 1e9), taken(command))
+                least[name, *more] = min(least.get((name, *more), 1e9), processor_time(command))
     print("| program | `scale` | `gain --top 1` | one function / `scale` | limit | `gain --top 10` | ratio to `scale` | limit |")
     print("|---|---|---|---|---|---|---|---|")
     for name, size, *_ in PROGRAMS:
@@ -123,7 +123,7 @@ def short(rounds, programs):
             for name, size in SHORT.items():
                 for k, command in enumerate([asked[0][name]["switch"], *(it[name]["run"] for it in asked)]):
                     for n in (size, "1"):
-                        least[name, k, n] = min(least.get((name, k, n), 1e9), taken([*command[:-1], n]))
+                        least[name, k, n] = min(least.get((name, k, n), 1e9), processor_time([*command[:-1], n]))
     print("| program | C | " + " | ".join(programs) + " |\n|---|---" + "|---" * len(programs) + "|")
     for name, size in SHORT.items():
         row = [least[name, k, size] - least[name, k, "1"] for k in range(len(programs) + 1)]
@@ -139,7 +139,7 @@ def crews(program, rounds):
             words = [program, "gain", source(name), size, "--workers"]
             functions[name] = functions.get(name) or subprocess.run([*words, "1"], capture_output=True, text=True).stdout.count("\n") - 2
             for workers in CREWS:
-                least[name, workers] = min(least.get((name, workers), 1e9), clock([*words, workers]))
+                least[name, workers] = min(least.get((name, workers), 1e9), run_time([*words, workers]))
     print("\n| program, functions | " + " | ".join(f"{workers} workers" for workers in CREWS) + " | speedup with 4 |")
     print("|---" * (len(CREWS) + 2) + "|")
     for name, size, *_ in PROGRAMS:
@@ -154,7 +154,7 @@ def main(program, rounds="15"):
         for _ in range(int(rounds)):
             for name, each in asked.items():
                 for kind, command in each.items():
-                    least[name, kind] = min(least.get((name, kind), 1e9), taken(command))
+                    least[name, kind] = min(least.get((name, kind), 1e9), processor_time(command))
     print("| program | `run` | C | ratio | limit | `scale` | C with measures | ratio | limit |")
     print("|---|---|---|---|---|---|---|---|---|")
     for name, size, *limits in PROGRAMS:

@@ -122,10 +122,10 @@ class Generator:
     # Statements: each method returns its lines, and no line if there is no name that the statement could use.
 
     def statement(self, depth):
-        kinds = ["declare"] * 14 + ["array"] * 6 + ["assign"] * 14 + ["put"] * 12 + ["show"] * 4 + ["reduce"] * 4
+        kinds = ["declare"] * 14 + ["array"] * 6 + ["assign"] * 14 + ["store"] * 12 + ["print"] * 4 + ["reduce"] * 4
         kinds += ["sync"] * 4 + ["call"] * 20
         if depth < DEEPEST:
-            kinds += ["branch"] * 6 + ["while"] * 6 + ["scope"] * 3 + ["region"] * 4 + ["cut"] * 7 + ["again"] * 6
+            kinds += ["branch"] * 6 + ["while"] * 6 + ["scope"] * 3 + ["region"] * 4 + ["cut"] * 7 + ["recursion"] * 6
         if depth < 2 and self.with_loops and not self.names.loop_arrays:
             kinds += ["loop"] * 6
         return getattr(self, "a_" + self.pick(kinds))(depth)
@@ -161,13 +161,13 @@ class Generator:
         written = self.names.written()
         return ["%s = %s;" % (self.pick(written), self.expr())] if written else []
 
-    def a_put(self, depth):
+    def a_store(self, depth):
         if self.names.loop_arrays and self.chance(0.5):
             return ["%s[%s] = %s;" % (self.pick(self.names.loop_arrays), self.names.loop_variable, self.expr())]
         arrays = self.names.written_arrays()
         return ["%s[%s] = %s;" % (self.pick(arrays), self.index(1), self.expr())] if arrays else []
 
-    def a_show(self, depth):
+    def a_print(self, depth):
         return ["print(%s);" % self.expr()]
 
     def a_reduce(self, depth):
@@ -238,7 +238,7 @@ class Generator:
     def a_call(self, depth):
         return self.called(self.pick(self.functions)) if self.functions else []
 
-    def a_again(self, depth):
+    def a_recursion(self, depth):
         call = self.called(self.itself) if self.itself else []
         return ["if (%s > 0) {" % self.count] + indented(call) + ["}"] if call else []
 
