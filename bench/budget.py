@@ -1,15 +1,14 @@
 #!/usr/bin/env python3
-"""What the gate takes, crate by crate: runs `rt ci` and tells the processor time of its checks.
+"""Measures the cost of the full check for each crate: runs `rt ci` and prints the processor time of its checks.
 
-    budget.py [WORD..]    rt ci, with these words and as many lanes as the gate gives it, from the top of the repository; then
-                          a table in the form of bench/budget.csv: the seconds of processor time that each crate's proof, its
-                          tests and its must-fail edits took (with the proof before them), and sums
+    budget.py [WORD..]    runs `rt ci WORD..` at the top of the repository, with as many lanes as gate.py uses; then prints a
+                          table in the form of bench/budget.csv: the seconds of processor time of each crate's proof, its
+                          tests and its must-fail edits (which include a proof), and the sums
 
-Some kits keep what an earlier run on the machine passed: it is not proved again and has no time, names of crates as words
-prove these alone, and --anew as the only word proves all. Others prove all, and take no word. The times are those of checks
-beside other checks, as the gate runs them; one that runs alone takes less. Reads /proc every
-two seconds, so what is over sooner is left out. Ends with the status of `rt ci`; where it is interrupted, it ends `rt ci`
-and tells what was taken so far.
+Some kits keep the results of earlier runs on the machine: then kept crates have no time, names of crates prove only these
+crates, and --anew as the only word proves all. Other kits prove all crates and accept no word. The checks run in parallel,
+as in the full check; a check that runs alone takes less time. The script reads /proc every two seconds and misses shorter
+checks. It ends with the status of `rt ci`. If it is interrupted, it stops `rt ci` and prints the times so far.
 """
 import os
 import pathlib
@@ -28,22 +27,22 @@ KINDS = ["proof", "tests", "edits"]
 
 
 def stat_of(process):
-    """What the system tells of a process, behind its name: its state, its parent, and further numbers."""
+    """Returns the fields of a process in /proc after its name: its state, its parent, and further numbers."""
     return pathlib.Path(f"/proc/{process}/stat").read_text().rpartition(")")[2].split()
 
 
 def words_of(process):
-    """The command line of a process."""
+    """Returns the command line of a process."""
     return pathlib.Path(f"/proc/{process}/cmdline").read_bytes().decode(errors="replace").split("\0")
 
 
 def is_check(words):
-    """Whether this is the command line of a check."""
+    """Returns whether this is the command line of a check."""
     return words[0].endswith("/rattle") and "--crate-name" in words
 
 
 def is_below(process, top):
-    """Whether a process is one that another started, by itself or by others, with no check among these."""
+    """Returns whether a process is a descendant of `top` with no check between them."""
     while process > 1:
         process = int(stat_of(process)[1])
         if process == top or is_check(words_of(process)):
@@ -52,8 +51,8 @@ def is_below(process, top):
 
 
 def check_of(process, top):
-    """The crate, the kind and the seconds of a processor, copies of itself included, of a check that runs, if this process
-    is one and `top` is above it."""
+    """Returns the crate, the kind and the processor time, children included, of a check that descends from `top`, or None for
+    another process."""
     words = words_of(process)
     if not is_check(words) or not is_below(process, top):
         return None
@@ -63,17 +62,17 @@ def check_of(process, top):
 
 
 def look(top, found):
-    """Notes what each check below this process has taken so far."""
+    """Records the processor time so far of each check that descends from `top`."""
     for process in map(int, filter(str.isdigit, os.listdir("/proc"))):
         try:
             if check := check_of(process, top):
                 found[process, check[:2]] = check[2]
         except OSError:
-            pass  # it has ended meanwhile
+            pass  # the process has ended
 
 
 def table(found):
-    """Prints the table as bench/budget.csv has it, with the crates that took most first."""
+    """Prints the table in the form of bench/budget.csv, the most expensive crates first."""
     taken = {}
     for (_, (crate, kind)), seconds in found.items():
         row = taken.setdefault(crate, dict.fromkeys(KINDS, 0))
@@ -82,7 +81,7 @@ def table(found):
     for crate, row in sorted(taken.items(), key=lambda it: -sum(it[1].values())):
         print(f"{crate},{','.join(f'{row[it]:.0f}' for it in KINDS)},")
     sums = [sum(row[it] for row in taken.values()) / 60 for it in KINDS]
-    print(f"\nMinutes of a processor: {', '.join(f'{it} {much:.0f}' for it, much in zip(KINDS, sums))}; {sum(sums):.0f} in all.")
+    print(f"\nMinutes of processor time: {', '.join(f'{it} {much:.0f}' for it, much in zip(KINDS, sums))}; {sum(sums):.0f} in total.")
 
 
 def main(words):
@@ -96,7 +95,7 @@ def main(words):
         ran.terminate()
         ran.wait()
     table(found)
-    print(f"{(time.time() - begun) / 60:.0f} minutes by the clock.")
+    print(f"{(time.time() - begun) / 60:.0f} minutes of run time.")
     return ran.returncode
 
 

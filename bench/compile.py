@@ -1,10 +1,11 @@
 #!/usr/bin/env python3
-"""Compiles a program of the profile to the instructions that `switch.c` runs: one instruction for one unit of cost.
+"""Compiles a program to the instructions that `switch.c` and `measures.c` execute, one for each unit of cost.
 
     python3 compile.py PROGRAM.cilk > PROGRAM.code
 
-It takes programs that `cilkwork check` passes, and tests nothing. The output has a line for each function (where it
-begins, its slots of integers, its array slots, its parameters of both kinds) and one for each instruction.
+The program must be one that `cilkwork check` accepts; the script checks nothing. The output has a line for each function
+(first instruction, number of integer slots, of array slots, of integer parameters, of array parameters) and a line for each
+instruction.
 """
 import re
 import sys

@@ -1,43 +1,42 @@
 #!/usr/bin/env python3
-"""Runs by workers beside the run with one, on the built program.
+"""Compares runs of the built program with several workers with runs with one worker.
 
-    crew.py PROGRAM same [COUNT [TIMES]]   the programs of examples/ and so many random ones (200), each so many times (50) in the
-                                           modes run, scale, sites and greedy with 2, 3, 4 and 64 workers, each within another limit,
-                                           which none reaches: the bytes, both streams and the status of one worker. On a
-                                           program of `unproved.py OUT stumbling` the limit says where workers are held
-    crew.py PROGRAM limits                 each limit from 1 to the cost of a run and one more, on seven programs: the same
-    crew.py PROGRAM deep                   rests out at each depth, past the cells of a worker and down to the greatest depth
-    crew.py PROGRAM refusals               each single allocation refused in turn with 1, 2 and 4 workers: the answer, or
-                                           `memory` with nothing written; wants gcc, which compiles bench/refuse.c
-    crew.py PROGRAM given_up [ROUNDS]      seven programs that trap or pass their limit, with 2, 4, 16 and 64 workers in three
-                                           modes: the answer of one worker, and beside what one worker takes in the same mode
-                                           at most twice its seconds by the clock (2.5 times in `run`) and 50 ms, 4 times its
-                                           seconds of a processor and 0.1 s, and twice its memory and 1 MB a worker: the
-                                           least of so many rounds (3), of memory the most. With GRIND=1 in the environment
-                                           answers alone, under valgrind: no byte may be left
-    crew.py PROGRAM speed [ROUNDS]         seconds with 1, 2, 4 and 64 workers, the median (and the least) of so many
-                                           interleaved rounds (9), and one worker's as multiples of the others'; and how long
-                                           four runs with one worker each take at once, which share nothing: what the machine
-                                           can give. Too little is told where one worker by four is below what is wanted of
-                                           a machine on which four runs apart gain 3.8, and its share of what this one
-                                           gives is less than that is of 3.8
-    crew.py PROGRAM two [ROUNDS]           what two workers take in mode `run` of what one takes, by the clock and of a processor,
-                                           by the median of the ratios of so many rounds (15), on each program of bench/programs/
-                                           and examples/ that can take some 0.1 s: by the clock no more, and of a processor at
-                                           most 1.15 of it on fib and the chain. A row that is off is told by the median of
-                                           three times as many rounds, and if it still is of seven times as many
-    crew.py PROGRAM shares [ROUNDS]        100,000 spawns of a product with two `const` factors (programs/shares.cilk) beside
-                                           matrices of 1,000,000 elements and beside matrices of 4: its value, then seconds by
-                                           1, 2 and 4 workers, the median of so many interleaved rounds (9) less that of the
-                                           same run without a spawn, and their ratio, which is to be about 1, since no element
-                                           is copied at a spawn
-    crew.py PROGRAM pieces                 memory of stolen rests: a program of 65,001 call statements whose `main` is a loop of 60
-                                           and of 400 spawns of a function of 4.5 million instructions, in the modes run and
-                                           sites with 2, 4 and 64 workers: the answer of one worker, and the most memory at
-                                           once, which is to be at most 40 MB more than with one; then the same where the rests
-                                           call statements far apart from each other
+    crew.py PROGRAM same [COUNT [TIMES]]   Each program of examples/ and COUNT random ones (200) is run TIMES times (50) in the modes
+                                           run, scale, sites and greedy with 2, 3, 4 and 64 workers, each time with another limit, which
+                                           no run reaches: both streams and the status must be the ones of one worker. With a
+                                           program of `unproved.py OUT stumbling` the limit selects where workers are delayed
+    crew.py PROGRAM limits                 each limit from 1 to the cost of a run, on seven programs: the answer of one worker
+    crew.py PROGRAM deep                   stolen continuations at each depth, up to the maximum depth and above it
+    crew.py PROGRAM refusals               each single allocation fails in turn with 1, 2 and 4 workers: the answer, or only
+                                           `memory`; requires gcc, which compiles bench/refuse.c
+    crew.py PROGRAM given_up [ROUNDS]      seven programs that trap or exceed their limit, with 2, 4, 16 and 64 workers in three
+                                           modes: the answer of one worker and, compared with one worker in the same mode,
+                                           at most twice its run time (2.5 times in `run`) plus 50 ms, 4 times its processor
+                                           time plus 0.1 s, and twice its memory plus 1 MB for each worker: the minimum
+                                           of ROUNDS runs (3), of memory the maximum. With GRIND=1 in the environment only
+                                           answers are compared, under valgrind: no byte may be leaked
+    crew.py PROGRAM speed [ROUNDS]         run time with 1, 2, 4 and 64 workers, the median (and the minimum) of ROUNDS
+                                           interleaved rounds (9), and the speedups; and the run time of four processes with one
+                                           worker each that run at once, which shows what the machine can provide. A speedup
+                                           by four workers fails if it is below its limit, which assumes a machine on which
+                                           four processes have a speedup of 3.8, and if its share of the speedup of four
+                                           processes here is below the limit's share of 3.8
+    crew.py PROGRAM two [ROUNDS]           time of two workers as a ratio of the time of one worker in mode `run`, for each program
+                                           of bench/programs/ and examples/ that can take about 0.1 s: the median of ROUNDS
+                                           ratios (15). The run time must not be longer, and the processor time at most 1.15
+                                           times as long for fib and the chain. If a ratio is above its limit, three times as many
+                                           rounds decide, and then seven times as many
+    crew.py PROGRAM shares [ROUNDS]        100,000 spawns of a product with two `const` factors (programs/shares.cilk), with
+                                           matrices of 1,000,000 elements and with matrices of 4: the value, then the run time with
+                                           1, 2 and 4 workers, the median of ROUNDS interleaved rounds (9) minus the time of the
+                                           same run without spawns. The ratio must be about 1, since a spawn copies no element
+    crew.py PROGRAM pieces                 memory of stolen continuations: a program of 65,001 call statements whose `main` is a loop
+                                           of 60 or 400 spawns of a function of 4.5 million instructions, in the modes run and
+                                           sites with 2, 4 and 64 workers: the answer of one worker, and a peak memory of at most
+                                           40 MB more than with one; then the same with continuations that call
+                                           statements far apart from each other
 
-Random programs are those of bench/reference. Each run has a minute; one that takes longer is told as wrong.
+Random programs are made by bench/reference/gen.py. A run that takes longer than a minute counts as wrong.
 """
 import concurrent.futures
 import os
@@ -73,15 +72,15 @@ x = cilk_spawn sum(a, from, m); y = sum(a, m, to); cilk_sync; return x + y; }
 int main() { int a[5]; int x = 0; a[0] = 2; a[4] = 7; x = cilk_spawn sum(a, 0, 5); print(len(a)); cilk_sync; a[0] = x; return a[0]; }"""
 SMALL = [("fib", FIB, ["7"]), ("chain", CHAIN, ["20"]), ("arrays", ARRAYS, []), ("loop", LOOP, []), ("trap", TRAP, ["0"]), ("lines", LINES, []), ("reads", READS, [])]
 
-# programs that trap or pass their limit, with their words: without a base case; a fork without one; a limit that is passed
-# late; a trap behind a loop in a rest, which another worker may have, and a loop in the call beside it; a limit within a
-# loop whose turns are calls; a trap while 300 rests are out and 64 regions are open, rests that have no end themselves
+# programs that trap or exceed their limit, with their arguments: a recursion without a base case; two parallel ones; a limit that is
+# exceeded late; a trap after a loop in a continuation, which another worker may have stolen, with a loop in the spawned call; a
+# limit within a loop whose iterations are calls; a trap while 300 endless continuations wait; the same with 64 open regions
 NO_BASE = FIB.replace("if (n < 2) { return n; } ", "")
 FORK = "void f() { cilk_spawn f(); f(); } int main() { f(); return 0; }"
-BEHIND = """int loop(int n) { int i = 0; while (i < n) { i = i + 1; } return i; }
+AFTER_LOOP = """int loop(int n) { int i = 0; while (i < n) { i = i + 1; } return i; }
 int main(int n) { int x = 0; int y = 0; x = cilk_spawn loop(n); y = loop(n); y = y / (n - y); cilk_sync; return x + y; }"""
-TURNS = "reducer sum s; int main(int n) { cilk_for (int i = 0; i < n; i++) grain 1 { s += i; } return n; }"
-RESTS = """void endless() { int k = 0; while (k >= 0) { k = 1 - k; } }
+ITERATIONS = "reducer sum s; int main(int n) { cilk_for (int i = 0; i < n; i++) grain 1 { s += i; } return n; }"
+CONTINUATIONS = """void endless() { int k = 0; while (k >= 0) { k = 1 - k; } }
 int f(int n) { int a[8]; int x = 0; if (n < 1) { return 1 / n; } x = cilk_spawn f(n - 1); endless(); a[1] = n; cilk_sync; return x + a[1]; }
 int main(int n) { int r = 0; r = f(n); return r; }"""
 REGIONS = """void endless() { int k = 0; while (k >= 0) { k = 1 - k; } }
@@ -91,16 +90,16 @@ GIVEN_UP = [
     ("no_base", NO_BASE, ["30"]),
     ("fork", FORK, []),
     ("limit", FIB, ["60", "--limit", "100000000"]),
-    ("behind", BEHIND, ["10000000"]),
-    ("turns", TURNS, ["1000000", "--limit", "20000000"]),
-    ("rests", RESTS, ["300"]),
+    ("after_loop", AFTER_LOOP, ["10000000"]),
+    ("iterations", ITERATIONS, ["1000000", "--limit", "20000000"]),
+    ("continuations", CONTINUATIONS, ["300"]),
     ("regions", REGIONS, ["64"]),
 ]
 GRIND = ["valgrind", "-q", "--leak-check=full", "--show-leak-kinds=all", "--errors-for-leak-kinds=all", "--error-exitcode=99"]
 
-# programs with a size by which they take some 0.1 s, in examples/ and beside this script (those left out are over at once), and
-# what two workers may take of a processor of what one takes; by the clock so much more may be noise. Where a row is off, twice
-# as many rounds are taken beside the first ones, and four times as many beside these: it is judged by all of them
+# programs of examples/ and of programs/ with a size for which they take about 0.1 s (the others end at once), and the limit of the
+# processor time of two workers as a multiple of the time of one; NOISE is the limit of the run time. If a ratio is above its
+# limit, twice as many rounds follow, and then four times as many: the median of all of them decides
 NOISE = 1.03
 MORE = (1, 2, 4)
 TWO = [(f"examples/{name}", words.split(), most) for name, words, most in (
@@ -111,30 +110,30 @@ TWO = [(f"examples/{name}", words.split(), most) for name, words, most in (
 )] + [(f"bench/programs/{name}", words.split(), most) for name, words, most in (
     ("chain", "4000", 1.15), ("factors", "160", 2), ("loop", "10000", 2), ("matrix", "160", 2), ("shares", "2 200000", 2), ("sieve", "2000000", 2),
 )]
-# programs whose speed is asked, with their arguments, and what one worker's time by four workers' is to be at least where four
-# runs apart gain GIVEN; of the last one, a loop of spawns without a sync, it is told alone
+# programs with their arguments, and the least speedup by four workers on a machine on which four processes have the speedup
+# GIVEN; the last one, a loop of spawns without a sync, has no limit
 SPEED = [("mergesort_parallel", ["400000"], 3.6), ("matrix_large", ["160"], 3.6), ("factors", ["160"], 3.6), ("fib_cutoff", ["32"], 3.6), ("fib", ["29"], 3.0), ("loop", ["10000"], 0)]
 GIVEN = 3.8
-MATRIX = """// rows of a product, each by itself
+MATRIX = """// rows of a product, each in its own call
 void row(int a[], int b[], int c[], int n) { int j = 0; int k = 0; int t = 0; while (j < n) { t = 0; k = 0; while (k < n) { t = t + a[k] * b[k * n + j]; k = k + 1; } c[j] = t; j = j + 1; } }
 void rows(int n, int seed, int c[]) { int a[n]; int b[n * n]; int i = 0; while (i < n) { a[i] = i + seed; i = i + 1; } i = 0; while (i < n * n) { b[i] = i - seed; i = i + 1; } row(a, b, c, n); }
 void product(int n, int from, int to, int c[]) { int m = 0; if (to - from == 1) { rows(n, from, c); return; } m = (from + to) / 2; cut c at (m - from) * n as l, r { cilk_spawn product(n, from, m, l); product(n, m, to, r); } }
 int main(int n) { int c[n * n]; product(n, 0, n, c); return c[n * n - 1]; }
 """
 
-# how often programs/shares.cilk spawns, by how many workers, the numbers in a row of its matrices, and what a run beside the
-# greater ones may take at most of that beside the smaller ones
+# spawns of programs/shares.cilk, numbers of workers, numbers in a row of its matrices, and the limit of the ratio of the run times
+# with the larger matrices and with the smaller ones
 SPAWNS, SHARERS, SIDES, MOST_RATIO = "100000", (1, 2, 4), ("1000", "2"), 1.25
 
-# call statements beside those of the spawned function and of `main`, spawns, workers, and how many MB more than one worker
-# these may take
+# call statements outside of the spawned function and `main`, spawns, numbers of workers, and the MB that these may use in addition to
+# the memory of one worker
 STATEMENTS, PIECES, HOLDERS, MOST_MORE = 65000, ("60", "400"), (2, 4, 64), 40
 WORK = "void work() { int i = 0; while (i < 500000) { i = i + 1; } }"
 ROUND = "int main(int n) { int i = 0; while (i < n) { cilk_spawn work(); CALLS i = i + 1; } cilk_sync; return i; }"
 
 
 def asked(program, words, environment=None):
-    """Status and both streams of one run."""
+    """Returns the status and both streams of one run."""
     try:
         done = subprocess.run([program, *words], capture_output=True, text=True, timeout=60, env=environment)
     except subprocess.TimeoutExpired:
@@ -142,12 +141,12 @@ def asked(program, words, environment=None):
     return done.returncode, done.stdout, done.stderr
 
 
-def differs(program, words, workers, wanted):
-    """Whether a run by so many workers is told otherwise."""
+def differs(program, words, workers, expected):
+    """Returns whether a run with a number of workers has another answer than `expected`; prints it."""
     found = asked(program, [*words, "--workers", str(workers)])
-    if found != wanted:
-        print("BAD", *words[:2], "with", workers, "workers: wanted", wanted, "answered", found)
-    return found != wanted
+    if found != expected:
+        print("BAD", *words[:2], "with", workers, "workers: expected", expected, "answered", found)
+    return found != expected
 
 
 def random_programs(folder, count):
@@ -173,11 +172,11 @@ def same(program, count="200", times="50"):
         for path, arguments in [*examples(), *random_programs(pathlib.Path(folder), int(count))]:
             for mode in (["run"], ["scale"], ["sites"], ["greedy", "3"]):
                 words = [*mode, str(path), *arguments, "--limit"]
-                wanted = asked(program, [*words, str(MOST), "--workers", "1"])
-                tries = [pool.submit(differs, program, [*words, str(MOST + k)], workers, wanted) for workers in CREWS for k in range(int(times))]
+                expected = asked(program, [*words, str(MOST), "--workers", "1"])
+                tries = [pool.submit(differs, program, [*words, str(MOST + k)], workers, expected) for workers in CREWS for k in range(int(times))]
                 wrong += sum(it.result() for it in tries)
                 runs += len(tries)
-    print(runs, "runs by workers beside those with one:", wrong, "wrong")
+    print(runs, "runs with several workers compared with one:", wrong, "wrong")
     return wrong
 
 
@@ -191,10 +190,10 @@ def limits(program):
             while True:
                 limit += 1
                 words = ["scale", str(path), *arguments, "--limit", str(limit)]
-                wanted = asked(program, [*words, "--workers", "1"])
-                wrong += sum(differs(program, words, workers, wanted) for workers in CREWS)
+                expected = asked(program, [*words, "--workers", "1"])
+                wrong += sum(differs(program, words, workers, expected) for workers in CREWS)
                 runs += len(CREWS)
-                if wanted[0] != 4:
+                if expected[0] != 4:
                     break
     print(runs, "runs within each limit:", wrong, "wrong")
     return wrong
@@ -206,11 +205,11 @@ def deep(program):
     with tempfile.TemporaryDirectory() as folder:
         path = pathlib.Path(folder) / "chain.cilk"
         path.write_text(CHAIN)
-        for depth, wanted in rows:
+        for depth, expected in rows:
             for workers in (1, *CREWS):
                 for _ in range(10):
-                    wrong += differs(program, ["run", str(path), depth], workers, wanted)
-    print("spawns inside one another, 300 and 9,998 deep, and one too deep:", wrong, "wrong")
+                    wrong += differs(program, ["run", str(path), depth], workers, expected)
+    print("nested spawns, 300 and 9,998 deep, and one too deep:", wrong, "wrong")
     return wrong
 
 
@@ -229,16 +228,16 @@ def refusals(program):
                     return asked(program, words, {"LD_PRELOAD": library, "REFUSE": str(refused), "REFUSE_COUNT": count})
 
                 whole, calls = run(0), int(pathlib.Path(count).read_text())
-                # runs by workers do not all allocate as often: a few more are asked for
+                # with several workers the number of allocations varies from run to run: try a few more
                 found = [run(refused) for refused in range(1, calls + 1 + 8 * (workers - 1))]
                 bad = [got for got in found if got not in (whole, MEMORY)]
                 wrong += len(bad)
-                print(f"{name}, {workers} workers: {len(found)} allocations refused in turn: {found.count(MEMORY)} times `memory`, {found.count(whole)} the answer", *(["BAD", bad[:3]] if bad else []))
+                print(f"{name}, {workers} workers: {len(found)} allocations, each fails in turn: {found.count(MEMORY)} times `memory`, {found.count(whole)} times the answer", *(["BAD", bad[:3]] if bad else []))
     return wrong
 
 
 def seconds(commands):
-    """Seconds by the wall clock until these commands, begun at once, have all ended."""
+    """Returns the run time of commands that start at once, up to the end of the last one."""
     began = time.perf_counter()
     running = [subprocess.Popen(it, stdout=subprocess.DEVNULL) for it in commands]
     for it in running:
@@ -247,7 +246,7 @@ def seconds(commands):
 
 
 def taken(command):
-    """Seconds by the clock and of a processor that a command takes."""
+    """Returns the run time and the processor time of a command."""
     began = time.perf_counter()
     running = subprocess.Popen(command, stdout=subprocess.DEVNULL)
     used = os.wait4(running.pid, 0)[2]
@@ -258,7 +257,7 @@ def speed(program, rounds="9"):
     crews = (1, 2, 4, 64)
     short = 0
     with tempfile.TemporaryDirectory() as folder:
-        for name, arguments, wanted in SPEED:
+        for name, arguments, expected in SPEED:
             path = next((it for it in (EXAMPLES / f"{name}.cilk", HERE / "programs" / f"{name}.cilk") if it.exists()), None)
             if not path:
                 path = pathlib.Path(folder) / f"{name}.cilk"
@@ -271,18 +270,18 @@ def speed(program, rounds="9"):
                 took["apart"].append(seconds([[*command, "1"]] * 4))
             mid = {it: statistics.median(times) for it, times in took.items()}
             gains, machine = mid[1] / mid[4], 4 * mid[1] / mid["apart"]
-            short += gains < wanted and gains / machine < wanted / GIVEN
+            short += gains < expected and gains / machine < expected / GIVEN
             print(f"{name} {' '.join(arguments)}: " + "  ".join(f"{it}: {mid[it]:.3f} s ({min(took[it]):.3f})" for it in took), flush=True)
             ratios = "  ".join(f"1 by {workers}: {mid[1] / mid[workers]:.2f}" for workers in crews[1:])
-            print(f"    {ratios}  (1 by 4 wanted: {wanted}; four runs apart gain {machine:.2f}, of which four workers have {gains / machine:.2f})", flush=True)
+            print(f"    {ratios}  (1 by 4 expected: {expected}; speedup of four processes {machine:.2f}, share of four workers {gains / machine:.2f})", flush=True)
     return short
 
 
 def both(command, took, rounds):
-    """Runs a command so many times more with one and with two workers: what one takes, and the medians of the ratios."""
-    for turn in range(rounds):
-        # either one first in turn; both of a round meet the same other work, so that a round is told by its ratio
-        for workers in (("1", "2"), ("2", "1"))[turn % 2]:
+    """Adds `rounds` runs of a command with one and with two workers; returns the medians of one worker and of the ratios."""
+    for number in range(rounds):
+        # one and two workers alternate as the first; other work on the machine affects both runs of a round alike, so the ratio of a round counts
+        for workers in (("1", "2"), ("2", "1"))[number % 2]:
             took[workers].append(taken([*command, workers]))
     one = [statistics.median(it) for it in zip(*took["1"])]
     return one, [statistics.median(b / a for a, b in zip(*it)) for it in zip(*(zip(*found) for found in took.values()))]
@@ -299,37 +298,37 @@ def two(program, rounds="15"):
             if not bad:
                 break
         slow += bool(bad)
-        print(f"{name} {' '.join(arguments)}: one {one[0]:.3f} s, {one[1]:.3f} s of a processor; two take {clock:.2f} by the clock, {processor:.2f} of a processor, in {len(took['1'])} rounds", *(["BAD", *bad] if bad else []), flush=True)
+        print(f"{name} {' '.join(arguments)}: one worker {one[0]:.3f} s, processor {one[1]:.3f} s; two workers {clock:.2f} times the run time, {processor:.2f} times the processor time, in {len(took['1'])} rounds", *(["BAD", *bad] if bad else []), flush=True)
     return slow
 
 
 def measured(words):
-    """What a run answers, with its seconds by the clock and of a processor, and its memory in bytes."""
+    """Returns the answer of a run, its run time, its processor time, and its peak memory in bytes."""
     with tempfile.TemporaryDirectory() as folder:
-        told, used = pathlib.Path(folder) / "told", pathlib.Path(folder) / "used"
-        with told.open("wb") as out:
+        output, used = pathlib.Path(folder) / "output", pathlib.Path(folder) / "used"
+        with output.open("wb") as out:
             began = time.perf_counter()
-            # a small process between, since the memory of who starts a program counts as that program's
+            # a small process starts the program, since the memory of the starting process counts as the memory of the program
             status = subprocess.run(["/usr/bin/time", "-q", "-o", str(used), "-f", "%U %S %M", "timeout", "60", *words], stdout=out, stderr=subprocess.STDOUT).returncode
             took = time.perf_counter() - began
         user, system, kilobytes = used.read_text().split()
-        return (status, told.read_bytes()), took, float(user) + float(system), 1024 * int(kilobytes)
+        return (status, output.read_bytes()), took, float(user) + float(system), 1024 * int(kilobytes)
 
 
 def least(words, rounds):
-    """The answers of so many runs, and the least of their seconds, by the clock and of a processor, and the most memory."""
+    """Returns the answers of `rounds` runs, the minimum of run time and of processor time, and the maximum of memory."""
     found = [measured(words) for _ in range(rounds)]
     return {it[0] for it in found}, min(it[1] for it in found), min(it[2] for it in found), max(it[3] for it in found)
 
 
 def grinds(program, path, words):
-    """How many runs of a program leave a byte or answer otherwise under valgrind."""
+    """Returns the number of runs under valgrind that leak or have another answer."""
     wrong = 0
-    wanted = asked(program, ["run", path, *words, "--workers", "1"])
+    expected = asked(program, ["run", path, *words, "--workers", "1"])
     for workers in ("2", "4", "16"):
         found = asked("valgrind", [*GRIND[1:], program, "run", path, *words, "--workers", workers])
-        print("BAD" if found != wanted else "ok ", "valgrind", pathlib.Path(path).stem, "with", workers, "workers", found if found != wanted else "", flush=True)
-        wrong += found != wanted
+        print("BAD" if found != expected else "ok ", "valgrind", pathlib.Path(path).stem, "with", workers, "workers", found if found != expected else "", flush=True)
+        wrong += found != expected
     return wrong
 
 
@@ -340,20 +339,20 @@ def given_up(program, rounds="3"):
             path = pathlib.Path(folder) / f"{name}.cilk"
             path.write_text(source)
             if "GRIND" in os.environ:
-                # valgrind takes its time: a hundredth of what is long
+                # valgrind is slow: divide large arguments by 100
                 wrong += grinds(program, str(path), [str(int(it) // 100) if it.isdigit() and int(it) > 99999 else it for it in words])
                 continue
             for mode, times in (("run", 2.5), ("scale", 2), ("sites", 2)):
-                asking = [program, mode, str(path), *words, "--workers"]
-                answer, clock, processor, memory = least([*asking, "1"], int(rounds))
-                told = [f"1: {clock:.3f} s {processor:.3f} s {memory / 1e6:.1f} MB"]
+                command = [program, mode, str(path), *words, "--workers"]
+                answer, clock, processor, memory = least([*command, "1"], int(rounds))
+                cells = [f"1: {clock:.3f} s {processor:.3f} s {memory / 1e6:.1f} MB"]
                 for workers in (2, 4, 16, 64):
-                    found, *used = least([*asking, str(workers)], int(rounds))
+                    found, *used = least([*command, str(workers)], int(rounds))
                     most = times * clock + 0.05, 4 * processor + 0.1, 2 * memory + 1e6 * workers
                     bad = ["answer"] * (found != answer) + [it for it, have, may in zip(("clock", "processor", "memory"), used, most) if have > may]
                     wrong += bool(bad)
-                    told.append(f"{workers}: {used[0]:.3f} s {used[1]:.3f} s {used[2] / 1e6:.1f} MB" + "".join(f" BAD {it}" for it in bad))
-                print(f"{name} {mode}: " + "  ".join(told), flush=True)
+                    cells.append(f"{workers}: {used[0]:.3f} s {used[1]:.3f} s {used[2] / 1e6:.1f} MB" + "".join(f" BAD {it}" for it in bad))
+                print(f"{name} {mode}: " + "  ".join(cells), flush=True)
     return wrong
 
 
@@ -372,18 +371,18 @@ def shares(program, rounds="9"):
                 took[it].append(seconds([[program, *run[it]]]))
         large, small = (statistics.median(took[side, SPAWNS]) - statistics.median(took[side, "0"]) for side in SIDES)
         wrong += large > MOST_RATIO * small
-        print(f"shares, workers {workers}: beside 1,000,000 elements {large:.3f} s, beside 4 {small:.3f} s, ratio {large / small:.2f} (wanted: {MOST_RATIO})", flush=True)
+        print(f"shares, workers {workers}: with 1,000,000 elements {large:.3f} s, with 4 {small:.3f} s, ratio {large / small:.2f} (at most {MOST_RATIO})", flush=True)
     return wrong
 
 
 def of_many_statements(calls):
-    """A program of 65,001 call statements: functions of 64 calls each, and a loop of spawns that calls some of these."""
+    """Returns a program of 65,001 call statements: functions of 64 calls each, and a loop of spawns that calls some of them."""
     empty = [f"void f{first}() {{ {'none(); ' * min(64, STATEMENTS - len(calls) - first)}}}" for first in range(0, STATEMENTS - len(calls), 64)]
     return "\n".join(["void none() { }", *empty, WORK, ROUND.replace("CALLS", " ".join(f"f{64 * it}();" for it in calls))]) + "\n"
 
 
 def memory(program, words):
-    """Status, both streams and the most memory at once, in MB, of one run."""
+    """Returns the status with both streams, and the peak memory in MB, of one run."""
     with tempfile.TemporaryFile() as out, tempfile.TemporaryFile() as said:
         running = subprocess.Popen(["timeout", "60", program, *words], stdout=out, stderr=said)
         _, status, used = os.wait4(running.pid, 0)
@@ -402,13 +401,13 @@ def pieces(program):
             for mode in ("run", "sites"):
                 for count in PIECES:
                     words = [mode, str(path), count, "--limit", "100000000000", "--workers"]
-                    wanted, alone = memory(program, [*words, "1"])
-                    told = [f"1: {alone:.0f} MB"]
+                    expected, single = memory(program, [*words, "1"])
+                    cells = [f"1: {single:.0f} MB"]
                     for workers in HOLDERS:
                         found, used = memory(program, [*words, str(workers)])
-                        wrong += found != wanted or used > alone + MOST_MORE
-                        told.append(f"{workers}: {used:.0f} MB" + ("" if found == wanted else " BAD"))
-                    print(f"{name}, {mode}, {count} spawns, workers {'  '.join(told)} (at most {MOST_MORE} MB more than one)", flush=True)
+                        wrong += found != expected or used > single + MOST_MORE
+                        cells.append(f"{workers}: {used:.0f} MB" + ("" if found == expected else " BAD"))
+                    print(f"{name}, {mode}, {count} spawns, workers {'  '.join(cells)} (at most {MOST_MORE} MB more than one)", flush=True)
     return wrong
 
 

@@ -1,20 +1,23 @@
-"""Hostile sources, limits and surroundings, against the built program.
+"""Tests the built program with hostile sources, limits and environments.
 
-    python3 bench/hostile.py PROGRAM rows      rows of hostile sources, each with its answer, on 1 MiB of stack
-    python3 bench/hostile.py PROGRAM limits    every limit from 1 to 400 on six programs that use every instruction
-    python3 bench/hostile.py PROGRAM sources   the worst source of about 1 MiB of each kind: time and memory of a check
-    python3 bench/hostile.py PROGRAM verifier  sources of 1 MiB on which the verifier has most to do: time and memory of a check
-    python3 bench/hostile.py PROGRAM cuts      100,000 cuts and passes of an array of 16,777,216 elements
-    python3 bench/hostile.py PROGRAM arrays    an array of 16,777,216 elements declared in each turn of a loop: never two at once
-    python3 bench/hostile.py PROGRAM paths     runs whose paths would be long: spawns without a join, long paths under many joins
-    python3 bench/hostile.py PROGRAM memory    the same programs with less and less memory: an answer, or `memory`
-    python3 bench/hostile.py PROGRAM explain   sources on which an explanation has most to do, and a search over shapes for worse ones: time,
-                                               memory and length of `check --explain` beside `check`
-    python3 bench/hostile.py PROGRAM refusals  the same programs and more with each single allocation refused in turn: the answer,
-                                               or `memory` with nothing written; wants gcc, which compiles bench/refuse.c
+    python3 bench/hostile.py PROGRAM PART
 
-The last line is `all as expected`, or the count of rows that were not. Expected answers are worked out by the rules of
-docs/LANGUAGE.md.
+    rows      hostile sources with known answers, on a stack of 1 MiB
+    limits    every limit from 1 to 400 on six programs that together use every instruction
+    sources   the slowest sources of about 1 MiB of each kind: time and memory of `check`
+    verifier  sources of 1 MiB that are slow for the verifier: time and memory of `check`
+    cuts      100,000 cuts of an array of 16,777,216 elements, whose parts are passed to calls
+    arrays    an array of 16,777,216 elements that each iteration of a loop declares: memory holds only one at a time
+    paths     runs with long paths: spawns without a join, long paths below many joins
+    greedy    schedules of 1,000,000 strands: processor time, memory, and the same length with one and four workers
+    memory    six programs with less and less memory: the answer, or `memory`
+    explain   sources that are slow to explain, and a search for slower ones: time, memory and length of the output of
+              `check --explain`, compared with `check`
+    refusals  each single allocation of twelve runs and checks fails in turn: the answer, or only `memory`; requires gcc,
+              which compiles bench/refuse.c
+
+The last line is `all as expected`, or the number of cases that differ; then the status is 1. Expected answers follow from
+the rules of docs/LANGUAGE.md.
 """
 
 import os
@@ -29,13 +32,13 @@ import time
 STACK = 1 << 20
 MOST_SECONDS = 2.0
 MOST_BYTES = 600 << 20
-# of processor time of the program itself, and of memory, for each source of bench/verify_sources.py
+# limits of processor time and memory for each source of verify_sources.py
 VERIFIER_SECONDS = 1.5
 VERIFIER_BYTES = 300 << 20
 
 
 def answer(program, words, source, memory=None):
-    """The status, standard output, standard error, seconds and greatest memory in bytes of one run."""
+    """Returns the status, standard output, standard error, seconds and peak memory in bytes of one run."""
     with tempfile.NamedTemporaryFile("w", suffix=".cilk") as file:
         file.write(source)
         file.flush()
@@ -46,7 +49,7 @@ def answer(program, words, source, memory=None):
                 resource.setrlimit(resource.RLIMIT_AS, (memory, memory))
 
         began = time.monotonic()
-        # into files, since `wait4`, which tells what this child alone took, leaves nothing for `communicate`
+        # files, because `communicate` does not work after `wait4`, which returns the resources of this child only
         with tempfile.TemporaryFile() as out, tempfile.TemporaryFile() as err:
             child = subprocess.Popen(
                 [program, words[0], file.name, *words[1:]],
@@ -63,7 +66,7 @@ def answer(program, words, source, memory=None):
             return child.returncode, out.read().decode(), err.read().decode(), seconds, used.ru_maxrss << 10
 
 
-def gives(value):
+def returns(value):
     return 0, f"return {value}\n", ""
 
 
@@ -83,18 +86,18 @@ RECURSION = (
 )
 LOOP = "int main() {{ cilk_for (int i = {}; i < 9223372036854775807; i++) {{ }} return 0; }}"
 ROWS = [
-    ("63 parentheses", "int main(){return " + "(" * 63 + "0" + ")" * 63 + ";}", ["run"], gives(0)),
+    ("63 parentheses", "int main(){return " + "(" * 63 + "0" + ")" * 63 + ";}", ["run"], returns(0)),
     ("64 parentheses", "int main(){return " + "(" * 64 + "0" + ")" * 64 + ";}", ["run"], refused(5)),
-    ("254 signs at their cost", "int main(){return " + "-" * 254 + "1;}", ["run", "--limit", "256"], gives(1)),
+    ("254 signs at their cost", "int main(){return " + "-" * 254 + "1;}", ["run", "--limit", "256"], returns(1)),
     ("254 signs, one less", "int main(){return " + "-" * 254 + "1;}", ["run", "--limit", "255"], OVER),
     ("255 signs", "int main(){return " + "-" * 255 + "1;}", ["run"], refused(5)),
-    ("65,535 call statements", CALLS, ["run", "--limit", "196607"], gives(0)),
+    ("65,535 call statements", CALLS, ["run", "--limit", "196607"], returns(0)),
     ("65,535 call statements, one less", CALLS, ["run", "--limit", "196606"], OVER),
     ("65,536 call statements", CALLS.replace("main(){", "main(){f();"), ["run"], refused(5)),
-    ("2^64 - 1 turns", LOOP.format("-9223372036854775807 - 1"), ["run"], trap(5)),
-    ("one turn at the greatest number", LOOP.format("9223372036854775806"), ["run", "--limit", "30"], gives(0)),
-    ("one turn, one less", LOOP.format("9223372036854775806"), ["run", "--limit", "29"], OVER),
-    ("depth 10,000", RECURSION, ["run", "9998"], gives(9998)),
+    ("2^64 - 1 iterations", LOOP.format("-9223372036854775807 - 1"), ["run"], trap(5)),
+    ("one iteration at the largest number", LOOP.format("9223372036854775806"), ["run", "--limit", "30"], returns(0)),
+    ("one iteration, one less", LOOP.format("9223372036854775806"), ["run", "--limit", "29"], OVER),
+    ("depth 10,000", RECURSION, ["run", "9998"], returns(9998)),
     ("depth 10,001", RECURSION, ["run", "9999"], trap(6)),
     (
         "257 declarations",
@@ -103,15 +106,15 @@ ROWS = [
         refused(5),
     ),
     ("a tag of 33 bytes", "int main(){region " + "t" * 33 + " { } return 0;}", ["run"], refused(5)),
-    ("a tag of 32 bytes", "int main(){region " + "t" * 32 + " { } return 0;}", ["run"], gives(0)),
+    ("a tag of 32 bytes", "int main(){region " + "t" * 32 + " { } return 0;}", ["run"], returns(0)),
     ("2^63 as a number", "int main(){return 9223372036854775808;}", ["run"], refused(1)),
-    ("the least number by -1", "int main(){int a=-9223372036854775807-1;return a/(0-1);}", ["run"], trap(1)),
-    ("endless", "int main(){while(1){}return 0;}", ["run", "--limit", "1000000"], OVER),
+    ("the smallest number divided by -1", "int main(){int a=-9223372036854775807-1;return a/(0-1);}", ["run"], trap(1)),
+    ("an endless loop", "int main(){while(1){}return 0;}", ["run", "--limit", "1000000"], OVER),
     ("an array too long", "int main(){int a[16777217];return 0;}", ["run"], trap(4)),
-    ("an array of a length below 0", "int main(){int a[0-1];return 0;}", ["run"], trap(4)),
+    ("an array of negative length", "int main(){int a[0-1];return 0;}", ["run"], trap(4)),
 ]
 
-# programs that use every instruction, each with its cost and what it answers within it
+# programs that together use every instruction, with the output of `run`
 PROGRAMS = [
     (
         "int fib(int n) { if (n < 2) { return n; } int x = 0; int y = 0; x = cilk_spawn fib(n - 1); y = fib(n - 2);"
@@ -149,11 +152,11 @@ PROGRAMS = [
 
 def rows(program):
     wrong = 0
-    for name, source, words, wanted in ROWS:
+    for name, source, words, expected in ROWS:
         got = answer(program, words, source)
-        fine = got[:3] == wanted
+        fine = got[:3] == expected
         wrong += not fine
-        print(f"{'ok ' if fine else 'BAD'} {name}: {got[3]:.2f} s" + ("" if fine else f", got {got[:3]}, wanted {wanted}"))
+        print(f"{'ok ' if fine else 'BAD'} {name}: {got[3]:.2f} s" + ("" if fine else f", got {got[:3]}, expected {expected}"))
     return wrong
 
 
@@ -177,23 +180,20 @@ def sources(program):
     here = pathlib.Path(__file__).parent
     wrong = 0
     with tempfile.TemporaryDirectory() as folder:
-        for script in ("parse_sources.py", "type_sources.py"):
-            subprocess.run([sys.executable, str(here / script), folder], check=True)
-        for shape, count in (("nested", 136), ("beside", 136), ("uses", 72), ("deep", 180), ("calls", 65535)):
-            with open(f"{folder}/own_{shape}.cilk", "w") as file:
-                subprocess.run(["sh", str(here / "own_sources.sh"), shape, str(count)], stdout=file, check=True)
-        for path in sorted(pathlib.Path(folder).glob("*.cilk")):
+        for kind in ("parse", "type"):
+            subprocess.run([sys.executable, str(here / f"{kind}_sources.py"), f"{folder}/{kind}"], check=True)
+        for path in sorted(pathlib.Path(folder).glob("*/*.cilk")):
             if path.stem.endswith(("_half", "_tree")):
                 continue
             status, said, seconds, _, peak = checked(program, path)
             fine = status in (0, 2) and seconds <= MOST_SECONDS and peak <= MOST_BYTES
             wrong += not fine
-            print(f"{'ok ' if fine else 'BAD'} {path.stem}: {path.stat().st_size} bytes, {seconds:.2f} s, {peak >> 20} MiB, {said}")
+            print(f"{'ok ' if fine else 'BAD'} {path.parent.name} {path.stem}: {path.stat().st_size} bytes, {seconds:.2f} s, {peak >> 20} MiB, {said}")
     return wrong
 
 
 def checked(program, path):
-    """The status of a check, the first line that it wrote, its seconds, those of the processor, and its memory in bytes."""
+    """Returns the status of a check, its first line of output, its run time, its processor time, and its peak memory in bytes."""
     timed = subprocess.run(
         ["/usr/bin/env", "bash", "-c", f"ulimit -s {STACK >> 10}; exec /usr/bin/time -f '%e %U %M' {program} check {path}"],
         capture_output=True,
@@ -225,8 +225,8 @@ CUTS = (
 
 def cuts(program):
     got = answer(program, ["run"], CUTS)
-    fine = got[:3] == gives(100000) and got[3] < 1.0
-    print(f"{'ok ' if fine else 'BAD'} 100,000 cuts and passes of 16,777,216 elements: {got[3]:.2f} s, {got[:3]}")
+    fine = got[:3] == returns(100000) and got[3] < 1.0
+    print(f"{'ok ' if fine else 'BAD'} 100,000 cuts of 16,777,216 elements: {got[3]:.2f} s, {got[:3]}")
     return not fine
 
 
@@ -237,21 +237,21 @@ DECLARED_BYTES = 160 << 20
 
 def arrays(program):
     got = answer(program, ["run"], DECLARED)
-    fine = got[:3] == gives(30) and got[3] <= 6.0 and got[4] <= DECLARED_BYTES
-    print(f"{'ok ' if fine else 'BAD'} 30 arrays of 16,777,216 elements, one after another: {got[3]:.2f} s, {got[4] >> 20} MiB, {got[:3]}")
+    fine = got[:3] == returns(30) and got[3] <= 6.0 and got[4] <= DECLARED_BYTES
+    print(f"{'ok ' if fine else 'BAD'} 30 arrays of 16,777,216 elements, one at a time: {got[3]:.2f} s, {got[4] >> 20} MiB, {got[:3]}")
     return not fine
 
 
-# 11 instructions a turn, of which 10 are on the path, and a burden each; 6 beside them
+# 11 instructions and one burden for each iteration, 10 of the instructions on the path; 6 for the rest
 SPAWNS = "void f() { } int main(int n) { while (n > 0) { cilk_spawn f(); n = n - 1; } return 0; }"
 SCALE = "tag,work,span,parallelism,burdened_span,burdened_parallelism\n"
-# 65,000 sites on one path, and 220,000 joins of a short child beside it
+# 65,000 sites on one path, and 220,000 joins with a short child
 DEEP = (
     "void e() { }\nvoid l() { " + "e(); " * 65000 + "}\nvoid g(int n) { if (n < 1) { l(); return; } "
     + "cilk_scope { cilk_spawn e(); " * 55 + "g(n - 1); " + "} " * 55 + "}\nint main(int n) { g(n); return 0; }\n"
 )
 SITES = "site,kind,line,callee,calls,own_work,own_span,work,span\n"
-# name, source, words, how the answer begins, most seconds, most bytes
+# name, source, arguments, start of the output, maximum of seconds, maximum of bytes
 PATHS = [
     (
         "10,000,000 spawns without a join",
@@ -270,7 +270,7 @@ PATHS = [
         16 << 20,
     ),
     (
-        "65,000 sites on a path under 220,000 joins",
+        "65,000 sites on a path below 220,000 joins",
         DEEP,
         ["sites", "4000"],
         SITES + "0,root,4,main,1,4,4,1046011,826011\n",
@@ -291,6 +291,44 @@ def paths(program):
     return wrong
 
 
+# a `cilk_for` with 333,334 iterations has 1,000,000 strands, the maximum
+STRANDS = "int main() {{ cilk_for (int i = 0; i < {}; i++) grain 1 {{ }} return 0; }}"
+GREEDY_SECONDS, GREEDY_BYTES = 2.0, 100 << 20
+
+
+def scheduled(program, words, iterations):
+    """Returns the status, both streams, the processor time and the peak memory of a run of `STRANDS`."""
+    with tempfile.NamedTemporaryFile("w", suffix=".cilk") as file, tempfile.TemporaryFile() as out, tempfile.TemporaryFile() as err:
+        file.write(STRANDS.format(iterations))
+        file.flush()
+        child = subprocess.Popen([program, *words[:2], file.name, *words[2:]], stdin=subprocess.DEVNULL, stdout=out, stderr=err)
+        _, ended, used = os.wait4(child.pid, 0)
+        child.returncode = os.waitstatus_to_exitcode(ended)
+        out.seek(0)
+        err.seek(0)
+        return child.returncode, out.read().decode(), err.read().decode(), used.ru_utime + used.ru_stime, used.ru_maxrss << 10
+
+
+def greedy(program):
+    wrong = 0
+    for processors in (1, 2, 16, 1000, 1000000):
+        reports = []
+        for workers in (1, 4):
+            words = ["greedy", str(processors), "--workers", str(workers)]
+            status, out, err, seconds, peak = scheduled(program, words, 333334)
+            reports.append(out)
+            fine = (status, err) == (0, "") and out == reports[0] and seconds < GREEDY_SECONDS and peak <= GREEDY_BYTES
+            wrong += not fine
+            last = (out or err).strip().splitlines()[-1]
+            print(f"{'ok ' if fine else 'BAD'} {processors} processors, {workers} workers: {last}, {seconds:.2f} s of a processor, {peak >> 20} MiB")
+    for workers in (1, 4, 64):
+        status, out, err, *_ = scheduled(program, ["greedy", "1", "--workers", str(workers)], 333335)
+        fine = (out, err) == ("", "too many strands\n")
+        wrong += not fine
+        print(f"{'ok ' if fine else 'BAD'} 1,000,003 strands, {workers} workers: status {status}, {err.strip()}")
+    return wrong
+
+
 def memory(program):
     wrong = 0
     for number, (source, text) in enumerate(PROGRAMS):
@@ -300,11 +338,11 @@ def memory(program):
             if said == "start" and got[0] in (0, 6):
                 wrong += 1
                 print(f"BAD program {number} in {kib} KiB: {got[:3]}")
-        print(f"program {number}: its answer, `memory`, or no start in each")
+        print(f"program {number}: with each size of memory its answer, `memory`, or no start")
     return wrong
 
 
-# programs that trap, are refused or use all that allocates: words, source, and the whole answer where memory is there
+# programs that trap, are rejected or use everything that allocates: arguments, source, and the answer if no allocation fails
 REFUSALS = [
     *[(["run"], source, (0, text, "")) for source, text in PROGRAMS],
     (
@@ -340,7 +378,7 @@ def refusals(program):
     with tempfile.TemporaryDirectory() as folder:
         library, count = f"{folder}/refuse.so", f"{folder}/count"
         subprocess.run(["gcc", "-O2", "-shared", "-fPIC", "-o", library, str(here / "refuse.c")], check=True)
-        for number, (words, source, wanted) in enumerate(REFUSALS):
+        for number, (words, source, expected) in enumerate(REFUSALS):
             path = f"{folder}/{number}.cilk"
             pathlib.Path(path).write_text(source)
 
@@ -354,7 +392,7 @@ def refusals(program):
                 return done.returncode, done.stdout, done.stderr
 
             whole = run(0)
-            wrong += wanted is not None and whole != wanted
+            wrong += expected is not None and whole != expected
             calls = int(pathlib.Path(count).read_text())
             memory = 0
             for refused in range(1, calls + 1):
@@ -363,24 +401,24 @@ def refusals(program):
                 if got not in (whole, (6, "", "memory\n")):
                     wrong += 1
                     print(f"BAD {' '.join(words)} of program {number}, allocation {refused}: {got}")
-            print(f"{' '.join(words)} of program {number}: {calls} allocations, each refused in turn: {memory} times `memory`, else the answer")
+            print(f"{' '.join(words)} of program {number}: {calls} allocations, each fails in turn: {memory} times `memory`, otherwise the answer")
     return wrong
 
 
-# what an explanation may take: so many times the seconds of the processor of the check alone, and so many more; so many
-# times its memory; bytes of text
+# limits of an explanation: processor time as a multiple of the time of `check`, plus seconds; memory as a multiple of the memory
+# of `check`; bytes of text
 EXPLAIN_TIMES, EXPLAIN_SECONDS, EXPLAIN_MEMORY, EXPLAIN_BYTES = 3.0, 0.02, 1.5, 4096
-# shapes that the search tries
+# number of sources that the search tries
 EXPLAIN_TRIES = 80
-# how blocks begin, and how a spawn takes names: in the function's parameter, and what is passed
+# starts of blocks, and the parameter of the spawned function for each way to take a name
 BLOCKS = ["if(1){", "while(1){", "cilk_scope{", "region t{", "if(1){}else{"]
 TAKEN_BY = {"const": "const int {}[]", "array": "int {}[]", "int": "int {}"}
 TAILS = ["if(1){}", "while(1){}", "if(1){}else{}", "cilk_scope{}", "region t{}", "x=1;", "cilk_sync;"]
 
 
 def held(depth, block, names, taken, width, tail, count, sync=False, fault="y=cilk_spawn g();y=1;"):
-    """Blocks inside one another, each with spawns that take all names by so many, then a statement again and again, all in line 2;
-    and a fault in line 3."""
+    """Returns a source with nested blocks, each with spawns that take all names, `width` names in each spawn, then `count` copies
+    of a statement, all in line 2, and a fault in line 3."""
     if taken == "int":
         declared = "".join(f"int a{i}=0;" for i in range(names))
         spawns = "".join(f"a{i}=cilk_spawn g();" for i in range(names))
@@ -400,13 +438,13 @@ def held(depth, block, names, taken, width, tail, count, sync=False, fault="y=ci
 
 
 def filled(make, size):
-    """The source of this many bytes, about, by how often its statement stands there again."""
+    """Returns the source of about `size` bytes, by the number of copies of its statement."""
     one = len(make(1)) - len(make(0))
     return make(max(0, (size - len(make(0))) // one))
 
 
 def tried(rng):
-    """A shape by chance, with its name."""
+    """Returns a random source with its description."""
     depth, names, width = rng.choice([1, 7, 29, 57]), rng.choice([1, 16, 120, 240]), rng.choice([1, 4, 16])
     block, taken, tail = rng.choice(BLOCKS), rng.choice(sorted(TAKEN_BY)), rng.choice(TAILS)
     size, sync = rng.choice([20_000, 200_000, 1_040_000]), rng.random() < 0.3
@@ -414,11 +452,11 @@ def tried(rng):
     while depth * per_block > 900_000:
         depth //= 2
     source = filled(lambda count: held(depth, block, names, taken, width, tail, count, sync), size)
-    return f"{depth} of {block} by {names} {taken} by {width}, {tail}, {len(source)} bytes" + (", joined" if sync else ""), source
+    return f"depth {depth} of {block}, {names} names taken as {taken}, {width} in a spawn, then {tail}, {len(source)} bytes" + (", joined" if sync else ""), source
 
 
 def explained():
-    """Sources that were slow once, each with the words of the command."""
+    """Returns sources that were slow once, each with its description and the command."""
     plain = ["check", "--explain"]
     tags = "int main(){" + "".join(f"region t{i:x}{{}}" for i in range(70_000)) + "return 0;}"
     body = "x=x*3+1;\n" * 116_000
@@ -430,14 +468,14 @@ def explained():
         ("29 loops that read 240 arrays", held(29, "while(1){", 240, "const", 16, "while(1){}", 0), plain),
         ("29 loops that read 240 arrays, up to 1 MiB", filled(lambda n: held(29, "while(1){", 240, "const", 16, "while(1){}", n), 1_040_000), plain),
         ("a syntax fault at the end of 1 MiB", "int main(int x){\n" + body + "return x 1;}", plain),
-        ("the same in one line", "int main(int x){" + body.replace("\n", " ") + "return x 1;}", plain),
-        ("a bracket that is open at the end of 1 MiB", "int main(int x){\n" + body + "return x;", plain),
+        ("a syntax fault at the end of 1 MiB in one line", "int main(int x){" + body.replace("\n", " ") + "return x 1;}", plain),
+        ("a missing bracket at the end of 1 MiB", "int main(int x){\n" + body + "return x;", plain),
         ("70,000 different tags", tags, plain),
         ("a number of 1 MB", "int main(){return " + "1" * 1_000_000 + ";}", plain),
         ("a name of 1 MB", "int main(){return " + "n" * 1_000_000 + ";}", plain),
         ("a line of 1 MB of control characters", "int main(){return 1 2;}//" + "\x1b" * 1_000_000, plain),
         ("an unknown name at the end of 1 MiB", "int main(int x){\n" + body + "return z;}", plain),
-        ("a return that is missing at the end of 1 MiB", "int main(int x){\n" + body + "}", plain),
+        ("a missing return at the end of 1 MiB", "int main(int x){\n" + body + "}", plain),
         ("a directive in each line of 1 MiB", "#d\n" * 340_000, plain),
         ("bytes above 127 in the last line of 1 MiB of comments", "@\n" + "// c\n" * 200_000 + "\u00e9" * 1_000 + "\n", plain),
         ("a for in each line of 1 MiB", "int main(int x){\n" + "for(;;){x=1;}\n" * 72_000 + "}", plain),
@@ -451,7 +489,7 @@ def explained():
 
 
 def fastest(program, words, source):
-    """The status, standard error, and the least seconds of the processor and bytes of memory of three runs."""
+    """Returns the status, standard error, and the minimum of processor time and of peak memory of three runs."""
     with tempfile.NamedTemporaryFile("w", suffix=".cilk") as file:
         file.write(source)
         file.flush()
@@ -470,22 +508,22 @@ def fastest(program, words, source):
 
 
 def weighed(program, name, source, words):
-    """Whether an explanation keeps its bounds, and by how much of its time it does."""
-    alone = fastest(program, ["check"], source)
+    """Returns whether an explanation keeps its limits, its time as a part of the limit, and a line for the output."""
+    plain_check = fastest(program, ["check"], source)
     more = fastest(program, words, source)
-    within = EXPLAIN_TIMES * alone[2] + EXPLAIN_SECONDS
-    text = more[1][len(alone[1]):]
+    within = EXPLAIN_TIMES * plain_check[2] + EXPLAIN_SECONDS
+    text = more[1][len(plain_check[1]):]
     plain = all(byte == 10 or 32 <= byte <= 126 for byte in text)
     fine = (
-        (alone[0], more[0]) == (2, 2)
-        and more[1].startswith(alone[1])
+        (plain_check[0], more[0]) == (2, 2)
+        and more[1].startswith(plain_check[1])
         and more[2] <= within
-        and more[3] <= EXPLAIN_MEMORY * alone[3]
+        and more[3] <= EXPLAIN_MEMORY * plain_check[3]
         and 0 < len(text) <= EXPLAIN_BYTES
         and plain
     )
-    told = f"{alone[2]:.3f} s and {alone[3] >> 20} MiB, explained {more[2]:.3f} s and {more[3] >> 20} MiB, {len(text)} bytes"
-    return fine, more[2] / within, f"{'ok ' if fine else 'BAD'} {name}: {told}"
+    figures = f"{plain_check[2]:.3f} s and {plain_check[3] >> 20} MiB, explained {more[2]:.3f} s and {more[3] >> 20} MiB, {len(text)} bytes"
+    return fine, more[2] / within, f"{'ok ' if fine else 'BAD'} {name}: {figures}"
 
 
 def explain(program):
@@ -505,12 +543,12 @@ def explain(program):
         found.append(weighed(program, name, source, ["check", "--explain"]))
     wrong += sum(not fine for fine, _, _ in found)
     for fine, part, line in sorted(found, key=lambda it: (it[0], -it[1]))[:5]:
-        print(f"{line}; {part:.2f} of what it may take")
+        print(f"{line}; {part:.2f} of its limit")
     return wrong
 
 
 if __name__ == "__main__":
-    parts = {"rows": rows, "limits": limits, "sources": sources, "verifier": verifier, "cuts": cuts, "arrays": arrays, "paths": paths, "memory": memory, "explain": explain, "refusals": refusals}
+    parts = {"rows": rows, "limits": limits, "sources": sources, "verifier": verifier, "cuts": cuts, "arrays": arrays, "paths": paths, "greedy": greedy, "memory": memory, "explain": explain, "refusals": refusals}
     if len(sys.argv) != 3 or sys.argv[2] not in parts:
         sys.exit(__doc__)
     bad = parts[sys.argv[2]](str(pathlib.Path(sys.argv[1]).resolve()))

@@ -1,11 +1,11 @@
-"""Writes sources of about 1 MiB, one for each kind of statement that is slow to read, into a folder."""
+"""Writes sources of about 1 MiB, one for each kind of statement that is slow to parse, into a folder: parse_sources.py FOLDER."""
 
 import pathlib
 import sys
 
 SIZE = 1 << 20
 
-# Each source repeats one statement in the body of `main`; none passes a limit on brackets or tokens in a row.
+# each source repeats one statement in the body of `main`; none exceeds a limit of nesting
 STATEMENTS = {
     "declarations": "int x=1;",
     "assignments": "x=y;",
@@ -28,8 +28,8 @@ STATEMENTS = {
 
 
 def source(statement):
-    before, behind = "int main(){", "return 0;}"
-    return before + statement * ((SIZE - len(before + behind)) // len(statement)) + behind
+    before, after = "int main(){", "return 0;}"
+    return before + statement * ((SIZE - len(before + after)) // len(statement)) + after
 
 
 def main():

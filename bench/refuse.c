@@ -1,5 +1,5 @@
-/* Refuses one allocation of a program, or counts them all: preloaded before it, REFUSE=N lets its N-th call of malloc or
-   realloc fail, and with REFUSE=0 none; the count of the calls is written to the file that REFUSE_COUNT names.
+/* A library to preload, which makes one allocation of a program fail. With REFUSE=N in the environment the N-th call of malloc or
+   realloc returns NULL, and with REFUSE=0 none does. The number of calls is written to the file that REFUSE_COUNT names.
    gcc -O2 -shared -fPIC -o refuse.so refuse.c */
 #define _GNU_SOURCE
 #include <stddef.h>
@@ -26,23 +26,23 @@ void *malloc(size_t size) { return is_refused() ? NULL : __libc_malloc(size); }
 
 void *realloc(void *old, size_t size) { return is_refused() ? NULL : __libc_realloc(old, size); }
 
-__attribute__((destructor)) static void tell(void) {
+__attribute__((destructor)) static void write_count(void) {
     const char *name = getenv("REFUSE_COUNT");
     if (!name) {
         return;
     }
-    long told = calls;
+    long count = calls;
     refused = 0;
     FILE *file = fopen(name, "w");
     if (file) {
-        fprintf(file, "%ld\n", told);
+        fprintf(file, "%ld\n", count);
         fclose(file);
     }
 }
 
-/* A program that may start threads ends by this call, and no destructor runs. */
+/* A program with threads ends by this call, which runs no destructor. */
 void _exit(int status) {
-    tell();
+    write_count();
     syscall(SYS_exit_group, status);
     __builtin_unreachable();
 }

@@ -8,7 +8,7 @@
 The theorem is `IsAnalysed` and `IsAnalysedBy` of crates/cw_cli/specs/Analyses.antt. From there the script follows names: each name
 in the text of a definition refers to a definition of the same file, or of the file that a `use` line names. A constructor refers
 to its type. A name of `declared` refers to a type or a constant of the code, and a type to the types of its fields. The kit's own
-definitions are not listed. The list may have a definition too many (if a local name is also that of a definition), but never one
+definitions are not listed. The list may have a definition too many (if a local name is also the name of a definition), but never one
 too few.
 """
 import collections
@@ -165,7 +165,7 @@ def uses(crate, path, name):
     around, _, *text = file.definitions[name]
     words = set(WORD.findall("\n".join([around, *text])))
     found = {resolve(file, it) for it in words}
-    # `do` stands for the operator that joins its lines
+    # `do` uses the operator that joins its lines
     found |= {resolve(file, it) for it, parts in operators(file) if set(parts) <= words or "do" in words and it == "◌>>=◌"}
     return found - {None, (crate, path, name)}
 

@@ -1,7 +1,7 @@
-"""Writes sources of about 1 MiB on which the verifier has most to do, into a folder: NAME.cilk of each kind.
+"""Writes sources of about 1 MiB that are slow for the verifier, into a folder: verify_sources.py FOLDER.
 
-`python3 bench/verify_sources.py FOLDER`. A kind is made of 190 names, of blocks and loops as deep as they may be, each of
-which takes a name (`AROUND`), and, within all of them, of one statement as often as there is room for it (`STATEMENTS`).
+Each source declares 190 names, nests blocks and loops to the maximum depth, each of which takes a name (`AROUND`), and
+repeats one statement in the innermost one as often as the size allows (`STATEMENTS`).
 """
 
 import pathlib
@@ -17,7 +17,7 @@ def declared(count):
     return "".join(f"int x{i}=0;" for i in range(count))
 
 
-# statements, each with the count of its instructions: a name that nothing takes, an array that nothing takes
+# statements, each with its number of instructions; nothing else takes the names x0 and x1 and the array
 STATEMENTS = {
     "regions": ("region t{}", 2),
     "signs": ("x0=" + "-" * 250 + "1;", 252),
@@ -41,32 +41,32 @@ def taking(d):
 
 
 def flat(inner):
-    """No block round it."""
+    """Returns the statements without a block around them."""
     return inner
 
 
 def deep(inner):
-    """Blocks inside one another, in each of which a name is taken."""
+    """Returns nested blocks, in each of which a name is taken."""
     return "".join(f"{taking(d)}region t{{" for d in range(60)) + inner + "}" * 60
 
 
 def turned(inner):
-    """The same in a loop, which takes one name more in each turn."""
+    """Returns nested blocks that take names, in a loop that takes one more name at the end of each iteration."""
     return "while(x1){" + "".join(f"region t{{{taking(d)}" for d in range(58)) + inner + "}" * 58 + "cilk_sync;x100=cilk_spawn f();}"
 
 
 def loops(inner):
-    """Loops inside one another, each of which takes a name in each turn."""
+    """Returns nested loops, each of which takes a name in each iteration."""
     return "while(x1){" * 59 + inner + "".join(f"cilk_sync;{taking(d)}}}" for d in range(59)) + "cilk_sync;"
 
 
 def pairs(inner):
-    """Loops and blocks by turns, inside one another, each with a name that it takes in each turn."""
+    """Returns loops and blocks that alternate, nested, each loop with a name that it takes in each iteration."""
     return "while(x1){region t{" * 29 + inner + "".join(f"}}cilk_sync;{taking(d)}}}" for d in range(29)) + "cilk_sync;"
 
 
 def delays(inner):
-    """In a loop, nests of loops of each depth, one after another, and then the rest."""
+    """Returns a loop with nests of loops of each depth before and after the statements."""
     nests = "".join("while(x1){" * k + f"x{k + 2}=cilk_spawn f();cilk_sync;" + "}" * k for k in range(1, 58))
     late = "".join("while(x1){" * k + f"cilk_sync;x{k + 60}=cilk_spawn f();" + "}" * k for k in range(1, 58))
     return "while(x1){" + nests + inner + late + "}cilk_sync;"
@@ -76,7 +76,7 @@ AROUND = {"flat": flat, "deep": deep, "turned": turned, "loops": loops, "pairs":
 
 
 def source(around, statement, cost):
-    """As many of these statements as a source has room for."""
+    """Returns the source with as many copies of the statement as the limits allow."""
 
     def whole(inner):
         return f"{CALLED}int main(){{{declared(NAMES)}int a[1];{around(inner)}return 0;}}\n"
@@ -89,14 +89,14 @@ def source(around, statement, cost):
 
 
 def many_functions():
-    """Functions of 255 names each."""
+    """Returns a source of functions of 255 names each."""
     names = "".join(f"int {chr(97 + i % 26)}{i // 26}=0;" for i in range(255)) + "region t{" * 3 + "}" * 3
     body = "".join(f"void own{n}(){{{names}}}\n" for n in range(SIZE // (len(names) + 16)))
     return body[: SIZE - 100].rsplit("void", 1)[0] + "int main(){return 0;}\n"
 
 
 def wide_calls(kind="int"):
-    """Calls that take 16 arrays each, or only read them, spawned."""
+    """Returns a source of spawned calls, each of which takes 16 arrays, or reads them if they are `const`."""
     params = ",".join(f"{kind} p{i}[]" for i in range(16))
     arrays = "".join(f"int a{i}[1];" for i in range(16))
     call = f"cilk_spawn h({','.join(f'a{i}' for i in range(16))});cilk_sync;"

@@ -3,7 +3,7 @@
 
     answers.py PROGRAM
 
-The other implementation of the language (bench/reference) made these files, never cilkwork. The last line is the number of
+The independent implementation of the language (bench/reference) made these files, never cilkwork. The last line is the number of
 files that were compared; the status is 1 if one differs.
 """
 import pathlib

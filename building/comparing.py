@@ -1,4 +1,4 @@
-"""Compares two modules function by function: the one that ./build makes of the sources, and the one that the kit makes after the proof.
+"""Compares two modules function by function: the module that ./build makes from the sources, and the module of the kit after the proof.
 
 The names of registers and blocks do not matter, nor does dead code, which the modules may have in different amounts.
 """
@@ -54,7 +54,7 @@ def blocks_of(lines):
 
 
 def join_blocks(blocks):
-    """Removes blocks that nothing leads to, and appends a block to the only one that leads to it. Returns whether it changed anything."""
+    """Removes unreachable blocks, and appends a block to its only predecessor. Returns whether it changed anything."""
     leads = {}
     for label, lines in blocks:
         for it in (to for line in lines for to in re.findall(r"label %([\w.]+)", line)):
@@ -120,7 +120,7 @@ def body_difference(mine, proved):
 
 
 def differences(mine, proved):
-    """Yields what differs between two modules, each given as functions and declarations, with lines that show it."""
+    """Yields each difference of two modules, given as functions and declarations, with the lines that show it."""
     (mine, mine_others), (proved, proved_others) = mine, proved
     for name in [*mine, *(it for it in proved if it not in mine)]:
         if name not in proved or name not in mine:

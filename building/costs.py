@@ -1,11 +1,11 @@
-"""What the full check costs, by bench/budget.csv: the seconds of processor time of each crate's proof, tests and must-fail edits."""
+"""Estimates the cost of the full check from bench/budget.csv, the processor time of each crate's proof, tests and must-fail edits."""
 import csv
 import os
 
 import records
 
 BUDGET = records.TOP / "bench/budget.csv"
-# a crate that the table does not list
+# the seconds of a crate that the table does not list
 SMALL = (60, 0, 0)
 # crates that are proved at a time
 LANES = min(len(os.sched_getaffinity(0)), 4)

@@ -1,4 +1,4 @@
-"""The entry function of the program, which the kit begins with a test of the processor."""
+"""Makes the entry function of the program, which begins with a test of the processor."""
 import re
 
 CPU = "x86-64"

@@ -1,4 +1,4 @@
-"""The program with what belongs to it, in a folder such as ~/.local."""
+"""Installs the program with its documents, examples and completions into a folder such as ~/.local."""
 import os
 import pathlib
 import shutil
@@ -9,7 +9,7 @@ DOCUMENTS = ["docs/GUIDE.md", "docs/LANGUAGE.md", "CHANGELOG.md"]
 
 
 def put(file, to, mode=0o644):
-    """Copies a file, in one step where another one stands there, which may be a program that runs."""
+    """Copies a file. An existing file, which may be a running program, is replaced in one step."""
     to.parent.mkdir(parents=True, exist_ok=True)
     made = to.with_name(to.name + ".new")
     shutil.copyfile(file, made)
@@ -18,7 +18,7 @@ def put(file, to, mode=0o644):
 
 
 def installed(program, prefix):
-    """Copies the program, its page of the manual, its completions, documents and examples; gives the files by what they are."""
+    """Copies the program, its manual page, completions, documents and examples below a folder, and returns the folder."""
     prefix = pathlib.Path(prefix).expanduser().absolute()
     put(program, prefix / "bin/cilkwork", 0o755)
     for file in sorted((records.TOP / "share").rglob("*")):
@@ -27,7 +27,7 @@ def installed(program, prefix):
     place = prefix / "share/doc/cilkwork"
     for name in DOCUMENTS:
         put(records.TOP / name, place / pathlib.Path(name).name)
-    # here documents and examples lie beside one another
+    # GUIDE.md and the folder of examples are in the same folder here
     guide = place / "GUIDE.md"
     guide.write_text(guide.read_text().replace("](../examples", "](examples"))
     for file in sorted((records.TOP / "examples").iterdir()):

@@ -60,7 +60,7 @@ SUPPORTED = tuple(f"rattle-kit-{it} {LOGIC}" for it in ("13b", "13f"))
 
 
 def supported():
-    """Returns what a user must do if the kit is missing or another one."""
+    """Returns instructions for a user whose kit is missing or not supported."""
     lines = "".join(f"\n    {it}" for it in SUPPORTED)
     return f"""This repository is built by one of these kits. Unpack it and put its folder bin first on the path, for example
     export PATH=/PATH/OF/THE/KIT/bin:$PATH

@@ -33,7 +33,7 @@ class Uses:
         return all(re.match(access, it) or (at := re.match(field, it)) and self.are_accesses(at[1]) for it in self.lines.get(name, ["-"]))
 
     def is_accessed(self, name, tested):
-        """Returns whether an offset is put into a variable which the trial tested, and which is used for accesses alone."""
+        """Returns whether an offset is put into a variable which the trial tested, and which is used only for accesses."""
         put = self.lines.get(name, [])
         into = PUT.match(put[0]) if len(put) == 1 else None
         if not into or into[2] not in tested:
@@ -45,8 +45,7 @@ class Uses:
 def element(lines, copies):
     """Returns the number of the line with the offset of an element, in the lines after the tests of its indices, or None.
 
-    The address of a field that is an array, and those of elements that are arrays, are the bases of further offsets: the last offset
-    is the element's. The address of an array may be copied, once for each index but the last; another copy is a reference."""
+    The address of a field or an element that is an array is the base of further offsets: the last offset is the element's. The address of an array may be copied, once for each index but the last; another copy is a reference."""
     last = slot = None
     taken = set()
     for number, line in enumerate(lines):
@@ -83,7 +82,7 @@ def elements(lines):
 
 
 def is_multiple(offset, index):
-    """Returns whether an offset is a literal that may be the one of the element with this index."""
+    """Returns whether an offset is a literal that may belong to the element with this index."""
     return offset.isdigit() and (int(offset) % index == 0 if index else int(offset) == 0)
 
 

@@ -1,5 +1,7 @@
-"""Proves the program and the crates below it with `rt ci`, in parallel, and takes what earlier runs have proved: from the kit, if it keeps
-proofs, and from the last full check below the same folder, if the crates and the program are as it left them."""
+"""Proves the program and the crates below it with `rt ci`, in parallel.
+
+It reuses earlier proofs: those that the kit keeps, and the last full check in the same folder, if crates and program are unchanged.
+"""
 import hashlib
 import os
 import pathlib
@@ -14,7 +16,7 @@ import records
 
 # what a proof reads of a crate, and what a run of a program needs
 READ = ("src", "specs", "proofs", "data", "stdin", "stdout", "args", "status")
-# until so many seconds of proofs are done, the estimate counts them as if they had gone at the expected pace
+# the estimate adds this number of seconds of proofs at the expected pace, since the first proofs predict little
 TRUST = 300
 # the program that `rt ci` builds, and the sums of what the full check proved and built
 PROGRAM = "crates/cilkwork/out/cilkwork"

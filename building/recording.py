@@ -1,4 +1,4 @@
-"""Records what the kit has proved: the sums of the program and its sources, and what of its module no rule predicts."""
+"""Records the proved program: the sums of the program and its sources, and the parts of its module that no rule predicts."""
 import pathlib
 import tempfile
 
@@ -26,7 +26,7 @@ def hints_of(function):
 
 
 def unpredicted_hints(mine, proved):
-    """Returns the proved hints of the functions for which the rules give others: by the name without type arguments if it is the same for all."""
+    """Returns the proved hints of the functions for which the rules predict others, by the name without type arguments if all instances agree."""
     instances, found = {}, {}
     for name, it in proved.items():
         instances.setdefault(modules.generic(name), set()).add(hints_of(it))
@@ -37,7 +37,7 @@ def unpredicted_hints(mine, proved):
 
 
 def unpredicted_offsets(mine, proved):
-    """Returns the numbers of the offsets of each function on which the flags are not what the rule says."""
+    """Returns the numbers of the offsets of each function on which the flags are not as the rule predicts."""
     found = {}
     for name in (it for it in mine if it in proved and it != "main"):
         one, two = [[offsets.FLAGS in line for line in it[name].lines if offsets.OFFSET.match(line)] for it in (mine, proved)]
@@ -55,7 +55,7 @@ def compare(kit, folder, top, proved_top, exceptions):
 
 
 def differences(kit, say):
-    """Proves the program, which takes little after a full check, and returns a report of what ./build makes otherwise."""
+    """Proves the program, which is quick after a full check, and returns a report of the differences from the program of ./build."""
     with tempfile.TemporaryDirectory(prefix="cilkwork-compare-") as name:
         folder = pathlib.Path(name)
         proved_top = proving.prove(kit, records.TOP, folder / "top", say)

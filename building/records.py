@@ -1,11 +1,11 @@
-"""What `./build --record` writes: which program the kit proved, and what of its module no rule predicts.
+"""Reads and writes the files of `./build --record`: the proved program, and the parts of its module that no rule predicts.
 
 `building/PROVED` has a line for each kit: the kit, the sum of the sources, and the SHA-256 of the proved program.
 
 `building/EXCEPTIONS` has a line for each difference between the proved module and the one that the rules of this folder make:
 
     hints NAME WORD..       the hints that a function has in the proved module, or none. NAME without type arguments means all instances
-    offsets NAME NUMBER..   the pointer offsets of a function, counted from 0, on which `inbounds nuw` is not what the rule says
+    offsets NAME NUMBER..   the pointer offsets of a function, counted from 0, on which `inbounds nuw` is not as the rule predicts
 
 A tab ends each name, since names may have spaces.
 """
@@ -29,7 +29,7 @@ class Proved:
 
 @dataclasses.dataclass
 class Exceptions:
-    """What the rules do not predict: hints by the name of a function or of an instance, and numbers of offsets by instance."""
+    """The exceptions from the rules: hints by the name of a function or of an instance, and numbers of offsets by instance."""
 
     hints: dict = dataclasses.field(default_factory=dict)
     offsets: dict = dataclasses.field(default_factory=dict)
@@ -89,7 +89,7 @@ def sum_of_sources(crates):
 
 
 def sum_of_building(kit):
-    """Returns a sum of what makes the program of the sources: the kit, and the files of building/."""
+    """Returns a sum of the kit and the files of building/, which make the program from the sources."""
     found = hashlib.sha256(f"{kit}\n".encode())
     add_files(found, [TOP / "build", EXCEPTIONS, PROVED, *sorted((TOP / "building").glob("*.py"))], TOP)
     return found.hexdigest()

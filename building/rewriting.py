@@ -1,8 +1,8 @@
-"""Rewrites the module of a trial as the kit makes it after a proof.
+"""Rewrites the module of a trial into the module that the kit makes after a proof.
 
-A trial is what `rt try` compiles: no proofs, tests at run time. Its module differs from the proved one in what a trial adds (its tests, and
-what only they read: bodies.py) and in what it omits: `inbounds nuw` on some pointer offsets (offsets.py), hints (hints.py), `pause`, the
-processor test (entry.py) and the name of the program logic.
+A trial is what `rt try` compiles: no proofs, tests at run time. A trial adds tests and values that only they read (bodies.py). It omits
+`inbounds nuw` on some pointer offsets (offsets.py), hints (hints.py), `pause`, the processor test (entry.py) and the name of the program
+logic.
 """
 import multiprocessing
 import os
@@ -15,7 +15,7 @@ import offsets
 
 COMMON = 'nounwind "probe-stack"="inline-asm" "stack-probe-size"="3072" "target-cpu"='
 PAUSE = "call void @llvm.x86.sse2.pause()"
-# the number of the first attribute group that a rewritten module adds, and how many functions are rewritten at a time
+# the number of the first attribute group that a rewritten module adds, and the number of functions that are rewritten at a time
 FIRST_GROUP, BATCH = 901, 2000
 
 
@@ -52,7 +52,7 @@ class Rewriting:
         return f'!0 = !{{!"rattle logic={self.logic}"}}\n' if line.startswith("!0 = ") else line
 
     def tasks(self, items):
-        """Yields, for each item that is kept, its text if it is final, or what `body` needs."""
+        """Yields, for each item that is kept, its text if it is final, or the arguments of `body`."""
         for lines in items:
             if not lines[0].startswith("define "):
                 yield self.plain(lines[0]), None

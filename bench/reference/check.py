@@ -1,5 +1,5 @@
 #!/usr/bin/env python3
-"""Holds the other implementation to answers that were worked out by hand: check.py prints how many hold."""
+"""Tests the independent implementation with answers worked out by hand, and prints the number of answers that are as expected."""
 import os
 import sys
 
@@ -39,7 +39,7 @@ SQUARES = ("int main() { int a[4]; cilk_for (int i = 0; i < %s; i++) grain 2 ove
            "return 0; }")
 REGION = "void p(int v) { print(v); } int main() { region r { cilk_spawn p(1); print(2); } return 0; }"
 GREATEST = "int main() { return 9223372036854775807 + 1; }"
-TURNS = "int main() { cilk_for (int i = 0; i < %s; i++) { } return 0; }"
+ITERATIONS = "int main() { cilk_for (int i = 0; i < %s; i++) { } return 0; }"
 FILL = ("int fill(int a[], int v) { a[0] = v; return len(a); } int main() { int a[4]; int x = 0; int y = 0; "
         "cut a at 2 as l, r { x = cilk_spawn fill(l, 5); y = fill(r, 7); } return a[0] * 10 + a[2]; }")
 LOOP = ("int main() { int a[%s]; cilk_for (int i = %s; i < %s; i++) grain 2 over (a) { a[i] = i * i; } "
@@ -70,13 +70,13 @@ BOTH_10, BOTH_100, BOTH_15000 = (Burden(charge, "both") for charge in (10, 100, 
 
 
 def example(name):
-    """The source of a program of examples/."""
+    """Returns the source of a program of examples/."""
     with open(os.path.join(os.path.dirname(os.path.abspath(__file__)), "..", "..", "examples", name + ".cilk")) as file:
         return file.read()
 
 
-# source, arguments, mode (of gains with the number of functions where it is not 10), limit, burden (a number is charged on
-# continuation edges alone), and the answer
+# source, arguments, mode (for `gain` with the number of functions, unless it is 10), limit, burden (a number is charged only on
+# continuation edges), and the answer
 CASES = [
     (FIB, [0], "run", BILLION, 0, "return 0\n"),
     (FIB, [0], "scale", BILLION, 15000, SCALE + ",12,12,1.000,12,1.000\n"),
@@ -121,8 +121,8 @@ CASES = [
     (REGION, [], "scale", BILLION, BOTH_10, SCALE + ",11,9,1.222,19,0.578\nr,7,5,1.400,15,0.466\n"),
     (GREATEST, [], "run", 3, 0, (3, "", "trap 1 line 1\n")),
     (GREATEST, [], "run", 2, 0, (4, "", "over limit\n")),
-    (TURNS % 2147483648, [], "run", 3, 0, (3, "", "trap 5 line 1\n")),
-    (TURNS % 2147483647, [], "run", 3, 0, (4, "", "over limit\n")),
+    (ITERATIONS % 2147483648, [], "run", 3, 0, (3, "", "trap 5 line 1\n")),
+    (ITERATIONS % 2147483647, [], "run", 3, 0, (4, "", "over limit\n")),
     (FILL, [], "run", 31, 0, "return 57\n"),
     (FILL, [], "run", 30, 0, (4, "", "over limit\n")),
     (FILL, [], "scale", BILLION, 0, SCALE + ",31,26,1.192,26,1.192\n"),
@@ -179,10 +179,10 @@ READS = ("int f(const int a[]) { return len(a); } int g(int a[]) { return 0; } v
 CONST = ("int f(const int a[]) { return len(a); } int g(int a[]) { return 0; } "
          "int n(const int a[], int x) { %s return 0; } int main() { return 0; }")
 
-TOLD = "reducer sum s; reducer max m; int main() { %s return 0; }"
+UPDATES = "reducer sum s; reducer max m; int main() { %s return 0; }"
 
 KEPT = [
-    TOLD % "s += 1; m max= 2;",
+    UPDATES % "s += 1; m max= 2;",
     SPAWN % "x = cilk_spawn f(x); cilk_sync;",
     SPAWN % "while (x < 1) { x = cilk_spawn f(1); cilk_sync; }",
     SPAWN % "if (x) { x = cilk_spawn f(1); return 1; } x = 2;",
@@ -204,10 +204,10 @@ KEPT = [
 ]
 
 BROKEN = [
-    TOLD % "s max= 1;",
-    TOLD % "m += 1;",
-    TOLD % "n max= 1;",
-    TOLD % "int m = 1;",
+    UPDATES % "s max= 1;",
+    UPDATES % "m += 1;",
+    UPDATES % "n max= 1;",
+    UPDATES % "int m = 1;",
     SPAWN % "x = cilk_spawn f(1); int y = x; cilk_sync;",
     SPAWN % "x = g(1);",
     SPAWN % "x = f(1, 2);",
@@ -271,23 +271,23 @@ def check_rules():
     wrong = [source for source in KEPT if broken(Program(source))]
     wrong += [source for source in BROKEN if not broken(Program(source))]
     for source in wrong:
-        print("told otherwise of the rules:", source)
+        print("unexpected result for the rules:", source)
     return len(wrong)
 
 
 def check():
     held = 0
-    for source, arguments, mode, limit, burden, wanted in CASES:
+    for source, arguments, mode, limit, burden, expected in CASES:
         charged = burden if isinstance(burden, Burden) else Burden(burden)
         words = mode.split()
         answer = report(words[0], Run(Program(source), arguments, limit), charged, top=int((words + ["10"])[1]))
-        wanted = wanted if isinstance(wanted, tuple) else (0, wanted, "")
-        held += answer == wanted
-        if answer != wanted:
-            print("wanted", wanted, "answered", answer, "by", mode, arguments, limit, charged.charge, charged.edges, source)
+        expected = expected if isinstance(expected, tuple) else (0, expected, "")
+        held += answer == expected
+        if answer != expected:
+            print("expected", expected, "got", answer, "from", mode, arguments, limit, charged.charge, charged.edges, source)
     rules = len(KEPT) + len(BROKEN)
     held += rules - check_rules()
-    print("%d of %d hold" % (held, len(CASES) + rules))
+    print("%d of %d are as expected" % (held, len(CASES) + rules))
     return 0 if held == len(CASES) + rules else 1
 
 

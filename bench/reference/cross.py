@@ -1,10 +1,10 @@
 #!/usr/bin/env python3
-"""Compares the other implementation with a third one, the switch loop of C: value, printed lines, sums, trap, cost.
+"""Compares the independent implementation with the switch loop in C: value, printed lines, reducers, trap, cost.
 
     cross.py SWITCH START END [consts]
 
-SWITCH is `bench/switch.c`, built; programs of seeds from START to before END without arguments are run by both, with
-`consts` those whose functions have `const` parameters, too.
+SWITCH is the compiled `bench/switch.c`. Both execute the random programs without arguments of the seeds from START up to END,
+END excluded. With `consts` functions have `const` parameters, too. The status is 1 if a result differs.
 """
 import collections
 import os
@@ -21,7 +21,7 @@ COMPILER = os.path.join(os.path.dirname(os.path.abspath(__file__)), "..", "compi
 LIMIT = 200000
 
 
-def wanted(run):
+def expected(run):
     if run.is_over:
         return 4, None, "over limit\n"
     if run.trap:
@@ -30,14 +30,14 @@ def wanted(run):
 
 
 def compare(switch, source, folder):
-    """Whether both agree, under the exit status."""
+    """Returns the expected exit status, and whether both agree."""
     path = os.path.join(folder, "program")
     with open(path + ".cilk", "w") as file:
         file.write(source)
     with open(path + ".code", "w") as file:
         subprocess.run([sys.executable, COMPILER, path + ".cilk"], stdout=file, check=True)
     done = subprocess.run([switch, path + ".code", str(LIMIT)], capture_output=True, text=True)
-    status, out, err = wanted(Run(Program(source), [], LIMIT))
+    status, out, err = expected(Run(Program(source), [], LIMIT))
     return status, done.returncode == status and out in (None, done.stdout) and done.stderr == err
 
 

@@ -1,10 +1,11 @@
 #!/usr/bin/env python3
-"""Writes what the other implementation says of each program of examples/, or compares it with what stands there.
+"""Writes the reports of the independent implementation for each program of examples/, or compares them with the files there.
 
     examples.py [--check]
 
-Beside NAME.cilk and NAME.args (an argument a line) stand NAME.out (what `cilkwork run` prints), NAME.scale.csv,
-NAME.sites.csv, NAME.gain.csv and NAME.greedy.csv (of `cilkwork greedy 8`). All of them are also written as constants of tests, into crates/cw_tests/src/examples.
+For NAME.cilk with NAME.args (one argument on each line) the reports are NAME.out (the output of `cilkwork run`), NAME.scale.csv,
+NAME.sites.csv, NAME.gain.csv and NAME.greedy.csv (of `cilkwork greedy 8`). It also writes all of them as constants of tests into
+crates/cw_tests/src/examples.
 """
 import glob
 import os
@@ -21,7 +22,7 @@ PROCESSORS = 8
 TEST = [
     "",
     "#[test]",
-    "fn reports_as_beside_it(rt: HostRuntime) -> Result<(), Fail> {",
+    "fn reports_as_expected(rt: HostRuntime) -> Result<(), Fail> {",
     "    holds(rt, &EXAMPLE)",
     "}",
     "",
@@ -34,8 +35,8 @@ def read(path):
 
 
 def constant(name, texts):
-    """The texts of an example as a constant of Rattle, and the test of them."""
-    lines = ["//! The program examples/%s.cilk, and the files beside it." % name, ""]
+    """Returns the module that tests an example, with its texts as a constant."""
+    lines = ["//! The program examples/%s.cilk and its reports." % name, ""]
     lines += ["use crate::examples::{Example, holds};", "use std::test::Fail;"]
     lines += ["", "const EXAMPLE: Example = Example {"]
     for field, text in texts:
@@ -45,7 +46,7 @@ def constant(name, texts):
 
 
 def texts_of(name, path):
-    """The files of an example, by their paths, with the constant of its tests."""
+    """Returns the texts of the reports of an example and of its test module, by their paths."""
     source, arguments = read(path + ".cilk"), read(path + ".args").split()
     why = broken(Program(source))
     if why:

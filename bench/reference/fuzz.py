@@ -1,12 +1,12 @@
 #!/usr/bin/env python3
-"""Compares the built program with the other implementation, byte for byte, on random programs.
+"""Compares the built program with the independent implementation, byte for byte, on random programs.
 
-    fuzz.py EXE START COUNT [no-loops] [consts]
+    fuzz.py PROGRAM START COUNT [no-loops] [consts]
 
-For each seed from START on, the program of that seed is checked, and run in the modes run, scale, sites, gain and greedy: within a
-wide limit, within just what it costs, and within one instruction less. Exit status and both streams must be those that
-`ref.py` gives. Then three programs that differ from it in one statement are checked: each must be accepted, or refused
-in its line, as `rules.py` says. With `consts` functions have `const` parameters, too.
+For each of COUNT seeds from START on, the random program of the seed is checked, and run in the modes run, scale, sites, gain and
+greedy: with a large limit, with its cost as the limit, and with one instruction less. Exit status and both streams must be as
+`ref.py` computes them. Then three programs that differ from it in one statement are checked: each must be accepted or rejected,
+with the line, as by `rules.py`. With `consts` functions have `const` parameters, too.
 """
 import collections
 import os
@@ -26,20 +26,20 @@ OVER = (4, "", "over limit\n")
 
 
 def arguments_of(source, seed):
-    """Small numbers, one for each parameter of main."""
+    """Returns small numbers, one for each parameter of main."""
     params = re.search(r"int main\(([^)]*)\)", source).group(1)
     return [(seed * 7 + place * 3) % 11 for place in range(params.count("int"))]
 
 
 def answers(source, arguments, burden, processors, top):
-    """What the program is asked in each mode, and what it must answer."""
+    """Yields the mode and limit of each run, with the answer that the program must give."""
     run = Run(Program(source), arguments, WIDE)
     yield ["check"], (0, "ok\n", "")
     for mode in ("run", "scale", "sites", "gain", "greedy"):
-        wanted = report(mode, run, burden, processors, top)
-        yield [mode, WIDE], wanted
+        expected = report(mode, run, burden, processors, top)
+        yield [mode, WIDE], expected
         if not run.is_over:
-            yield [mode, run.cost], wanted
+            yield [mode, run.cost], expected
             if run.cost > 1:
                 yield [mode, run.cost - 1], OVER
 
@@ -56,33 +56,33 @@ def asked(exe, path, words, arguments, burden, processors, top):
 
 
 def compare(exe, seed, generator, path, seen):
-    """Counts the answers of one program by mode and exit status; gives how many of them are wrong."""
+    """Counts the answers of one program in `seen`, by mode and exit status, and returns the number of wrong ones."""
     source, bad = generator.program(), 0
     write(path, source)
     arguments = arguments_of(source, seed)
     burden = Burden([0, 1, 10, 100, 15000, 1000000000][seed % 6], ["spawn", "both"][seed // 6 % 2])
     processors = [1, 2, 3, 8, 64, 1000000, 5][seed % 7]
     top = [1, 2, 3, 10, 64][seed % 5]
-    for words, wanted in answers(source, arguments, burden, processors, top):
+    for words, expected in answers(source, arguments, burden, processors, top):
         found = asked(exe, path, words, arguments, burden, processors, top)
-        seen["%s %d" % (words[0], wanted[0])] += 1
-        if found != wanted:
+        seen["%s %d" % (words[0], expected[0])] += 1
+        if found != expected:
             bad += 1
             print("seed", seed, words, arguments, "burden", burden.charge, burden.edges, "processors", processors, "top", top)
-            print("wanted", wanted, "answered", found)
+            print("expected", expected, "got", found)
     return bad + sum(compare_mutant(exe, mutant(source, 3 * seed + k), path, seen) for k in range(3))
 
 
 def compare_mutant(exe, source, path, seen):
-    """Whether the program is refused otherwise than by the rules."""
+    """Returns whether `check` accepts or rejects the program differently from the rules."""
     write(path, source)
     breaks = broken(Program(source))
-    wanted = (2, "", "refused %d line %d\n" % breaks[:2]) if breaks else (0, "ok\n", "")
+    expected = (2, "", "refused %d line %d\n" % breaks[:2]) if breaks else (0, "ok\n", "")
     found = asked(exe, path, ["check"], [], Burden(0), 1, 1)
     seen["mutant refused %d" % breaks[0] if breaks else "mutant accepted"] += 1
-    if found != wanted:
-        print("wanted", wanted, breaks, "answered", found, "of", source)
-    return found != wanted
+    if found != expected:
+        print("expected", expected, breaks, "got", found, "for", source)
+    return found != expected
 
 
 def write(path, source):

@@ -1,20 +1,22 @@
 #!/usr/bin/env python3
-"""Random programs of the profile that keep its rules, by a seed: functions that call themselves and others, arrays,
-cuts, loops, regions and reducers. Most of them end; some trap, and few run long.
+"""Prints the random program of a seed, which keeps the rules of the language.
 
     gen.py SEED [no-loops] [consts]
+
+The programs have recursive and other calls, arrays, cuts, loops, regions and reducers. Most of them finish; some trap, and few
+run long.
 """
 import random
 import re
 import sys
 
 SMALL = "0 1 2 3 4 5 6 7 10 100".split()
-GREAT = ["9223372036854775807", "-9223372036854775807"]
-USUAL = "+ - * < <= > >= == != + - + - *".split()
+LARGE = ["9223372036854775807", "-9223372036854775807"]
+OPERATORS = "+ - * < <= > >= == != + - + - *".split()
 TAGS = ["red", "green", "blue"]
 SIGNS = {"sum": "+=", "max": "max="}
-DEEPEST = 3  # blocks inside one another
-TOLD = re.compile(r"( *s\d )(\+=|max=)( .*;)")
+DEEPEST = 3  # nested blocks
+UPDATE = re.compile(r"( *s\d )(\+=|max=)( .*;)")
 CALL = re.compile(r"( *)(\w+ = )?(f\d+\(.*\);)")
 
 
@@ -23,16 +25,16 @@ def indented(lines):
 
 
 class Function:
-    """Parameters by kind: i an integer, a an array, c an array that is only read, d a count by which a function that
-    calls itself counts down."""
+    """A function. Kinds of parameters: `i` an integer, `a` an array, `c` an array that is only read, `d` the number of further levels of
+    a recursion."""
 
-    def __init__(self, name, gives_value, params):
-        self.name, self.gives_value, self.params = name, gives_value, params
+    def __init__(self, name, returns_value, params):
+        self.name, self.returns_value, self.params = name, returns_value, params
 
 
 class Names:
-    """What is known at a place: integers and arrays, those never to be written, the arrays of cuts and loops around,
-    and for each sync block around what its spawns hold: each name with whether it is taken or only frozen."""
+    """The names in scope: integers and arrays, names that must not be written, the arrays of enclosing cuts and loops, and for
+    each enclosing sync block the names that its spawns hold, with a flag: whether the name is taken or only frozen."""
 
     def __init__(self):
         self.known, self.arrays, self.fixed = [], set(), set()
@@ -96,12 +98,12 @@ class Generator:
         if depth > 2 or kind < 0.35:
             if integers and self.chance(0.7):
                 return self.pick(integers)
-            return self.pick(SMALL if self.chance(0.98) else GREAT)
+            return self.pick(SMALL if self.chance(0.98) else LARGE)
         if kind < 0.6:
             return self.of_array(depth) or self.expr(depth + 1)
         if kind < 0.68:
             return "%s(%s)" % (self.pick("-!"), self.expr(depth + 1))
-        operator = self.pick(USUAL) if self.chance(0.96) else self.pick("/%")
+        operator = self.pick(OPERATORS) if self.chance(0.96) else self.pick("/%")
         return "(%s %s %s)" % (self.expr(depth + 1), operator, self.expr(depth + 1))
 
     def of_array(self, depth):
@@ -117,19 +119,19 @@ class Generator:
     def index(self, depth):
         return self.pick("012") if self.chance(0.98) else self.expr(depth + 1)
 
-    # Statements: each gives its lines, and none where nothing is there that it could be about.
+    # Statements: each method returns its lines, and no line if there is no name that the statement could use.
 
     def statement(self, depth):
-        kinds = ["declare"] * 14 + ["array"] * 6 + ["assign"] * 14 + ["put"] * 12 + ["show"] * 4 + ["reduce"] * 4
+        kinds = ["declare"] * 14 + ["array"] * 6 + ["assign"] * 14 + ["store"] * 12 + ["print"] * 4 + ["reduce"] * 4
         kinds += ["sync"] * 4 + ["call"] * 20
         if depth < DEEPEST:
-            kinds += ["branch"] * 6 + ["turns"] * 6 + ["scope"] * 3 + ["region"] * 4 + ["cut"] * 7 + ["again"] * 6
+            kinds += ["branch"] * 6 + ["while"] * 6 + ["scope"] * 3 + ["region"] * 4 + ["cut"] * 7 + ["recursion"] * 6
         if depth < 2 and self.with_loops and not self.names.loop_arrays:
             kinds += ["loop"] * 6
         return getattr(self, "a_" + self.pick(kinds))(depth)
 
     def block(self, depth):
-        """Some statements; what they declare ends with them, so what is held of it is joined first."""
+        """Returns the lines of some statements. If a spawn holds a name that they declare, a sync ends the block."""
         outside, lines = len(self.names.known), []
         for _ in range(self.random.randint(1, 4)):
             lines += self.statement(depth)
@@ -159,13 +161,13 @@ class Generator:
         written = self.names.written()
         return ["%s = %s;" % (self.pick(written), self.expr())] if written else []
 
-    def a_put(self, depth):
+    def a_store(self, depth):
         if self.names.loop_arrays and self.chance(0.5):
             return ["%s[%s] = %s;" % (self.pick(self.names.loop_arrays), self.names.loop_variable, self.expr())]
         arrays = self.names.written_arrays()
         return ["%s[%s] = %s;" % (self.pick(arrays), self.index(1), self.expr())] if arrays else []
 
-    def a_show(self, depth):
+    def a_print(self, depth):
         return ["print(%s);" % self.expr()]
 
     def a_reduce(self, depth):
@@ -188,8 +190,8 @@ class Generator:
         self.names.held = [one | other for one, other in zip(before, self.names.held)]
         return lines
 
-    def a_turns(self, depth):
-        """A `while` of a few turns; what a turn takes is joined at its end, so that the next one finds it free."""
+    def a_while(self, depth):
+        """Returns a `while` of a few iterations; an iteration ends with a sync if its spawns hold names."""
         count, before = self.new("w"), [set(block) for block in self.names.held]
         self.names.add(count, is_fixed=True)
         body = self.block(depth + 1)
@@ -236,12 +238,12 @@ class Generator:
     def a_call(self, depth):
         return self.called(self.pick(self.functions)) if self.functions else []
 
-    def a_again(self, depth):
+    def a_recursion(self, depth):
         call = self.called(self.itself) if self.itself else []
         return ["if (%s > 0) {" % self.count] + indented(call) + ["}"] if call else []
 
     def called(self, function):
-        """A call or spawn of this function, where there are arrays enough for it."""
+        """Returns a call or spawn of a function, or no line if there are too few arrays for it."""
         given, read, arguments = [], [], []
         for kind in function.params:
             there = self.names.free_arrays() if kind == "c" else self.names.written_arrays()
@@ -256,7 +258,7 @@ class Generator:
             else:
                 arguments.append(self.count + " - 1" if function is self.itself else self.pick("0123"))
         targets = self.names.written()
-        target = self.pick(targets) if function.gives_value and targets and self.chance(0.7) else None
+        target = self.pick(targets) if function.returns_value and targets and self.chance(0.7) else None
         spawns = self.chance(0.6)
         if spawns:
             self.names.held[-1].update((name, True) for name in given + [target] * (target is not None))
@@ -266,8 +268,8 @@ class Generator:
 
     # Items.
 
-    def function(self, name, gives_value, params):
-        function = Function(name, gives_value, params)
+    def function(self, name, returns_value, params):
+        function = Function(name, returns_value, params)
         self.names, self.itself, self.count, heads = Names(), None, None, []
         for kind in params:
             param = self.new("q" if kind in "ac" else "p")
@@ -278,11 +280,11 @@ class Generator:
         body = []
         for _ in range(self.random.randint(6, 12) if name == "main" else self.random.randint(2, 7)):
             body += self.statement(0)
-        if gives_value:
+        if returns_value:
             body.append("return %s;" % self.expr())
         elif self.chance(0.2):
             body.append("return;")
-        self.lines += ["%s %s(%s) {" % ("int" if gives_value else "void", name, ", ".join(heads))]
+        self.lines += ["%s %s(%s) {" % ("int" if returns_value else "void", name, ", ".join(heads))]
         self.lines += indented(body) + ["}"]
         return function
 
@@ -297,8 +299,8 @@ class Generator:
 
 
 def mutant(source, seed):
-    """The source with a sync dropped, a call made a spawn, a reducer told by the other sign, or a statement doubled or
-    exchanged, or a parameter that is no longer const, or is from now on: it may break a rule."""
+    """Returns the source with one change, which may break a rule: a sync removed, a call made a spawn, a reducer updated by the
+    other operator, a statement repeated, two statements exchanged, or `const` added to a parameter or removed from it."""
     lines, chosen = source.splitlines(), random.Random(seed)
     heads = [place for place, line in enumerate(lines) if "[]" in line]
     if "const " in source and chosen.random() < 0.25:
@@ -310,17 +312,17 @@ def mutant(source, seed):
     places = [place for place, line in enumerate(lines) if line.startswith("  ") and line.endswith(";")]
     syncs = [place for place in places if lines[place].strip() == "cilk_sync;"]
     calls = [place for place in places if CALL.fullmatch(lines[place])]
-    told = [place for place in places if TOLD.fullmatch(lines[place])]
+    updates = [place for place in places if UPDATE.fullmatch(lines[place])]
     one, other, kind = chosen.choice(places), chosen.choice(places), chosen.randrange(7)
     if kind < 2 and syncs:
         del lines[chosen.choice(syncs)]
     elif kind < 4 and calls:
         one = chosen.choice(calls)
         lines[one] = CALL.sub(r"\1\2cilk_spawn \3", lines[one])
-    elif kind == 4 and told:
-        one = chosen.choice(told)
-        before, sign, behind = TOLD.fullmatch(lines[one]).groups()
-        lines[one] = before + ("+=" if sign == "max=" else "max=") + behind
+    elif kind == 4 and updates:
+        one = chosen.choice(updates)
+        before, sign, after = UPDATE.fullmatch(lines[one]).groups()
+        lines[one] = before + ("+=" if sign == "max=" else "max=") + after
     elif kind == 5:
         lines.insert(one, lines[one])
     else:

@@ -1,11 +1,11 @@
 #!/usr/bin/env python3
-"""Another implementation of the profile: meaning, costs, strand tree and reports, for expected values.
+"""The independent implementation of the language: meaning, costs, strand tree and reports, for expected values.
 
     ref.py run|scale|sites FILE [ARGS..] [--limit N] [--burden B] [--edges spawn|both]
     ref.py gain FILE [ARGS..] [--limit N] [--burden B] [--edges spawn|both] [--top N]
     ref.py greedy P FILE [ARGS..] [--limit N]
 
-It takes programs that `cilkwork check` accepts, and writes and answers what `cilkwork` should.
+The program must be one that `cilkwork check` accepts. The script prints what `cilkwork` must print, and ends with its status.
 """
 import os
 import sys
@@ -17,7 +17,7 @@ from greedy import greedy_length
 from trees import Block, Burden, Mark, Rows, Tree, burdened_span, freed
 
 LEAST, GREATEST = -2**63, 2**63 - 1
-OVERFLOW, ZERO_DIVISOR, OUT_OF_BOUNDS, BAD_LENGTH, TOO_MANY_TURNS, TOO_DEEP = range(1, 7)
+OVERFLOW, ZERO_DIVISOR, OUT_OF_BOUNDS, BAD_LENGTH, TOO_MANY_ITERATIONS, TOO_DEEP = range(1, 7)
 
 
 class Trap(Exception):
@@ -35,7 +35,7 @@ class Returned(Exception):
 
 
 class Slice:
-    """The elements of an array from one place on, so many of them."""
+    """A part of an array: `length` elements from index `start` on."""
 
     def __init__(self, elements, start, length):
         self.elements, self.start, self.length = elements, start, length
@@ -47,11 +47,11 @@ class Slice:
 
 
 class Run:
-    """One run of a program by its serial elision, within a limit of instructions."""
+    """A run of the serial elision of a program, within a limit of instructions."""
 
     def __init__(self, program, arguments, limit):
         self.program, self.limit = program, limit
-        self.cost, self.told = 0, 0  # instructions so far, and those of them that stand in a block
+        self.cost, self.recorded = 0, 0  # instructions so far, and those that a block contains
         self.lines = []
         self.totals = {name: 0 if kind == "sum" else None for name, kind in program.kinds.items()}
         self.block, self.shifted, self.counts = Block(), frozenset(), {}
@@ -66,26 +66,26 @@ class Run:
         except OverLimit:
             self.is_over = True
 
-    # The strand tree. A part that runs apart has a block of its own.
+    # The strand tree. `apart` collects the strands of a part in a block of its own.
 
     def tick(self, count=1):
         self.cost += count
         if self.cost > self.limit:
             raise OverLimit()
 
-    def tell(self):
-        self.block.add(self.cost - self.told)
-        self.told = self.cost
+    def record(self):
+        self.block.add(self.cost - self.recorded)
+        self.recorded = self.cost
 
     def join(self):
-        self.tell()
+        self.record()
         self.block.join()
 
     def apart(self, part):
-        self.tell()
+        self.record()
         outer, self.block = self.block, Block()
         value = part()
-        self.tell()
+        self.record()
         tree, self.block = self.block.tree(), outer
         return value, tree
 
@@ -135,7 +135,7 @@ class Run:
         return self.binary(e[1], left, right, line)
 
     def index(self, name, e, frame, line):
-        """In a loop over an array, the index is taken from the start of its slice: two instructions more."""
+        """Evaluates an index; in a loop over the array it is relative to the start of the slice, which costs two instructions more."""
         index = self.evaluate(e, frame, line)
         if name in self.shifted:
             self.tick(2)
@@ -278,7 +278,7 @@ class Run:
         self.shifted = shifted
         return value
 
-    # Loops, by halves.
+    # Loops, by divide and conquer.
 
     def do_loop(self, line, frame, depth, name, first, end, grain, over, body):
         low, high = self.evaluate(first, frame, line), self.evaluate(end, frame, line)
@@ -286,33 +286,33 @@ class Run:
         self.tick(captured + 1)
         if high > low:
             if high - low > 2147483647:
-                raise Trap(TOO_MANY_TURNS, line)
+                raise Trap(TOO_MANY_ITERATIONS, line)
             if any(low < 0 or high > frame[array].length for array in over):
                 raise Trap(OUT_OF_BOUNDS, line)
         loop = Loop(name, grain, captured, over, body)
-        self.in_series(lambda: self.halves(loop, low, max(low, high), frame, depth))
+        self.in_series(lambda: self.divide(loop, low, max(low, high), frame, depth))
 
     def captured(self, name, body):
         if id(body) not in self.counts:
             self.counts[id(body)] = len(captured_by(name, body))
         return self.counts[id(body)]
 
-    def halves(self, loop, low, high, frame, depth):
+    def divide(self, loop, low, high, frame, depth):
         if high - low <= loop.grain:
             self.tick(8)
             for value in range(low, high):
-                self.turn(loop, value, frame, depth)
+                self.iteration(loop, value, frame, depth)
             self.tick(6)
             return
         middle = low + (high - low) // 2
         self.tick(17 + 4 * loop.arrays + loop.captured)
-        self.spawned(lambda: self.halves(loop, low, middle, frame, depth))
+        self.spawned(lambda: self.divide(loop, low, middle, frame, depth))
         self.tick(3 + loop.captured)
-        self.in_series(lambda: self.halves(loop, middle, high, frame, depth))
+        self.in_series(lambda: self.divide(loop, middle, high, frame, depth))
         self.join()
         self.tick(loop.arrays + 1)
 
-    def turn(self, loop, value, frame, depth):
+    def iteration(self, loop, value, frame, depth):
         shifted, self.shifted = self.shifted, loop.over
         frame[loop.name] = value
         self.tick(5)
@@ -329,7 +329,7 @@ class Loop:
 
 
 def captured_by(name, body):
-    """The different integers from outside that the body of a loop names."""
+    """Returns the integers from outside that the body of a loop names."""
     named, own = set(), {name}
 
     def look(e):
@@ -359,14 +359,14 @@ def captured_by(name, body):
 
 
 def parts_of(kind, rest):
-    """The expressions of a statement."""
+    """Returns the expressions of a statement."""
     return {"declare": rest[1:], "assign": rest[1:], "array": rest[1:], "put": rest[1:],
             "reduce": rest[2:], "print": rest, "return": rest, "if": rest[:1], "while": rest[:1], "cut": rest[1:2], "loop": rest[1:3],
             "call": rest[-1] if kind == "call" else []}.get(kind, [])
 
 
 def blocks_of(kind, rest):
-    """The blocks of a statement."""
+    """Returns the blocks of a statement."""
     blocks = {"if": rest[1:], "while": rest[1:], "scope": rest, "region": rest[1:], "cut": rest[-1:], "loop": rest[-1:]}
     return [block for block in blocks.get(kind, []) if block is not None]
 
@@ -415,7 +415,7 @@ def sites_text(run):
 
 
 def gain_text(run, burden, top):
-    """The functions with the greatest own spans, at most so many, with the spans if all their sites were free."""
+    """Returns the report of the `top` functions with the largest own spans, with the spans if all their sites were free."""
     def line(name, counts, tree):
         fields = (name, *counts, tree.span, parallelism(run.tree.work, tree.span), burdened_span(burden, tree))
         return "%s,%d,%d,%d,%d,%d,%s,%d\n" % fields
@@ -427,10 +427,10 @@ def gain_text(run, burden, top):
         own = [row for callee, row in zip(callees, rows) if callee == name]
         sums = [sum(getattr(row, field) for row in own) for field in ("calls", "own_work", "own_span")]
         counted.append((name, [function.line] + sums))
-    told = sorted((it for it in counted if it[1][3] > 0), key=lambda it: -it[1][3])[:top]
+    largest = sorted((it for it in counted if it[1][3] > 0), key=lambda it: -it[1][3])[:top]
     text = "function,line,calls,own_work,own_span,span_if_free,parallelism_if_free,burdened_span_if_free\n"
     text += line("", [0, 0, run.tree.work, run.tree.span], run.tree)
-    for name, counts in told:
+    for name, counts in largest:
         frees = {number for number, callee in enumerate(callees) if callee == name}
         text += line(name, counts, freed(run.tree, frees))
     return text
@@ -442,7 +442,7 @@ def greedy_text(run, processors):
 
 
 def text_of(mode, run, burden, processors, top):
-    """What is written of a run that ended."""
+    """Returns the report of a run that finished."""
     if mode == "run":
         return run_text(run)
     if mode == "scale":
@@ -453,7 +453,7 @@ def text_of(mode, run, burden, processors, top):
 
 
 def report(mode, run, burden, processors=1, top=10):
-    """The exit status, standard output and standard error of this run. That its strands are too many is not told."""
+    """Returns the exit status, standard output and standard error of a run. It does not check the maximum of strands."""
     if run.is_over:
         return 4, "", "over limit\n"
     if run.trap:
@@ -487,7 +487,7 @@ def main():
 
 
 def deep(job):
-    """Runs this job with a stack for the deepest programs, and gives its value."""
+    """Runs a function with a stack for the deepest programs, and returns its value."""
     sys.setrecursionlimit(10000000)
     threading.stack_size(512 * 1024 * 1024)
     values = []

@@ -1,9 +1,10 @@
 #!/usr/bin/env python3
-"""Whether a program keeps the rules of names and types, and of ownership: yes, or the least line that breaks one.
+"""Checks whether programs keep the rules of names, types and ownership.
 
     rules.py FILE..
 
-It tests no limit, and no head of a loop with different names.
+It prints `ok` for a program, or the number of the fault (3 for names and types, 4 for ownership), the first line that breaks a
+rule, and the reason. It checks no limit, and not that the three names in the head of a loop are the same.
 """
 import sys
 
@@ -11,18 +12,18 @@ from syntax import Program
 
 
 class Faults:
-    """The lines that break a rule, each with why, and the line that is looked at."""
+    """The lines that break a rule, each with its reason, and the current line."""
 
     def __init__(self):
         self.found, self.line = [], 1
 
-    def want(self, holds, why):
+    def require(self, holds, reason):
         if not holds:
-            self.found.append((self.line, why))
+            self.found.append((self.line, reason))
 
 
 def names_in(e):
-    """The names that an expression reads, each with whether it is read as an array."""
+    """Returns the names that an expression reads, each with a flag: whether it is read as an array."""
     kind = e[0]
     if kind == "number":
         return []
@@ -39,28 +40,28 @@ class Types(Faults):
     def __init__(self, program):
         super().__init__()
         self.program, self.globals = program, set()
-        self.want("main" in program.functions, "no main")
+        self.require("main" in program.functions, "no main")
         for name, self.line in program.items:
-            self.want(name not in self.globals, name + " is known")
+            self.require(name not in self.globals, name + " is declared twice")
             self.globals.add(name)
         for function in program.written:
             self.function(function)
 
     def function(self, function):
-        self.known, self.line, self.gives_value = {}, function.line, function.gives_value
+        self.known, self.line, self.returns_value = {}, function.line, function.returns_value
         for name, kind in function.params:
             self.declare(name, kind)
-        self.want(not self.gives_value or surely_returns(function.body), "may not return")
+        self.require(not self.returns_value or surely_returns(function.body), "may end without a return")
         arrays = any(kind != "int" for _, kind in function.params)
-        self.want(function.name != "main" or self.gives_value and not arrays, "another main")
+        self.require(function.name != "main" or self.returns_value and not arrays, "main is not an int function of integers")
         self.block(function.body, True)
 
     def declare(self, name, kind):
-        self.want(name not in self.known and name not in self.globals, name + " is known")
+        self.require(name not in self.known and name not in self.globals, name + " is declared twice")
         self.known[name] = kind
 
     def use(self, name, *kinds):
-        self.want(self.known.get(name) in kinds, name + " is not known so")
+        self.require(self.known.get(name) in kinds, name + " is not declared, or has another kind")
 
     def expr(self, e):
         for name, is_array in names_in(e):
@@ -72,7 +73,7 @@ class Types(Faults):
             self.declare(name, kind)
         for place, (line, kind, *rest) in enumerate(body):
             self.line = line
-            self.want(place + 1 == len(body) or not surely_returns([body[place]]), "what follows is never reached")
+            self.require(place + 1 == len(body) or not surely_returns([body[place]]), "the next statement is never reached")
             getattr(self, "of_" + kind)(may_return, *rest)
         self.known = outside
 
@@ -94,7 +95,7 @@ class Types(Faults):
         self.expr(e)
 
     def of_reduce(self, may_return, kind, name, e):
-        self.want(self.program.kinds.get(name) == kind, "no such reducer")
+        self.require(self.program.kinds.get(name) == kind, "no such reducer")
         self.expr(e)
 
     def of_print(self, may_return, e):
@@ -104,7 +105,7 @@ class Types(Faults):
         pass
 
     def of_return(self, may_return, e):
-        self.want(may_return and (e is not None) == self.gives_value, "no place to return so")
+        self.require(may_return and (e is not None) == self.returns_value, "a return inside a sync block, or with the wrong value")
         if e is not None:
             self.expr(e)
 
@@ -133,24 +134,24 @@ class Types(Faults):
         self.expr(end)
         for array in over:
             self.use(array, "array")
-        self.want(1 <= grain <= 1000000, "no such grain")
+        self.require(1 <= grain <= 1000000, "the grain is out of range")
         self.block(body, False, [(name, "int")])
 
     def of_call(self, may_return, spawns, site, target, callee, arguments):
         function = self.program.functions.get(callee)
-        self.want(function and callee != "main", "no such function")
+        self.require(function and callee != "main", "no such function")
         if function is None:
             return
-        self.want(len(arguments) == len(function.params), "another count of arguments")
+        self.require(len(arguments) == len(function.params), "wrong number of arguments")
         for (_, kind), e in zip(function.params, arguments):
             if kind == "int":
                 self.expr(e)
             else:
-                wanted = ("array", "const") if kind == "const" else ("array",)
-                self.want(e[0] == "name" and self.known.get(e[1]) in wanted, "no such array")
+                kinds = ("array", "const") if kind == "const" else ("array",)
+                self.require(e[0] == "name" and self.known.get(e[1]) in kinds, "no such array")
         if target is not None:
             self.use(target, "int")
-            self.want(function.gives_value, "a call that gives nothing")
+            self.require(function.returns_value, "a void call has no result")
 
 
 def surely_returns(body):
@@ -161,8 +162,8 @@ def surely_returns(body):
 
 
 class Ownership(Faults):
-    """The rules of ownership. What is held is a set of names, each with the depth of the sync block whose spawn holds it
-    and whether it is taken or only frozen."""
+    """The rules of ownership. `taken` is a set of names, each with the depth of the sync block whose spawn holds it, and a flag:
+    whether the name is taken or only frozen."""
 
     def __init__(self, program):
         super().__init__()
@@ -173,20 +174,20 @@ class Ownership(Faults):
 
     def free(self, taken, *names):
         for name in names:
-            self.want(all(name != other for other, _, takes in taken if takes), name + " is taken")
+            self.require(all(name != other for other, _, takes in taken if takes), name + " is taken")
 
     def loose(self, taken, *names):
         for name in names:
-            self.want(all(name != other for other, _, _ in taken), name + " is taken or frozen")
+            self.require(all(name != other for other, _, _ in taken), name + " is taken or frozen")
 
     def expr(self, taken, e):
         self.free(taken, *(name for name, _ in names_in(e)))
         self.in_loop(e)
 
     def in_loop(self, e):
-        """In a loop over an array only its own element is read; no other array from outside is named."""
+        """Requires that a loop over an array reads only its own element, and names no other array from outside."""
         if e[0] == "element" and e[1] in self.loop_arrays:
-            self.want(e[2] == ("name", self.variable), "another element of a loop's array")
+            self.require(e[2] == ("name", self.variable), "another element of the loop's array")
         elif e[0] in ("element", "length"):
             self.inner(e[1])
         for part in e[1:]:
@@ -195,13 +196,13 @@ class Ownership(Faults):
 
     def inner(self, *names):
         for name in names:
-            self.want(name not in self.outer | self.loop_arrays, name + " is from outside of a loop")
+            self.require(name not in self.outer | self.loop_arrays, name + " is declared outside the loop")
 
     def joined(self, taken):
         return frozenset(pair for pair in taken if pair[1] != self.depth)
 
     def block(self, body, taken, joins=False):
-        """What is taken after a block; a sync block joins its own spawns before its names end."""
+        """Returns what is taken after a block; a sync block joins its own spawns before its names end."""
         self.depth += joins
         own = {}
         for line, kind, *rest in body:
@@ -252,8 +253,8 @@ class Ownership(Faults):
 
     def of_if(self, taken, e, then, other):
         self.expr(taken, e)
-        ways = [(body, self.block(body, taken)) for body in (then, other or [])]
-        return frozenset().union(*(after for body, after in ways if not surely_returns(body)))
+        branches = [(body, self.block(body, taken)) for body in (then, other or [])]
+        return frozenset().union(*(after for body, after in branches if not surely_returns(body)))
 
     def of_while(self, taken, e, body):
         line = self.line
@@ -283,7 +284,7 @@ class Ownership(Faults):
         self.inner(*(array for array, is_array in names_in(first) + names_in(end) if is_array))
         self.loose(taken, *over)
         self.inner(*over)
-        self.want(len(set(over)) == len(over), "one array twice")
+        self.require(len(set(over)) == len(over), "the same array twice")
         outside = self.outer, self.loop_arrays, self.variable
         self.outer = self.outer | self.loop_arrays | self.known_outside(body) - set(over)
         self.loop_arrays, self.variable = set(over), name
@@ -292,20 +293,20 @@ class Ownership(Faults):
         return taken
 
     def known_outside(self, body):
-        """The names of a loop's body that it does not declare itself, and its variable, which it may only read."""
+        """Returns the names that a loop's body uses and does not declare."""
         named, own = names_of(body)
         return named - own
 
     def of_call(self, taken, spawns, site, target, callee, arguments):
         params = self.program.functions[callee].params
-        given, read = ([e[1] for (_, kind), e in zip(params, arguments) if kind == wanted] for wanted in ("array", "const"))
+        given, read = ([e[1] for (_, kind), e in zip(params, arguments) if kind == passed] for passed in ("array", "const"))
         for (_, kind), e in zip(params, arguments):
             if kind == "int":
                 self.expr(taken, e)
         self.loose(taken, *given)
         self.free(taken, *read)
         self.inner(*given, *read)
-        self.want(len(set(given)) == len(given) and not set(given) & set(read), "one array twice")
+        self.require(len(set(given)) == len(given) and not set(given) & set(read), "the same array twice")
         if target is not None:
             self.loose(taken, target)
             self.inner(target)
@@ -316,7 +317,7 @@ class Ownership(Faults):
 
 
 def names_of(body):
-    """All names in a body, and those that it declares."""
+    """Returns all names in a body, and those that it declares."""
     named, own = set(), set()
     for _, kind, *rest in body:
         if kind in ("declare", "array"):
@@ -341,7 +342,7 @@ def names_of(body):
 
 
 def broken(program):
-    """The number of the refusal of a program that breaks a rule, its line, and why; or None."""
+    """Returns the number of the fault of a program that breaks a rule, its line and the reason, or None."""
     for number, rules in ((3, Types), (4, Ownership)):
         found = rules(program).found
         if found:

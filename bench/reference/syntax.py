@@ -1,4 +1,4 @@
-"""Reads the source of a program that `cilkwork check` accepts. It tests no rule, and fails somehow on other sources."""
+"""Parses a program that `cilkwork check` accepts. It checks no rule; on another source it raises some exception."""
 import re
 
 SPACE = re.compile(r"(?:\s|//[^\n]*)*")
@@ -7,8 +7,8 @@ LEVELS = [["==", "!="], ["<", "<=", ">", ">="], ["+", "-"], ["*", "/", "%"]]
 
 
 class Function:
-    def __init__(self, gives_value, line, name, params, body):
-        self.gives_value, self.line, self.name, self.params, self.body = gives_value, line, name, params, body
+    def __init__(self, returns_value, line, name, params, body):
+        self.returns_value, self.line, self.name, self.params, self.body = returns_value, line, name, params, body
 
 
 class Site:
@@ -19,8 +19,8 @@ class Site:
 
 
 class Program:
-    """Items with their lines, reducers with how each first of a name reduces, functions as written and by name, sites,
-    tags by their first place."""
+    """A parsed program: items with their lines, reducers with the kind of the first one of each name, functions in source order and
+    by name, sites, and tags in the order of their first use."""
 
     def __init__(self, text):
         self.items, self.reducers, self.kinds, self.written = [], [], {}, []
@@ -29,11 +29,11 @@ class Program:
         while reader.peek():
             line = reader.lines[reader.at]
             if reader.take("reducer"):
-                kind = "max" if reader.take("max") else reader.want("sum")
+                kind = "max" if reader.take("max") else reader.expect("sum")
                 self.reducers.append(reader.next())
                 self.kinds.setdefault(self.reducers[-1], kind)
                 self.items.append((self.reducers[-1], line))
-                reader.want(";")
+                reader.expect(";")
             else:
                 function = reader.function()
                 self.written.append(function)
@@ -67,13 +67,13 @@ class Reader:
         self.at += found
         return found
 
-    def want(self, token):
+    def expect(self, token):
         if not self.take(token):
-            raise SyntaxError("%s wanted in line %d" % (token, self.lines[self.at]))
+            raise SyntaxError("%s expected in line %d" % (token, self.lines[self.at]))
         return token
 
     def list(self, one):
-        self.want("(")
+        self.expect("(")
         items = []
         while not self.take(")"):
             items.append(one())
@@ -81,23 +81,23 @@ class Reader:
         return items
 
     def function(self):
-        gives_value, line = self.next() == "int", self.lines[self.at]
-        return Function(gives_value, line, self.next(), self.list(self.param), self.block())
+        returns_value, line = self.next() == "int", self.lines[self.at]
+        return Function(returns_value, line, self.next(), self.list(self.param), self.block())
 
     def param(self):
-        """A parameter's name and its kind: an integer, an array, or an array that is only read."""
+        """Returns a parameter's name and its kind: `int`, `array` or `const`, an array that is only read."""
         is_const = self.take("const")
-        self.want("int")
+        self.expect("int")
         name = self.next()
         if not is_const and not self.take("["):
             return name, "int"
         if is_const:
-            self.want("[")
-        self.want("]")
+            self.expect("[")
+        self.expect("]")
         return name, "const" if is_const else "array"
 
     def block(self):
-        self.want("{")
+        self.expect("{")
         body = []
         while not self.take("}"):
             body.append((self.lines[self.at],) + self.statement())
@@ -119,22 +119,22 @@ class Reader:
         return self.named()
 
     def ended(self, statement):
-        self.want(";")
+        self.expect(";")
         return statement
 
     def a_int(self):
         name = self.next()
         if self.take("["):
             size = self.expr()
-            self.want("]")
+            self.expect("]")
             return self.ended(("array", name, size))
-        self.want("=")
+        self.expect("=")
         return self.ended(("declare", name, self.expr()))
 
     def test(self):
-        self.want("(")
+        self.expect("(")
         test = self.expr()
-        self.want(")")
+        self.expect(")")
         return test
 
     def a_if(self):
@@ -146,11 +146,11 @@ class Reader:
 
     def a_cut(self):
         name = self.next()
-        self.want("at")
+        self.expect("at")
         place = self.expr()
-        self.want("as")
+        self.expect("as")
         left = self.next()
-        self.want(",")
+        self.expect(",")
         return ("cut", name, place, left, self.next(), self.block())
 
     def a_region(self):
@@ -166,19 +166,19 @@ class Reader:
         return self.ended(("return", None if self.peek() == ";" else self.expr()))
 
     def loop(self):
-        self.want("(")
-        self.want("int")
+        self.expect("(")
+        self.expect("int")
         name = self.next()
-        self.want("=")
+        self.expect("=")
         first = self.expr()
-        self.want(";")
+        self.expect(";")
         self.next()
-        self.want("<")
+        self.expect("<")
         end = self.expr()
-        self.want(";")
+        self.expect(";")
         self.next()
-        self.want("++")
-        self.want(")")
+        self.expect("++")
+        self.expect(")")
         grain = int(self.next()) if self.take("grain") else 64
         over = self.list(self.next) if self.take("over") else []
         return ("loop", name, first, end, grain, over, self.block())
@@ -195,14 +195,14 @@ class Reader:
         if self.take("+="):
             return self.ended(("reduce", "sum", name, self.expr()))
         if self.take("max"):
-            self.want("=")
+            self.expect("=")
             return self.ended(("reduce", "max", name, self.expr()))
         if self.take("["):
             index = self.expr()
-            self.want("]")
-            self.want("=")
+            self.expect("]")
+            self.expect("=")
             return self.ended(("put", name, index, self.expr()))
-        self.want("=")
+        self.expect("=")
         is_call = self.peek()[0].isidentifier() and self.peek() != "len" and self.peek(1) == "("
         if is_call or self.peek() == "cilk_spawn":
             return self.call(name)
@@ -224,18 +224,18 @@ class Reader:
             return ("not", self.unary())
         if self.take("("):
             inner = self.expr()
-            self.want(")")
+            self.expect(")")
             return inner
         token = self.next()
         if token.isdigit():
             return ("number", int(token))
         if token == "len":
-            self.want("(")
+            self.expect("(")
             name = self.next()
-            self.want(")")
+            self.expect(")")
             return ("length", name)
         if self.take("["):
             index = self.expr()
-            self.want("]")
+            self.expect("]")
             return ("element", token, index)
         return ("name", token)

@@ -1,9 +1,9 @@
-"""Strand trees in normal form, and what is read off them: work, span, burdened span, rows of sites and of tags, and the
-tree in which what some sites do is free.
+"""Strand trees in normal form, and what is computed from them: work, span, burdened span, rows of sites and of tags, and the
+tree in which some sites are free.
 
-A tree is a list of parts, one after another: a number is a strand of so many instructions, a `Fork` a child beside the
-rest of its block, a `Mark` an invocation of a site or an execution of a tag. No two strands are neighbours, and none is
-empty.
+A tree is a sequence of parts: a number is a strand with this number of instructions, a `Fork` is a child in parallel with the
+continuation of its block, and a `Mark` is an invocation of a site or an execution of a tag. No two strands are neighbours, and
+no strand is empty.
 """
 
 
@@ -15,6 +15,8 @@ class Tree:
 
 
 class Fork:
+    """A spawned child in parallel with the rest of its block, the continuation."""
+
     def __init__(self, child, rest):
         self.child, self.rest = child, rest
         self.work = child.work + rest.work
@@ -22,7 +24,7 @@ class Fork:
 
 
 class Mark:
-    """Of a site where `key` is a number, of a tag where it is a text."""
+    """An invocation of a site, if `key` is its number, or an execution of a tag, if `key` is a text."""
 
     def __init__(self, key, inner):
         self.key, self.inner = key, inner
@@ -30,7 +32,7 @@ class Mark:
 
 
 class Block:
-    """The run of a sync block so far. What comes after a spawn is gathered apart until the block joins."""
+    """The parts of a sync block so far. The parts after a spawn are collected separately until the block joins."""
 
     def __init__(self):
         self.parts, self.waiting = [], []
@@ -62,7 +64,7 @@ class Block:
 
 
 class Burden:
-    """What a path is charged at a fork: where it goes by the rest, and with both edges where it goes by the child, too."""
+    """The charge of a path at a fork: on the edge to the continuation, and with `both` also on the edge to the child."""
 
     def __init__(self, charge, edges="spawn"):
         self.charge, self.edges = charge, edges
@@ -70,21 +72,21 @@ class Burden:
 
 
 def burdened_span(burden, tree):
-    """The weight of a heaviest path, with what it is charged at each fork."""
+    """Returns the weight of a heaviest path, with its charge at each fork."""
     total = 0
     for part in tree.parts:
         if isinstance(part, int):
             total += part
         elif isinstance(part, Fork):
-            by_child = burden.at_child + burdened_span(burden, part.child)
-            total += max(by_child, burden.at_rest + burdened_span(burden, part.rest))
+            through_child = burden.at_child + burdened_span(burden, part.child)
+            total += max(through_child, burden.at_rest + burdened_span(burden, part.rest))
         else:
             total += burdened_span(burden, part.inner)
     return total
 
 
 def freed(tree, frees, site=0):
-    """The tree in which the strands of these sites weigh nothing; those outside of each invocation are of this site."""
+    """Returns the tree in which the strands of the sites `frees` are empty; strands outside of an invocation belong to `site`."""
     block = Block()
     for part in tree.parts:
         if isinstance(part, int):
@@ -108,7 +110,7 @@ class RegionRow:
 
 
 class Rows:
-    """The rows of `count` sites and of these tags in a tree."""
+    """The rows of `count` sites and of some tags in a tree."""
 
     def __init__(self, burden, tree, count, tags):
         self.burden, self.around = burden, set()

@@ -1,10 +1,10 @@
 #!/usr/bin/env python3
-"""Writes the random programs of the walks of worlds, or compares them with what stands there.
+"""Writes the random programs for the walks of worlds, or compares them with the file there.
 
     walks.py [--check]
 
-Of the programs of `gen.py`, by seeds from 1 on, those are taken that make some spawns and are short: some that end, some
-that trap. Each stands in crates/cw_world_tests/src/generated.rt with its arguments and its cost.
+It takes the first programs of `gen.py`, by seeds from 1 on, that are short and spawn several times: some that finish, some
+that trap. It writes each into crates/cw_world_tests/src/generated.rt with its arguments and its cost.
 """
 import collections
 import os
@@ -17,17 +17,17 @@ from ref import Program, Run
 
 FILE = os.path.join(os.path.dirname(os.path.abspath(__file__)), "../../crates/cw_world_tests/src/generated.rt")
 WIDE, LONGEST, LEAST_SPAWNS = 2000, 1200, 3
-WANTED = {"ended": 10, "trapped": 4}
+COUNTS = {"ended": 10, "trapped": 4}
 HEAD = '''//! Random programs, written by `bench/reference/walks.py`.
 
-/// A random program with its arguments, and what its run costs: up to its end or its trap.
+/// A random program with its arguments, and the cost of its run up to its end or trap.
 pub struct Generated<'a> {
     pub source: &'a [u8],
     pub args: &'a [i64],
     pub cost: u64,
 }
 
-/// Programs that end and programs that trap, each with some spawns.
+/// Programs that finish and programs that trap, each with several spawns.
 pub const GENERATED: [Generated<'static>; %d] = [
 '''
 
@@ -47,27 +47,28 @@ class Counted(Run):
 
 
 def entry(source, arguments, cost):
-    """A program as one entry of the table."""
+    """Returns a program as an entry of the table."""
     return '    Generated {\n        source: b"\n%s",\n        args: &%s,\n        cost: %d,\n    },\n' % (source, arguments, cost)
 
 
 def table():
-    """The whole file."""
+    """Returns the text of the file."""
     entries, taken, seed = [], collections.Counter(), 0
-    while taken != WANTED:
+    while taken != COUNTS:
         seed += 1
         source = Generator(seed, True).program()
         arguments = arguments_of(source, seed)
         run = Counted(Program(source), arguments, WIDE)
         kind = "trapped" if run.trap else "ended"
         fits = not run.is_over and run.spawns >= LEAST_SPAWNS and len(source) <= LONGEST
-        if fits and taken[kind] < WANTED[kind]:
+        if fits and taken[kind] < COUNTS[kind]:
             taken[kind] += 1
             entries.append(entry(source, arguments, run.cost))
     return HEAD % len(entries) + "".join(entries) + "];\n"
 
 
 def main():
+    """Writes or compares the file, and returns the exit status."""
     text = table()
     if "--check" not in sys.argv:
         with open(FILE, "w") as file:

@@ -1,13 +1,13 @@
 //! Random programs, written by `bench/reference/walks.py`.
 
-/// A random program with its arguments, and what its run costs: up to its end or its trap.
+/// A random program with its arguments, and the cost of its run up to its end or trap.
 pub struct Generated<'a> {
     pub source: &'a [u8],
     pub args: &'a [i64],
     pub cost: u64,
 }
 
-/// Programs that end and programs that trap, each with some spawns.
+/// Programs that finish and programs that trap, each with several spawns.
 pub const GENERATED: [Generated<'static>; 14] = [
     Generated {
         source: b"

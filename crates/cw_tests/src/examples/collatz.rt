@@ -1,14 +1,14 @@
-//! The program examples/collatz.cilk, and the files beside it.
+//! The program examples/collatz.cilk and its reports.
 
 use crate::examples::{Example, holds};
 use std::test::Fail;
 
 const EXAMPLE: Example = Example {
     words: "collatz.cilk 5",
-    source: "// For each number from 1 to n, the steps that halving and tripling take to reach 1; prints the steps of each
-// number, in the order of the numbers, whatever runs beside what.
+    source: "// Computes, for each number from 1 to n, the number of Collatz steps to 1 (halve, or triple and add 1), and prints them in
+// the order of the numbers, also when the spawned calls run in another order.
 // cilkwork run collatz.cilk 5
-// 1: 0 steps; 2: 1; 3, 10, 5, 16, 8, 4, 2, 1: 7; 4: 2; 5, 16, 8, 4, 2, 1: 5.
+// By hand: 1: 0 steps; 2: 1; 3, 10, 5, 16, 8, 4, 2, 1: 7; 4: 2; 5, 16, 8, 4, 2, 1: 5.
 
 void collatz(int n) {
   int count = 0;
@@ -58,6 +58,6 @@ main,19,1,64,33,151,2.728,75000
 };
 
 #[test]
-fn reports_as_beside_it(rt: HostRuntime) -> Result<(), Fail> {
+fn reports_as_expected(rt: HostRuntime) -> Result<(), Fail> {
     holds(rt, &EXAMPLE)
 }

@@ -1,16 +1,16 @@
-//! The program examples/dot.cilk, and the files beside it.
+//! The program examples/dot.cilk and its reports.
 
 use crate::examples::{Example, holds};
 use std::test::Fail;
 
 const EXAMPLE: Example = Example {
     words: "dot.cilk 2000",
-    source: "// Two sums of products: of n numbers with themselves, and with the same numbers in reverse. An array that is only read is
-// not cut: each half is a range of its numbers, and both halves read the whole. One array stands for both arguments, and
-// a spawned call reads it beside the rest of main.
+    source: "// Computes two sums of products: n numbers with themselves, and n numbers with their reverse. Arrays that are only read need
+// no cut: each half is a range of indices, and both halves read the whole arrays. One array is passed for both parameters,
+// and a spawned call reads it in parallel with the continuation of main.
 // cilkwork run dot.cilk 2000
-// The numbers are those from 1 to n, so the first sum is n(n + 1)(2n + 1) / 6, for 2000 that is 2668667000, and the second
-// one, of i(n + 1 - i), is n(n + 1)(n + 2) / 6, 1335334000. For n = 3 they are 1 + 4 + 9 = 14 and 3 + 4 + 3 = 10.
+// The numbers are 1 to n, so the first sum is n(n + 1)(2n + 1) / 6, which is 2668667000 for n = 2000. The second sum, of
+// i(n + 1 - i), is n(n + 1)(n + 2) / 6, which is 1335334000. For n = 3 they are 1 + 4 + 9 = 14 and 3 + 4 + 3 = 10.
 
 int dot(const int a[], const int b[], int from, int to) {
   int total = 0;
@@ -72,6 +72,6 @@ dot,8,30,68690,4359,6388,18.637,111388
 };
 
 #[test]
-fn reports_as_beside_it(rt: HostRuntime) -> Result<(), Fail> {
+fn reports_as_expected(rt: HostRuntime) -> Result<(), Fail> {
     holds(rt, &EXAMPLE)
 }

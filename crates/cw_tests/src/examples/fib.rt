@@ -1,14 +1,14 @@
-//! The program examples/fib.cilk, and the files beside it.
+//! The program examples/fib.cilk and its reports.
 
 use crate::examples::{Example, holds};
 use std::test::Fail;
 
 const EXAMPLE: Example = Example {
     words: "fib.cilk 20",
-    source: "// The n-th Fibonacci number by recursion, where each call spawns one of its two calls, however little there is to do.
-// fib_cutoff.cilk spawns no small ones.
+    source: "// Computes the n-th Fibonacci number by recursion. Each call spawns one of its two calls, however small it is;
+// fib_cutoff.cilk does not spawn small calls.
 // cilkwork run fib.cilk 20
-// With 0 and 1 as the first two, the 20th after 0 is 6765.
+// The sequence 0, 1, 1, 2, 3, 5, .. has 6765 at index 20.
 
 int fib(int n) {
   if (n < 2) {
@@ -50,6 +50,6 @@ main,18,1,6,6,333,887.468,150216
 };
 
 #[test]
-fn reports_as_beside_it(rt: HostRuntime) -> Result<(), Fail> {
+fn reports_as_expected(rt: HostRuntime) -> Result<(), Fail> {
     holds(rt, &EXAMPLE)
 }

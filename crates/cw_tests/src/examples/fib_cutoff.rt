@@ -1,13 +1,13 @@
-//! The program examples/fib_cutoff.cilk, and the files beside it.
+//! The program examples/fib_cutoff.cilk and its reports.
 
 use crate::examples::{Example, holds};
 use std::test::Fail;
 
 const EXAMPLE: Example = Example {
     words: "fib_cutoff.cilk 20",
-    source: "// The n-th Fibonacci number as in fib.cilk, with a cut-off: below 14 a call goes on without spawns.
+    source: "// Computes the n-th Fibonacci number like fib.cilk, with a cut-off: a call with n < 14 does not spawn.
 // cilkwork run fib_cutoff.cilk 20
-// With 0 and 1 as the first two, the 20th after 0 is 6765.
+// The sequence 0, 1, 1, 2, 3, 5, .. has 6765 at index 20.
 
 int serial(int n) {
   if (n < 2) {
@@ -65,6 +65,6 @@ main,29,1,6,6,9913,28.752,66134
 };
 
 #[test]
-fn reports_as_beside_it(rt: HostRuntime) -> Result<(), Fail> {
+fn reports_as_expected(rt: HostRuntime) -> Result<(), Fail> {
     holds(rt, &EXAMPLE)
 }

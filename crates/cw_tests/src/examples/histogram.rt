@@ -1,14 +1,14 @@
-//! The program examples/histogram.cilk, and the files beside it.
+//! The program examples/histogram.cilk and its reports.
 
 use crate::examples::{Example, holds};
 use std::test::Fail;
 
 const EXAMPLE: Example = Example {
     words: "histogram.cilk 1000",
-    source: "// How many of n numbers lie below 10, from 10 to 29, from 30 to 59 and above: a reducer for each range.
+    source: "// Counts how many of n numbers are below 10, from 10 to 29, from 30 to 59, and above, with a reducer for each range.
 // cilkwork run histogram.cilk 1000
-// The numbers are 21 * i + 63 mod 100 for i from 0 on. Since 21 and 100 have no common divisor, each hundred of them
-// has each remainder once: of a thousand there are 100, 200, 300 and 400.
+// The numbers are (21 * i + 63) mod 100 for i from 0 on. Since 21 and 100 have no common divisor, each hundred of them
+// contains each remainder once: 1000 numbers give 100, 200, 300 and 400.
 
 reducer sum least;
 reducer sum lower;
@@ -57,6 +57,6 @@ main,11,1,33104,1149,0,0.000,75000
 };
 
 #[test]
-fn reports_as_beside_it(rt: HostRuntime) -> Result<(), Fail> {
+fn reports_as_expected(rt: HostRuntime) -> Result<(), Fail> {
     holds(rt, &EXAMPLE)
 }

@@ -1,11 +1,11 @@
-//! The program examples/later.cilk, and the files beside it.
+//! The program examples/later.cilk and its reports.
 
 use crate::examples::{Example, holds};
 use std::test::Fail;
 
 const EXAMPLE: Example = Example {
     words: "later.cilk 3 4",
-    source: "// main takes two arguments; two calls are spawned before one sync.
+    source: "// Spawns two calls before one sync. The result is its second argument: 4 for the arguments 3 and 4.
 // cilkwork run later.cilk 3 4
 
 int first(int a, int b) {
@@ -50,6 +50,6 @@ second,8,2,4,2,20,1.200,30018
 };
 
 #[test]
-fn reports_as_beside_it(rt: HostRuntime) -> Result<(), Fail> {
+fn reports_as_expected(rt: HostRuntime) -> Result<(), Fail> {
     holds(rt, &EXAMPLE)
 }

@@ -1,16 +1,16 @@
-//! The program examples/longest.cilk, and the files beside it.
+//! The program examples/longest.cilk and its reports.
 
 use crate::examples::{Example, holds};
 use std::test::Fail;
 
 const EXAMPLE: Example = Example {
     words: "longest.cilk 1000",
-    source: "// Which number from 1 to n takes the most steps by halving and tripling to reach 1, and how high such a number goes: two
-// reducers that keep the greatest. The steps stand before the number in one value, so that the greatest has its place
-// with it.
+    source: "// Finds the number from 1 to n with the most Collatz steps to 1 (halve, or triple and add 1), and the largest number on the
+// way: two reducers that keep a maximum. The first one reduces steps * 1000000 + number, so the maximum also shows the
+// number.
 // cilkwork run longest.cilk 1000
-// Up to 1000 it is 871, with 178 steps; 703 goes highest, to 250504. Up to 10 it is 9, which comes by 28 and 14 to 7 and
-// from there by 22, 11, 34, 17, 52, 26, 13, 40, 20, 10, 5, 16, 8, 4 and 2 to 1: 19 steps, and 52.
+// Up to 1000 it is 871, with 178 steps; 703 reaches 250504. Up to 10 it is 9: 28, 14, 7, 22, 11, 34, 17, 52, 26, 13, 40, 20,
+// 10, 5, 16, 8, 4, 2 and 1 are 19 steps, and 52 is the largest number.
 
 reducer max longest;
 reducer max highest;
@@ -59,6 +59,6 @@ main,26,1,17466,263,19096,71.326,115073
 };
 
 #[test]
-fn reports_as_beside_it(rt: HostRuntime) -> Result<(), Fail> {
+fn reports_as_expected(rt: HostRuntime) -> Result<(), Fail> {
     holds(rt, &EXAMPLE)
 }

@@ -1,15 +1,15 @@
-//! The program examples/matrix.cilk, and the files beside it.
+//! The program examples/matrix.cilk and its reports.
 
 use crate::examples::{Example, holds};
 use std::test::Fail;
 
 const EXAMPLE: Example = Example {
     words: "matrix.cilk 16",
-    source: "// The product of two matrices of n by n numbers, a number of the product in each turn of a loop. Prints the sum of the
-// numbers on its diagonal and its last number.
+    source: "// Computes the product of two matrices of n by n numbers, one number of the product in each iteration of a loop. Prints the
+// sum of the diagonal and the last number.
 // cilkwork run matrix.cilk 16
-// With a(i, j) = i + j and b(i, j) = i - j the diagonal has the sum of (i + k)(k - i) over all i and k, which is that of
-// k * k - i * i and so 0; the last number is the sum of (n - 1 + k)(k - n + 1), for 16 that of k * k - 225: 1240 - 3600.
+// With a(i, j) = i + j and b(i, j) = i - j, the diagonal has the sum of (i + k)(k - i) = k * k - i * i over all i and k, which
+// is 0. The last number is the sum of (n - 1 + k)(k - n + 1), for n = 16 of k * k - 225: 1240 - 3600 = -2360.
 
 int main(int n) {
   int c[n * n];
@@ -55,6 +55,6 @@ main,7,1,86977,5819,0,0.000,60000
 };
 
 #[test]
-fn reports_as_beside_it(rt: HostRuntime) -> Result<(), Fail> {
+fn reports_as_expected(rt: HostRuntime) -> Result<(), Fail> {
     holds(rt, &EXAMPLE)
 }

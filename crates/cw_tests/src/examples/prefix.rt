@@ -1,12 +1,12 @@
-//! The program examples/prefix.cilk, and the files beside it.
+//! The program examples/prefix.cilk and its reports.
 
 use crate::examples::{Example, holds};
 use std::test::Fail;
 
 const EXAMPLE: Example = Example {
     words: "prefix.cilk 4000",
-    source: "// Prefix sums of n ones: the sums of both halves beside each other, and then the last sum of the left half is added to
-// each of the right half, by halves too. Parts of up to 256 numbers are not halved. Prints the last sum.
+    source: "// Computes the prefix sums of n ones: first the sums of both halves in parallel; then it adds the last sum of the left half
+// to each sum of the right half, also by halves. Parts of up to 256 numbers are serial. Prints the last sum.
 // cilkwork run prefix.cilk 4000
 // The sum of n ones is n.
 
@@ -78,6 +78,6 @@ main,38,1,12,12,23538,10.758,233538
 };
 
 #[test]
-fn reports_as_beside_it(rt: HostRuntime) -> Result<(), Fail> {
+fn reports_as_expected(rt: HostRuntime) -> Result<(), Fail> {
     holds(rt, &EXAMPLE)
 }

@@ -1,11 +1,11 @@
-//! The program examples/primes.cilk, and the files beside it.
+//! The program examples/primes.cilk and its reports.
 
 use crate::examples::{Example, holds};
 use std::test::Fail;
 
 const EXAMPLE: Example = Example {
     words: "primes.cilk 1000",
-    source: "// How many primes lie below n: ranges are halved down to 16 numbers, and the first half is spawned.
+    source: "// Counts the primes below n: ranges are halved down to 16 numbers, and the first half is spawned.
 // cilkwork run primes.cilk 1000
 // There are 168 primes below 1000.
 
@@ -72,6 +72,6 @@ main,38,1,7,7,2765,40.720,92268
 };
 
 #[test]
-fn reports_as_beside_it(rt: HostRuntime) -> Result<(), Fail> {
+fn reports_as_expected(rt: HostRuntime) -> Result<(), Fail> {
     holds(rt, &EXAMPLE)
 }

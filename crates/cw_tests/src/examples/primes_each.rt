@@ -1,12 +1,12 @@
-//! The program examples/primes_each.cilk, and the files beside it.
+//! The program examples/primes_each.cilk and its reports.
 
 use crate::examples::{Example, holds};
 use std::test::Fail;
 
 const EXAMPLE: Example = Example {
     words: "primes_each.cilk 2000",
-    source: "// How many primes lie below n, by a spawn for each number, one after another: each of them is too small to be worth it,
-// and each stands behind all those before it. primes_loop.cilk has the same work in a loop that is halved.
+    source: "// Counts the primes below n with a spawn for each number: each spawned call is too small to pay, and all spawns are on one
+// path. primes_loop.cilk does the same work in a cilk_for.
 // cilkwork run primes_each.cilk 2000
 // There are 303 primes below 2000.
 
@@ -57,6 +57,6 @@ test,8,2000,235698,746,22009,11.709,30022009
 };
 
 #[test]
-fn reports_as_beside_it(rt: HostRuntime) -> Result<(), Fail> {
+fn reports_as_expected(rt: HostRuntime) -> Result<(), Fail> {
     holds(rt, &EXAMPLE)
 }

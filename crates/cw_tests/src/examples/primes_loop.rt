@@ -1,11 +1,11 @@
-//! The program examples/primes_loop.cilk, and the files beside it.
+//! The program examples/primes_loop.cilk and its reports.
 
 use crate::examples::{Example, holds};
 use std::test::Fail;
 
 const EXAMPLE: Example = Example {
     words: "primes_loop.cilk 2000",
-    source: "// How many primes lie below n, as in primes_each.cilk, by a loop that is halved down to 125 numbers.
+    source: "// Counts the primes below n like primes_each.cilk, with a cilk_for that is halved down to 125 numbers.
 // cilkwork run primes_loop.cilk 2000
 // There are 303 primes below 2000.
 
@@ -53,6 +53,6 @@ main,21,1,26544,1728,19294,13.591,79294
 };
 
 #[test]
-fn reports_as_beside_it(rt: HostRuntime) -> Result<(), Fail> {
+fn reports_as_expected(rt: HostRuntime) -> Result<(), Fail> {
     holds(rt, &EXAMPLE)
 }

@@ -1,19 +1,19 @@
-//! The program examples/product.cilk, and the files beside it.
+//! The program examples/product.cilk and its reports.
 
 use crate::examples::{Example, holds};
 use std::test::Fail;
 
 const EXAMPLE: Example = Example {
     words: "product.cilk 24",
-    source: "// The product of two matrices of n by n numbers, by rows: the result is cut into halves down to 3 rows or less, and the
-// halves are written side by side. Every call reads both factors, also while others read them, since they are `const`.
+    source: "// Computes the product of two matrices of n by n numbers by rows: the result is cut into halves, down to 3 rows or fewer, and
+// the halves are written in parallel. All calls read both factors at the same time, since these are `const`.
 // cilkwork run product.cilk 24
-// a is Pascal's triangle and b the same on its side, a(i, j) = (i over j) and b(i, j) = (j over i). Their product has the
-// sum of (i over k)(j over k) over all k at row i and column j, which is (i + j over i): each number is the sum of those
-// above it and on its left. So the last one is (2n - 2 over n - 1), for 24 that of 46 over 23, 8233430727600, and all of
-// them add up to (2n over n) - 1, 32247603683099.
+// a is Pascal's triangle and b its transpose: a(i, j) = (i over j) and b(i, j) = (j over i). Their product at row i and
+// column j is the sum of (i over k)(j over k) over all k, which is (i + j over i): each number is the sum of the number above
+// it and the number to its left. So the last one is (2n - 2 over n - 1), for n = 24 (46 over 23) = 8233430727600, and the sum
+// of all numbers is (2n over n) - 1 = 32247603683099.
 
-// the rows of a * b from this one on, as many as c has
+// computes the rows of a * b that c has room for, beginning with row `from`
 void rows(const int a[], const int b[], int c[], int n, int from) {
   int p = 0;
   int k = 0;
@@ -102,6 +102,6 @@ product,28,15,310,94,64569,5.564,109569
 };
 
 #[test]
-fn reports_as_beside_it(rt: HostRuntime) -> Result<(), Fail> {
+fn reports_as_expected(rt: HostRuntime) -> Result<(), Fail> {
     holds(rt, &EXAMPLE)
 }

@@ -1,21 +1,21 @@
-//! The program examples/quarters.cilk, and the files beside it.
+//! The program examples/quarters.cilk and its reports.
 
 use crate::examples::{Example, holds};
 use std::test::Fail;
 
 const EXAMPLE: Example = Example {
     words: "quarters.cilk 32",
-    source: "// The product of two matrices of n * n numbers, n a power of two from 2 on, each stored by its quarters: the upper left
-// one, the upper right one, the lower left one, the lower right one, each of them by its quarters in turn. Each quarter of
-// a and b is wanted by two products. In two phases each phase uses each quarter once, so that no two calls share one.
+    source: "// Computes the product of two matrices of n * n numbers, n a power of two from 2 on. A matrix is stored by its quarters (upper
+// left, upper right, lower left, lower right), and each of them by its own quarters. Two products need each quarter of a
+// and b. In two phases, each of which uses each quarter once, no two parallel calls share a quarter.
 // cilkwork run quarters.cilk 32
-// All numbers of a are 1, so those of c are sums of columns of b, whose numbers are their places: the places of the first
-// column have bits 1, 3, 5, 7 and 9 alone, and each of 2, 8, 32, 128 and 512 is in 16 of the 32. So c begins with
-// 16 * 682 = 10912, and all of it adds up to 32 * (1023 * 1024 / 2) = 16760832.
+// All numbers of a are 1, so the numbers of c are sums of columns of b, whose numbers are their indices. The indices of the
+// first column have only bits 1, 3, 5, 7 and 9, and each of 2, 8, 32, 128 and 512 is in 16 of the 32. So c begins with
+// 16 * 682 = 10912, and the sum of all its numbers is 32 * (1023 * 1024 / 2) = 16760832.
 
 reducer sum all;
 
-// c = c + a * b, one product after another
+// c = c + a * b, serially
 void add_serially(int a[], int b[], int c[]) {
   int q = len(a) / 4;
   if (q == 1) {
@@ -39,7 +39,7 @@ void add_serially(int a[], int b[], int c[]) {
   } } } } } } } } }
 }
 
-// c = c + a * b, four products side by side, and then the other four
+// c = c + a * b, four products in parallel, then the other four
 void add_product(int a[], int b[], int c[]) {
   if (len(a) <= 64) {
     add_serially(a, b, c);
@@ -124,6 +124,6 @@ add_product,36,73,843,177,52268,6.895,322268
 };
 
 #[test]
-fn reports_as_beside_it(rt: HostRuntime) -> Result<(), Fail> {
+fn reports_as_expected(rt: HostRuntime) -> Result<(), Fail> {
     holds(rt, &EXAMPLE)
 }

@@ -1,18 +1,18 @@
-//! The program examples/queens.cilk, and the files beside it.
+//! The program examples/queens.cilk and its reports.
 
 use crate::examples::{Example, holds};
 use std::test::Fail;
 
 const EXAMPLE: Example = Example {
     words: "queens.cilk 7",
-    source: "// How many ways there are to put n queens on a board of n by n squares, none of them in reach of another. The columns of
-// a row are halved, and one half is searched beside the other, on a board of its own; the reducer counts.
+    source: "// Counts the ways to place n queens on a board of n by n squares so that no two of them attack each other. The columns of a
+// row are halved, one half is searched in parallel with the other on its own board, and a reducer counts.
 // cilkwork run queens.cilk 7
 // There are 40 ways for 7 queens.
 
 reducer sum ways;
 
-// whether a queen in this row and column is in reach of none above it
+// returns whether no queen above attacks a queen in this row and column
 int is_free(int board[], int row, int column) {
   int r = 0;
   while (r < row) {
@@ -87,6 +87,6 @@ main,51,1,8,8,2475,254.847,212421
 };
 
 #[test]
-fn reports_as_beside_it(rt: HostRuntime) -> Result<(), Fail> {
+fn reports_as_expected(rt: HostRuntime) -> Result<(), Fail> {
     holds(rt, &EXAMPLE)
 }

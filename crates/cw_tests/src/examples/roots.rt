@@ -1,14 +1,14 @@
-//! The program examples/roots.cilk, and the files beside it.
+//! The program examples/roots.cilk and its reports.
 
 use crate::examples::{Example, holds};
 use std::test::Fail;
 
 const EXAMPLE: Example = Example {
     words: "roots.cilk 4000",
-    source: "// The sum of the integer square roots of n numbers. The numbers are made by one call, the roots are found side by side,
-// and one call adds them up: both calls are serial, and roots_mended.cilk has neither.
+    source: "// Computes the sum of the integer square roots of n numbers. One call makes the numbers, a loop finds the roots in parallel,
+// and one call adds them up. Both calls are serial; roots_mended.cilk has neither.
 // cilkwork run roots.cilk 4000
-// The numbers are 421 * i + 1663 mod 7875. Python's math.isqrt gives the sum 234691 of 4000 of them.
+// The numbers are (421 * i + 1663) mod 7875. For 4000 of them the sum by Python's math.isqrt is 234691.
 
 void fill(int a[]) {
   int i = 0;
@@ -88,6 +88,6 @@ main,38,1,93271,3027,148323,5.870,223313
 };
 
 #[test]
-fn reports_as_beside_it(rt: HostRuntime) -> Result<(), Fail> {
+fn reports_as_expected(rt: HostRuntime) -> Result<(), Fail> {
     holds(rt, &EXAMPLE)
 }

@@ -1,14 +1,14 @@
-//! The program examples/roots_mended.cilk, and the files beside it.
+//! The program examples/roots_mended.cilk and its reports.
 
 use crate::examples::{Example, holds};
 use std::test::Fail;
 
 const EXAMPLE: Example = Example {
     words: "roots_mended.cilk 4000",
-    source: "// The sum of the integer square roots of n numbers, as in roots.cilk: each number is made in the turn that needs it, and
-// a reducer adds the roots up.
+    source: "// Computes the sum of the integer square roots of n numbers like roots.cilk: the iteration that needs a number makes it, and
+// a reducer adds up the roots.
 // cilkwork run roots_mended.cilk 4000
-// The numbers are 421 * i + 1663 mod 7875. Python's math.isqrt gives the sum 234691 of 4000 of them.
+// The numbers are (421 * i + 1663) mod 7875. For 4000 of them the sum by Python's math.isqrt is 234691.
 
 reducer sum roots;
 
@@ -59,6 +59,6 @@ main,22,1,93106,2992,20306,36.568,95296
 };
 
 #[test]
-fn reports_as_beside_it(rt: HostRuntime) -> Result<(), Fail> {
+fn reports_as_expected(rt: HostRuntime) -> Result<(), Fail> {
     holds(rt, &EXAMPLE)
 }

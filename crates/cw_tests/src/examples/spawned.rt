@@ -1,11 +1,11 @@
-//! The program examples/spawned.cilk, and the files beside it.
+//! The program examples/spawned.cilk and its reports.
 
 use crate::examples::{Example, holds};
 use std::test::Fail;
 
 const EXAMPLE: Example = Example {
     words: "spawned.cilk",
-    source: "// A spawned call may run beside what follows it, up to the sync.
+    source: "// A spawned call may run in parallel with the statements after it, up to the sync. The result is 41.
 // cilkwork run spawned.cilk
 
 int same(int v) {
@@ -42,6 +42,6 @@ same,4,2,4,2,11,1.363,15011
 };
 
 #[test]
-fn reports_as_beside_it(rt: HostRuntime) -> Result<(), Fail> {
+fn reports_as_expected(rt: HostRuntime) -> Result<(), Fail> {
     holds(rt, &EXAMPLE)
 }

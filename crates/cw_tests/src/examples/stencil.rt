@@ -1,19 +1,19 @@
-//! The program examples/stencil.cilk, and the files beside it.
+//! The program examples/stencil.cilk and its reports.
 
 use crate::examples::{Example, holds};
 use std::test::Fail;
 
 const EXAMPLE: Example = Example {
     words: "stencil.cilk 2000 20",
-    source: "// Each of n numbers becomes the sum of its two neighbours, k times, with 0 beyond both ends. Halves of more than 500
-// numbers are done side by side: each part is handed the old numbers at its edges, since no other part can be read.
+    source: "// Replaces each of n numbers by the sum of its two neighbours, k times, with 0 beyond both ends. Parts of more than 500 numbers
+// are halved, and both halves run in parallel: each receives the old numbers next to it, since it cannot read another part.
 // cilkwork run stencil.cilk 2000 20
-// One 1 among zeros becomes the binomial coefficients of k, spread over every other place: for k = 20 the middle one is
-// 184756, and all add up to 2 to the power of 20, which is 1048576.
+// A single 1 among zeros becomes the binomial coefficients of k, at every second index: for k = 20 the middle one is 184756,
+// and their sum is 2 to the power of 20, which is 1048576.
 
 reducer sum all;
 
-// one step of a part, between these old numbers
+// computes a step for a part; left and right are the old numbers next to it
 void step(int a[], int left, int right) {
   if (len(a) <= 500) {
     int before = left;
@@ -78,6 +78,6 @@ main,35,1,32557,4355,321200,4.093,966200
 };
 
 #[test]
-fn reports_as_beside_it(rt: HostRuntime) -> Result<(), Fail> {
+fn reports_as_expected(rt: HostRuntime) -> Result<(), Fail> {
     holds(rt, &EXAMPLE)
 }
