@@ -14,8 +14,8 @@ pub fn calls_keep_what_meters_tell()
     calls_on_a_strand_keep_its_job();
 }
 
-/// States that for all that strands hand out, take back or are given, in any order, each is a strand of its job, and
-/// its meter represents the serial run of that job so far.
+/// States that, if strands hand out continuations, take them back and receive effects in any order, each strand is a
+/// strand of its job, and its meter represents the serial run of that job so far.
 pub fn meters_tell_strands()
     ensures { MetersTellStrands }
 {

@@ -25,7 +25,8 @@ pub fn calls_on_a_strand_keep_its_job()
     ensures { (code : Code) → CallsKeep code }
 {}
 
-/// States that for all that a strand hands out and is given, in any order, an effect made for a job means the job.
+/// States that, for all jobs that a strand hands out and all effects that it receives, in any order, an effect made for
+/// a job means the job.
 #[tactic(auto, using(crate::proofs::Schedules::kept))]
 pub fn every_effect_means_its_job()
     ensures { (code : Code) → Kept code }
