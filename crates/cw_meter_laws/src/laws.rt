@@ -36,8 +36,8 @@ pub fn rests_have_no_joins()
     ensures { RestsHaveNoJoins }
 {}
 
-/// States that at the end of the strand of a whole run, its meter returns the measures of the serial run's tree, and
-/// the answer of the run is the answer of the code.
+/// States that at the end of the strand of a whole run that records all measures, its meter returns the measures of the
+/// serial run's tree, and the answer of the run is the answer of the code.
 pub fn roots_are_measured()
     ensures { RootsAreMeasured }
 {
