@@ -124,7 +124,7 @@ module _ (program : Program) where
           other known owners around same depth Leaves taken [] (right_none (faults_in_block program Nowhere known b) (faults_in_block program Nowhere known c) types')
           (right_none (owner_faults_in program.functions around owners depth Leaves taken [] b) (owner_faults_in program.functions around owners depth Leaves taken [] c) owns') t i o n
 
-  -- after a loop, names that were held outside of its body
+  -- a name that a holder outside of the loop's body held stays held after the loop
   abbrev ForStays : Stmt → Type 0
   ForStays s = (known : Known) (owners : List Name) (around : Around) → SameKnown known owners → (depth line : ℕ) (taken : Taken) → faults_in program Nowhere known line s ≡ [] →
       owner_faults program.functions around owners depth taken line s ≡ [] → (t : Name × Holder) → In t taken → Outer (depth + 1) t.1
@@ -304,6 +304,6 @@ module _ (program : Program) where
         (right_none (owner_faults program.functions around owners depth taken line s) _ owns) t here.stays o (more_owners s owners t.0 n) in
         record { stays = rest.stays; unread = λ loud. none_among t.0 (read_in s) (read_in_block b) (here.unread loud) (rest.unread loud) }
 
-  -- after a loop, all names that were held before it
+  -- every `cilk_for` satisfies `ForStays`
   pub for_keeps : (x y z : Name) (from to : Expr) (grain : ℕ) (over : List Name) (b : Block) → ForStays (For x y z from to grain over b)
   for_keeps x y z from to grain over b = for_stays x y z from to grain over b (block_stays b)

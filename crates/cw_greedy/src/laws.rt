@@ -20,7 +20,7 @@ pub fn greedy_is_bounded()
     ensures { (p : ℕ) (t : Tree) → 1 ≤ p → GreedyIsBounded p t }
 {}
 
-/// States that with more processors than spawns no ready strand waits, and the length of the schedule is the span.
+/// States that with more processors than spawns the length of the schedule is the span.
 pub fn nobody_waits()
     ensures { NobodyWaits }
 {}

@@ -19,8 +19,8 @@ use Rattle.cw_loops.specs.Lowerable.{is_lowerable}
 abbrev pub main_of : Program → Function
 main_of program = function_named main_name program.functions
 
--- for a list of 64-bit arguments as long as the parameter list of its main, and within each limit, the lowered program
--- has the answer of the program: value, printed lines, totals, tree, trap with its line, and over the limit
+-- for one 64-bit argument for each parameter of `main`, and within each limit, the lowered program has the answer of
+-- the program: its value, printed lines, totals and tree, or its trap with the line, or that it exceeds the limit
 abbrev pub AnswersAsItsSource : Program → Type 0
 AnswersAsItsSource program =
     (args : List ℤ) (limit : ℕ) → list_all fits args ≡ true → length args ≡ length (main_of program).params →

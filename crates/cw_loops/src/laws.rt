@@ -45,9 +45,9 @@ pub fn owned_is_lowerable()
     ensures { OwnedIsLowerable }
 {}
 
-/// States that lowering keeps the answers of a program of a source that types and ownership accept, for a list of
-/// 64-bit arguments as long as the parameter list of its main, and within each limit: value, printed lines, totals,
-/// tree, trap with its line, and over the limit. The lowered program has the static size of the program. A program
+/// States that lowering keeps the answers of a program of a source that types and ownership accept, for one 64-bit
+/// argument for each parameter of its `main`, and within each limit: its value, printed lines, totals and tree, or its
+/// trap with the line, or that it exceeds the limit. The lowered program has the static size of the program. A program
 /// that is derived from a text only needs to be accepted by types and ownership.
 pub fn lowering_keeps_answers()
     ensures answers { LoweringKeepsAnswers }

@@ -14,8 +14,8 @@ pub fn calls_keep_what_meters_tell()
     calls_on_a_strand_keep_its_job();
 }
 
-/// States that for all that strands hand out, take back or are given, in any order, each is a strand of its job, and
-/// its meter represents the serial run of that job so far.
+/// States that, if strands hand out continuations, take them back and receive effects in any order, each strand is a
+/// strand of its job, and its meter represents the serial run of that job so far.
 pub fn meters_tell_strands()
     ensures { MetersTellStrands }
 {
@@ -36,8 +36,8 @@ pub fn rests_have_no_joins()
     ensures { RestsHaveNoJoins }
 {}
 
-/// States that at the end of the strand of a whole run, its meter returns the measures of the serial run's tree, and
-/// the answer of the run is the answer of the code.
+/// States that at the end of the strand of a whole run that records all measures, its meter returns the measures of the
+/// serial run's tree, and the answer of the run is the answer of the code.
 pub fn roots_are_measured()
     ensures { RootsAreMeasured }
 {

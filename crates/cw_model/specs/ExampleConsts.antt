@@ -33,11 +33,11 @@ amid st = of_functions (
     ∷ int_function n 1 (const_param a ∷ int_param x ∷ []) (Then 2 st (Then 3 (give (number 0)) End))
     ∷ main_of (give (number 0) ∷ []) ∷ [])
 
--- its types are rejected
+-- the types of the program are rejected
 abbrev pub IsMistyped : Stmt → Type 0
 IsMistyped st = BreaksTypes (amid st) (2 ∷ [])
 
--- it is accepted
+-- the program is accepted
 abbrev pub IsTyped : Stmt → Type 0
 IsTyped st = IsAccepted (amid st)
 
@@ -82,11 +82,11 @@ abbrev pub beside_reader : Stmt → Program
 beside_reader st =
     with_names (Then 1 (spawn 1 f (Variable a ∷ [])) (Then 1 (spawn 2 g (Variable b ∷ [])) (Then 2 st (joined_at 3))))
 
--- its ownership is rejected
+-- the ownership of the program is rejected
 abbrev pub IsRefused : Stmt → Type 0
 IsRefused st = BreaksOwnership (beside_reader st) (2 ∷ [])
 
--- it is accepted
+-- the program is accepted
 abbrev pub IsFine : Stmt → Type 0
 IsFine st = IsAccepted (beside_reader st)
 
@@ -94,7 +94,7 @@ IsFine st = IsAccepted (beside_reader st)
 abbrev pub before_write : Stmt → Program
 before_write st = with_names (Then 2 st (Then 3 (AssignElement a (number 0) (number 1)) (joined_at 4)))
 
--- the same with a print of an element
+-- a print of an element of a, on line 3, after a statement on line 2
 abbrev pub before_read : Stmt → Program
 before_read st = with_names (Then 2 st (Then 3 (Print (Element a (number 0))) (joined_at 4)))
 
@@ -221,7 +221,7 @@ between st =
     with_names (Then 2 (spawn 1 f (Variable a ∷ []))
     (Then 2 st (Then 3 (AssignElement a (number 0) (number 1)) (joined_at 4))))
 
--- it is rejected
+-- the program is rejected
 abbrev pub StaysFrozen : Stmt → Type 0
 StaysFrozen st = BreaksOwnership (between st) (3 ∷ [])
 
@@ -261,7 +261,7 @@ read_beside first beside = of_functions (
     ∷ (beside ++ Sync ∷ AssignElement a (number 0) (Variable x) ∷ give (Element a (number 0)) ∷ []))
     ∷ [])
 
--- the same without a statement first in the callee
+-- `read_beside` without a first statement in the callee
 abbrev pub read_program : List Stmt → Program
 read_program beside = of_functions (
     int_function g 1 (const_param a ∷ int_param v ∷ []) (block (give (Element a (Variable v)) ∷ []))

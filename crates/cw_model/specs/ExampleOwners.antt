@@ -38,11 +38,11 @@ beside_spawns st =
     with_names
     (Then 1 (spawn_into x 1 f (number 1 ∷ [])) (Then 1 (spawn 2 g (Variable a ∷ [])) (Then 2 st (joined_at 3))))
 
--- its ownership is rejected
+-- the ownership of the program is rejected
 abbrev pub IsRefused : Stmt → Type 0
 IsRefused st = BreaksOwnership (beside_spawns st) (2 ∷ [])
 
--- it is accepted
+-- the program is accepted
 abbrev pub IsFine : Stmt → Type 0
 IsFine st = IsAccepted (beside_spawns st)
 
@@ -120,7 +120,7 @@ syncs = on_line 2 (Sync ∷ [])
 abbrev pub takes_its_own : ℕ → Block
 takes_its_own line = on_line line (Declare z (number 0) ∷ spawn_into z 1 f (number 1 ∷ []) ∷ [])
 
--- the same of an array
+-- an array declared in a line, which a spawn takes on the same line
 abbrev pub takes_its_own_array : ℕ → Block
 takes_its_own_array line = on_line line (DeclareArray z (number 1) ∷ spawn 1 g (Variable z ∷ []) ∷ [])
 
@@ -215,7 +215,7 @@ pub record FreedExamples : Type 0 where
       (Then 2 (If (number 1) (followed_by (takes_its_own 2) (on_line 2 (give (number 0) ∷ [])))) (joined_at 3)))
   pub body_joins :
       IsAccepted (with_sum (same_function ∷ void_function p [] (takes_its_own 2) ∷ main_of (give (number 0) ∷ []) ∷ []))
-  -- at a cut's end its array is free again, and no other
+  -- the end of a cut frees its array, and no other array
   pub after_cut :
       IsAccepted (with_names
       (on_line 2 (Cut a (number 0) l r End ∷ AssignElement a (number 0) (number 1) ∷ give (number 0) ∷ [])))
@@ -239,7 +239,7 @@ pub record FreedExamples : Type 0 where
 abbrev pub in_loop : Stmt → Program
 in_loop st = with_names (Then 2 (For i i i (number 0) (number 2) 64 (a ∷ []) (Then 3 st End)) (joined_at 4))
 
--- it breaks the rule of the loop
+-- the statement breaks the rule of the loop
 abbrev pub IsRefusedInLoop : Stmt → Type 0
 IsRefusedInLoop st = BreaksOwnership (in_loop st) (3 ∷ [])
 

@@ -156,13 +156,13 @@ print_function = void_function p (int_param v ∷ []) (block (Print (Variable v)
 abbrev pub first_program : Program
 first_program = with_same (Declare x (number 0) ∷ spawn_into x 1 f (number 1 ∷ []) ∷ Sync ∷ give (Variable x) ∷ [])
 
--- the same with "int y = x;" before the sync
+-- `first_program` with "int y = x;" before the sync
 abbrev pub early_read : Program
 early_read =
     with_same
     (Declare x (number 0) ∷ spawn_into x 1 f (number 1 ∷ []) ∷ Declare y (Variable x) ∷ Sync ∷ give (Variable x) ∷ [])
 
--- the same with "g(1)" for "f(1)"
+-- `first_program` with "g(1)" instead of "f(1)"
 abbrev pub unknown_callee : Program
 unknown_callee = with_same (Declare x (number 0) ∷ spawn_into x 1 g (number 1 ∷ []) ∷ Sync ∷ give (Variable x) ∷ [])
 
@@ -221,7 +221,7 @@ print_program = of_functions (
     ∷ main_of (spawn 1 p (number 1 ∷ []) ∷ spawn 2 p (number 2 ∷ []) ∷ Print (number 3) ∷ Sync ∷ give (number 0) ∷ [])
     ∷ [])
 
--- with one reducer
+-- a program with one reducer, for the sum
 abbrev pub with_sum : List Function → Program
 with_sum functions = record { reducers = record { name = s; how = Sum; line = 1 } ∷ []; functions = functions }
 
@@ -256,7 +256,7 @@ early_print =
     with_same
     (Declare x (number 0) ∷ spawn_into x 1 f (number 1 ∷ []) ∷ Print (Variable x) ∷ Sync ∷ give (number 0) ∷ [])
 
--- the same with the print after the sync, and a further sync
+-- `early_print` with the print after the sync, and a further sync
 abbrev pub late_print : Program
 late_print =
     with_same (Declare x (number 0) ∷ spawn_into x 1 f (number 1 ∷ []) ∷ Sync ∷ Print (Variable x) ∷ Sync
@@ -267,7 +267,7 @@ abbrev pub cut_program : ℕ → Program
 cut_program at =
     alone (DeclareArray a (number 3) ∷ Cut a (number at) l r (block (Print (Length r) ∷ [])) ∷ give (number 0) ∷ [])
 
--- the same with nothing inside
+-- `cut_program` with an empty block in the cut
 abbrev pub empty_cut_program : ℕ → Program
 empty_cut_program at = alone (DeclareArray a (number 3) ∷ Cut a (number at) l r End ∷ give (number 0) ∷ [])
 

@@ -201,7 +201,7 @@ pub record CostExamples : Type 0 where
 abbrev pub with_printer : List Stmt → Program
 with_printer ss = of_functions (void_function p [] (block (Print (number 1) ∷ [])) ∷ main_of ss ∷ [])
 
--- the same, with void g() { cilk_spawn p(); .. } that main calls
+-- `with_printer` with void g() { cilk_spawn p(); .. }, which main calls
 abbrev pub with_spawner : List Stmt → Program
 with_spawner ss = of_functions (
     void_function p [] (block (Print (number 1) ∷ []))
@@ -265,7 +265,7 @@ abbrev pub at_greatest_depth : Stmt → Outcome Returned
 at_greatest_depth st =
     meaning.call 3 9999 (void_function p [] End ∷ []) Deeper (void_function g [] (on_line 5 (st ∷ []))) no_frame 4 100
 
--- it traps on line 1 for a range past an array, at this cost and not below it
+-- the program traps on line 1 for a range past an array, at this cost and not below it
 abbrev pub TrapsWith : Program → (cost : ℕ) → Type 0
 TrapsWith program zero = ⊥
 TrapsWith program (suc cost) = TrapsAt program [] (suc cost) trap.OutOfBounds 1 × IsOver program [] cost
@@ -278,7 +278,7 @@ captured_by_a_lowered_loop = of_functions (
     DeclareArray a (number 2) ∷ Declare x (number 7)
     ∷ Begin f (number 0) (number 3) (x ∷ []) (a ∷ []) ∷ give (number 0) ∷ []) ∷ [])
 
--- the same of a loop
+-- the program of `captured_by_a_lowered_loop`, with a `cilk_for`
 abbrev pub captured_by_a_loop : Program
 captured_by_a_loop = alone (
     DeclareArray a (number 2) ∷ Declare x (number 7)
@@ -314,7 +314,7 @@ pub record LoweredExamples : Type 0 where
       (codes "0,root,1,main,1,6,6,6,6" ∷ [])
   pub started_beside : Attributes (with_printer (Start Spawned p [] ∷ give (number 0) ∷ [])) []
       (codes "0,root,1,main,1,6,5,6,5" ∷ [])
-  -- nor is it a depth of its own; a call that is too deep traps in its line
+  -- the function of a loop has the depth of its caller; a call that is too deep traps in its line
   pub started_at_the_greatest_depth : (trace : Trace)
       × (at_greatest_depth (Start Plain p []) ≡ Done (None, no_frame) 97 trace)
   pub begun_at_the_greatest_depth : (trace : Trace)

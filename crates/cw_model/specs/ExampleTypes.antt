@@ -26,11 +26,11 @@ amid st =
     with_callees (int_function main 1 [] (Then 1 (Declare x (number 0))
     (Then 1 (DeclareArray a (number 2)) (Then 2 st (Then 3 (give (number 0)) End)))))
 
--- its types are rejected
+-- the types of the program are rejected
 abbrev pub IsMistyped : Stmt → Type 0
 IsMistyped st = BreaksTypes (amid st) (2 ∷ [])
 
--- it is accepted
+-- the program is accepted
 abbrev pub IsFine : Stmt → Type 0
 IsFine st = IsAccepted (amid st)
 

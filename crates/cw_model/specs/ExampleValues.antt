@@ -72,7 +72,7 @@ trapping st =
     with_sum (same_function
     ∷ int_function main 1 [] (Then 1 (DeclareArray a (number 2)) (Then 2 st (Then 3 (give (number 0)) End))) ∷ [])
 
--- it traps in this line, as the run has cost so much and not before
+-- the statement traps in this line, at this cost of the run and not before
 abbrev pub TrapsWithin : Stmt → (cost : ℕ) → Trap → (line : ℕ) → Type 0
 TrapsWithin st zero trap line = ⊥
 TrapsWithin st (suc cost) trap line = TrapsAt (trapping st) [] (suc cost) trap line × IsOver (trapping st) [] cost

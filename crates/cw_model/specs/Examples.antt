@@ -44,7 +44,7 @@ abbrev pub Scales : Program → (args : List ℕ) → (burden : ℕ) → List (L
 Scales program args burden rows =
     report_text Scale program (on_spawns burden) (serial program args USUAL_LIMIT) ≡ scale_header ++ lines rows
 
--- the same where return edges are charged, too
+-- the scale report has these rows, if return edges are also charged
 abbrev pub ScalesBoth : Program → (args : List ℕ) → (burden : ℕ) → List (List ℕ) → Type 0
 ScalesBoth program args burden rows =
     report_text Scale program (on_both burden) (serial program args USUAL_LIMIT) ≡ scale_header ++ lines rows
@@ -54,11 +54,11 @@ abbrev pub Attributes : Program → (args : List ℕ) → List (List ℕ) → Ty
 Attributes program args rows =
     report_text Sites program (on_spawns USUAL_BURDEN) (serial program args USUAL_LIMIT) ≡ sites_header ++ lines rows
 
--- it traps, having printed nothing
+-- the program traps, having printed nothing
 abbrev pub TrapsAt : Program → (args : List ℕ) → (limit : ℕ) → Trap → (line : ℕ) → Type 0
 TrapsAt program args limit trap line = serial program args limit ≡ TrappedAt trap line []
 
--- its cost passes the limit
+-- the program exceeds the limit
 abbrev pub IsOver : Program → (args : List ℕ) → (limit : ℕ) → Type 0
 IsOver program args limit = serial program args limit ≡ OverLimit
 
@@ -70,17 +70,17 @@ HasWork program args k = work_in (serial program args USUAL_LIMIT) ≡ k
     work_in (Ended v printed sums t) = work t
     work_in _ = 0
 
--- every stage accepts it
+-- every stage accepts the program
 abbrev pub IsAccepted : Program → Type 0
 IsAccepted program =
     (limit_faults program ≡ []) × (type_faults program ≡ []) × (ownership_faults program ≡ [])
     × (loop_faults program ≡ []) × (program_faults program ≡ [])
 
--- it exceeds no limit, and its types are rejected in these lines
+-- the program exceeds no limit, and its types are rejected in these lines
 abbrev pub BreaksTypes : Program → List ℕ → Type 0
 BreaksTypes program faults = (limit_faults program ≡ []) × (type_faults program ≡ faults)
 
--- it is well typed, and its ownership is rejected in these lines
+-- the program is well typed, and its ownership is rejected in these lines
 abbrev pub BreaksOwnership : Program → List ℕ → Type 0
 BreaksOwnership program faults =
     (limit_faults program ≡ []) × (type_faults program ≡ []) × (ownership_faults program ≡ faults)

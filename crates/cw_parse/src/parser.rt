@@ -31,10 +31,11 @@ fn line_of(source: &Source, tokens: &[Token], left: usize) -> u32
 ///
 /// # Errors
 ///
-/// In this order: `Size` at the least line of a token at which more than 64 brackets of any kind are open, or which
-/// is the 257th or a later token in a row without a semicolon or a brace; `Syntax` at the line of the first token
-/// that continues no source, or at the line of the text's end if the source ends too early. `Memory` if there is no
-/// memory for the tree.
+/// - first, `Size` at the least line of a token at which more than 64 brackets of any kind are open, or which is the
+///   257th or a later token in a row without a semicolon or a brace;
+/// - then, `Syntax` at the line of the first token that continues no source, or at the line of the text's end if the
+///   source ends too early;
+/// - `Memory` if there is no memory for the tree.
 pub fn parse(alloc: Global, source: &Source, tokens: &[Token]) -> Result<Ast, Fault>
     requires { IsTokenCut source.now tokens.now }
     ensures { MatchResult result (λ ast. IsParsed source.now tokens.now (program_of ast))

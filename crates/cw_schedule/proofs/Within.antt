@@ -36,7 +36,7 @@ module _ (code : Code) where
       cases Stuck more = tt
 
   module _ (costs : CostsAreWork) (alike : (t : Tree) → ReadSame (normal t) t) (args : List ℤ) (n : ℕ) where
-    -- its cost is its work
+    -- the cost of a run is the work of its tree
     done_within : (f : Func) (returned : Returned) (left : ℕ) (t : Trace)
         → Comes (Some (Done returned left t)) (travel WholeCall code n (first_state f args [] []))
         → work (normal (Marked (Invocation 0) (tree_of t.events))) ≤ n

@@ -45,7 +45,7 @@ upto_all-set q [] i y d h = absurd (omega arith)
 upto_all-set q (x ∷ xs) zero y d h = omega arith
 upto_all-set q (x ∷ xs) (suc i) y d h = let k = upto_all-set q xs i y d (omega arith) in omega arith
 
--- without the first `b` steps
+-- the sum up to `n` without the first `b` steps, plus the sum of these, is the sum up to `n + b`
 pub upto-drop : (q : ℕ) (xs : List Steps) (b n : ℕ) → upto q (drop b xs) n + upto q xs b ≡ upto q xs (n + b)
 upto-drop q [] zero n = refl
 upto-drop q [] (suc b) n = refl

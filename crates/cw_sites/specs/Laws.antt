@@ -65,8 +65,8 @@ QuietPartsNeedNoCall = (base : ℕ) (busy : ℕ → ℕ) (os : List Open) (table
 abbrev pub AllRunsAreShown : Type 0
 AllRunsAreShown = (site base : ℕ) → RunsAreShown site base
 
--- the number of steps in a bounded table: at most three paths for each open block that has spawned, and two for the
--- current strand
+-- the total number of steps in a table with sites below `most`: at most `2 * most + 65` for each of three paths of each
+-- open block that has spawned, and for each of two paths of the current strand
 abbrev pub PathsAreFew : Type 0
 PathsAreFew =
     (most : ℕ) (table : SiteTable) → IsBoundedTable most table

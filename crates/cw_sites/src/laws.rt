@@ -37,8 +37,8 @@ pub fn pieces_are_one()
     ensures { PiecesAreOne }
 {}
 
-/// States that the paths of a bounded table have at most three paths for each open block that has spawned and two for
-/// the current strand, each of at most twice the number of sites plus a constant.
+/// States a bound on the total number of steps in a table with sites below `most`: at most `2 * most + 65` steps for
+/// each of three paths of each open block that has spawned, and for each of two paths of the current strand.
 #[tactic(auto, using(crate::proofs::PathBoundLaws::paths_are_few))]
 pub fn paths_are_few()
     ensures { PathsAreFew }

@@ -79,7 +79,7 @@ module _ (code : Code) (keep : CallsKeep code) (job : Job) where
       else went_on (turn code s) s (step code s) job.limit job.before (count + 1) [])) come)
       (keep.advancing job (Going s count []) h)
 
-  -- its call ends
+  -- the call of the strand ends
   pub ended : (s : State) (count : ℕ) (v : Option ℤ) (arrays : Slots (List ℤ)) (t : Trace) → has_come job.extent code s ≡ false
       → step code s ≡ Ends v arrays t → job.before + (count + 1) ≤ job.limit → IsStrandOf code job (Going s count [])
       → JobMeaning code job (Ended v arrays t (count + 1))

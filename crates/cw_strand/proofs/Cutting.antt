@@ -172,7 +172,7 @@ module _ (keep : (code : Code) → CallsKeep code) (self : Strand) (limit : ℕ)
             light = subst IsLight (sym cut.detail) c.ground.light;
           }
 
--- for every job of the definitions that the job represents
+-- a strand that stopped at a spawn may hand out its continuation
 pub may_hand_out : ((code : Code) → CallsKeep code) → (self : Strand) (limit : ℕ) (spawn : Spawn) → HasCome self limit (stop.Spawned spawn)
     → ∥ MayHand (its_code self) self.run.machine (listed (its_code self) spawn.passed) (loans_of (its_code self) spawn.lent) ∥₁
 may_hand_out keep self limit spawn h = ∥∥₁_elim (sound_of self) (hlevel) (λ s. ∥∥₁_map (h.comes s.ok s.job s.is) (λ c. may_hand keep self limit spawn s.ok s.job c))

@@ -152,7 +152,7 @@ module _ (keep : (code : Code) → CallsKeep code) (apart : OutsLieApart) (old m
       at zero q = subst (IsRest (its_code old)) (same_Some x y q) (record { code = cut.code; joins = cut.joins })
       at (suc k) q = h.rests k y q
 
-  -- it is a strand of its job
+  -- the new strand is a strand of its job
   module _ (lent : Strand) (same : reverse lent.lent.items ≡ after) (bare : AreSpare
       (record old { run = mid.run; lent = lent.lent; spares = lent.spares })) (h : HasCome old limit (stop.Spawned spawn)) where
     pub goes_on : IsRunning (record old { run = mid.run; lent = lent.lent; spares = lent.spares })

@@ -163,7 +163,7 @@ module _ (keep : (code : Code) → CallsKeep code) (self : Strand) (limit : ℕ)
         subst (λ n. Shows v (ok_of v is n (length j.arrays) p.rest.slices.items (length c.ground.base.around)) self.run.machine (under c.ground.base s)) (c.ground.joins joins).1
         (subst (λ o. Shows v (ok_with c.ground o) self.run.machine (under c.ground.base s)) out_nil c.at.1.shows.shows)
 
-    -- its call is the call of the job
+    -- the function of the strand's call is the function of the job
     one_func : shows_job.good.seat.func ≡ base.good.seat.func
     one_func =
         let g0 = base.good in

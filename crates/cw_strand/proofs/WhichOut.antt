@@ -160,7 +160,7 @@ outs_above v is p base around jobs_out levels outs lent are h = λ k o e.
 
 -- the newest spawned call, which has returned, is the floor
 module _ (v : Verified) (is : IsFit v) (p : Parts) (base : State) (l : Level) (outs : List Out) where
-  -- its continuation is out if the number of calls that wait in it is the floor
+  -- the continuation of the newest spawned call is out if the number of calls that wait in it is the floor
   pub is_back : (jobs_out : List jobs.Job) (levels : List Level) (lent : List Lent) → Lends v is p base levels outs lent
       → floor_in lent ≡ suc (calls_in (beneath base l.around)) → AreOut p (l ∷ levels_of l.around) jobs_out levels lent
       → AreBack p l (levels_of l.around) jobs_out levels lent

@@ -218,7 +218,7 @@ pub record KeepsJob (self : Strand) : Type 0 where
   pub limit : self.parts.value.limit ≡ (its_parts self).limit
   pub before : self.parts.value.before ≡ (its_parts self).before
   pub rest : IsEmptied (its_parts self).rest self.parts.value.rest
-  -- its numbers are in their ranges, and it has not exceeded its limit
+  -- the numbers of the strand are in their ranges, and it has not exceeded its limit
   pub within : (its_parts self).before + self.count ≤ (its_parts self).limit
   pub range : (its_parts self).limit ≤ MOST_LIMIT
 

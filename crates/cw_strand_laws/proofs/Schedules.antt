@@ -1,4 +1,4 @@
--- For every schedule, the answer is the answer of the serial run.
+-- For every schedule, the effect of the root has the answer of the serial run, or memory ran out.
 use Rattle.std.proofs.Common.{◌≡◌, ◌⊎◌, ℕ, zero, suc, ◌-◌, ℤ, Some, None, List, [], ◌∷◌, refl, sym, ap, ◌∙◌, subst, inl, inr, arith}
 use Rattle.std.specs.Prelude.{slice_get, option_map}
 use Rattle.cw_model.specs.Frames.{no_frame}

@@ -55,12 +55,12 @@ takes_back world i n worker (Waits s count jobs) outs (Offered w) =
     Some (placed (placed world n Spent) i (Runs worker (take_back (Waits s count jobs)) outs))
 takes_back world i n worker strand outs place = None
 
--- with a job and its place, if both exist
+-- continues with a job and its place, if both exist; otherwise no world
 abbrev pub with_job : Option Job → Option Place → (Job → Place → Option World) → Option World
 with_job (Some job) (Some place) go = go job place
 with_job _ _ go = None
 
--- with the job of a number and its place, if the number exists
+-- continues with the job of a number and its place, if the number exists; otherwise no world
 abbrev pub at : World → ℕ → (Job → Place → Option World) → Option World
 at world i go = with_job (slice_get world.jobs i) (slice_get world.places i) go
 

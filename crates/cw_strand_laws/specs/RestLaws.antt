@@ -42,8 +42,8 @@ pub record Cut (code : Code) : Type 0 where
   pub rest : (y : Extent) (s : State) (limit before n : ℕ) → s.operands ≡ [] →
       travel y code n s ≡ onwards code y s (course code (rest_at s limit before) n)
 
--- for all jobs that it hands out and effects that it is given, a strand stays a strand of its job, and each effect
--- made for a job means the job
+-- for all jobs that a strand hands out and all effects that it receives, the strand stays a strand of its job, and each
+-- effect made for a job means the job
 pub record Kept (code : Code) : Type 0 where
   pub strand : (job : Job) (strand : Strand) → Reached code job strand → IsStrandOf code job strand
   pub effect : (job : Job) (e : Effect) → Makes code job e → JobMeaning code job e

@@ -25,24 +25,26 @@ pub fn calls_on_a_strand_keep_its_job()
     ensures { (code : Code) → CallsKeep code }
 {}
 
-/// States that for all that a strand hands out and is given, in any order, an effect made for a job means the job.
+/// States that, for all jobs that a strand hands out and all effects that it receives, in any order, an effect made for
+/// a job means the job.
 #[tactic(auto, using(crate::proofs::Schedules::kept))]
 pub fn every_effect_means_its_job()
     ensures { (code : Code) → Kept code }
 {}
 
-/// States that an effect that means a whole run has the answer of the code.
+/// States that an effect that means a whole run has the answer of the code, or memory ran out.
 pub fn the_root_answers_what_the_code_gives()
     ensures { RootsAreSerial }
 {}
 
-/// States that for every schedule, the answer is the answer of the serial run.
+/// States that for every schedule, the effect of the root has the answer of the serial run, or memory ran out.
 #[tactic(auto, using(crate::proofs::Schedules::schedules_are_serial))]
 pub fn every_schedule_answers_what_the_code_gives()
     ensures { SchedulesAreSerial }
 {}
 
-/// States that for all events of any number of workers, the answer is the answer of the serial run.
+/// States that for all events of any number of workers, the effect of the root has the answer of the serial run, or
+/// memory ran out.
 #[tactic(auto, using(crate::proofs::WorldLaws::worlds_are_serial))]
 pub fn every_world_answers_what_the_code_gives()
     ensures { WorldsAreSerial }

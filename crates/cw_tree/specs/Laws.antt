@@ -21,13 +21,13 @@ abbrev pub ResolvedFits : Type 0
 ResolvedFits =
     (program : Program) → limit_faults program ≡ [] → type_faults program ≡ [] → is_fitting (resolved program) ≡ true
 
--- the number of slots that the integers of a block need is at most the number of names
+-- a block needs at most one integer slot for each integer known before it and for each name that it declares
 abbrev pub FewInts : Type 0
 FewInts =
     (lists : Lists) (l : Locals) (n : ℕ) (b : Block) →
     ints_in_block n (resolved_block lists l b) ≤ max n (length l.ints + declares_in_block b)
 
--- the number of slots that the arrays of a block need is at most the number of names
+-- a block needs at most one array slot for each array known before it and for each name that it declares
 abbrev pub FewArrays : Type 0
 FewArrays =
     (lists : Lists) (l : Locals) (n : ℕ) (b : Block) →

@@ -17,15 +17,15 @@ pub fn resolved_is_right()
     ensures { ResolvedIsRight }
 {}
 
-/// States that the number of slots that a body needs is at most the number of names.
+/// States that a body needs at most one slot for each local that is known before it and for each name that it declares.
 pub fn few_slots()
     ensures ints { FewInts }
     ensures arrays { FewArrays }
 {}
 
-/// States three facts of the resolved tree of a program that also keeps the limits: each slot is below the count of
-/// its kind; each index is below the length of its table; and no function has more slots of a kind than it may
-/// declare names.
+/// States three facts of the resolved tree of a program that keeps the limits and the rules of names and types: each
+/// slot is below the count of its kind; each index is below the length of its table; and no function has more slots
+/// of a kind than it may declare names.
 pub fn resolved_is_fitting()
     ensures { ResolvedFits }
 {}

@@ -99,7 +99,7 @@ KeepsThefts old new = new.passes ≡ old.passes
 abbrev pub KeepsSight : (old new : Seat) → Type 0
 KeepsSight old new = new.watch ≡ old.watch
 
--- its deque is the same one, and neither the room of the deque for jobs nor the seat's room for cells has shrunk
+-- the seat has the same deque, and neither the deque's room for jobs nor the seat's room for cells has shrunk
 abbrev pub KeepsRoom : (old new : Seat) → Type 0
 KeepsRoom old new = SameWorker old.own new.own × (cell_room old ≤ cell_room new)
 
