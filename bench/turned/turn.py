@@ -115,7 +115,8 @@ def turned(text, stands, instead):
 
 def importing(text, before):
     """Returns the text with imports of the names that the mutated clause adds."""
-    words, known = set(re.findall(r"[\w-]+", text)), set(re.findall(r"[\w-]+", before))
+    # a word in a comment is not an import
+    words, known = [set(re.findall(r"[\w-]+", re.sub(r"--.*", "", it))) for it in (text, before)]
     for module, names in BESIDE.items():
         missing = [it for it in names if it.strip("◌") in words - known]
         if missing:
