@@ -183,10 +183,10 @@ abbrev pub JoinsFirsts : (piece : Rows) → Rows → Rows → Type 0
 JoinsFirsts piece old new = JoinsBelow piece (length piece.by_site.items) old new
 
 abbrev pub JoinsShelf : (piece : Rows) → (shelf : ℕ) → Rows → Rows → Type 0
-JoinsShelf piece shelf old new = JoinsOn piece (shelf * 2048) (shelf * 2048 + 2048) old new
+JoinsShelf piece shelf old new = JoinsOn piece (shelf * 256) (shelf * 256 + 256) old new
 
 abbrev pub JoinsPage : (piece : Rows) → (shelf page : ℕ) → Rows → Rows → Type 0
-JoinsPage piece shelf page old new = JoinsOn piece (shelf * 2048 + page * 64) (shelf * 2048 + page * 64 + 64) old new
+JoinsPage piece shelf page old new = JoinsOn piece (shelf * 256 + page * 8) (shelf * 256 + page * 8 + 8) old new
 
 -- where the piece's first rows were added, all are
 abbrev pub JoinsFurther : (piece : Rows) → Rows → Rows → Type 0

@@ -49,6 +49,7 @@
 
 mod compacting;
 pub mod laws;
+mod memory;
 pub mod paths;
 pub mod rows;
 pub mod steps;

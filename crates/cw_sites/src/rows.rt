@@ -391,8 +391,8 @@ impl Rows {
 // The number of the first site of a page.
 fn first_of(shelf: usize, page: usize) -> Result<usize, AllocError>
     requires { page < 32 }
-    ensures is { IfOk result (λ first. first ≡ shelf * 2048 + page * 64) }
-    ensures within { IfOk result (λ first. first + 64 < 2 ^ 64) }
+    ensures is { IfOk result (λ first. first ≡ shelf * 256 + page * 8) }
+    ensures within { IfOk result (λ first. first + 8 < 2 ^ 64) }
 {
     // As for rows: so many sites as no number can count are more than memory holds.
     if shelf >= usize::MAX / SHELF {
