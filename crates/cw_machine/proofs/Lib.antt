@@ -69,6 +69,7 @@ pub mod JobSlots
 pub mod JobEnds
 pub mod Unread
 pub mod Unwinds
+pub mod Trimming
 pub mod Inner
 pub mod Nothing
 pub mod Freezing

@@ -31,10 +31,10 @@ HasCells own room cells = cells ≡ own ++ replicate (room - length own) (pos 0)
 abbrev pub AreSmall : List Placed → Type 0
 AreSmall slices = (a : ℕ) → a < length slices → length (placed slices a).items < 2 ^ 60
 
--- the cells from `first` on
-pub record AreFrom (cells : List ℤ) (first : ℕ) (own : List ℤ) : Type 0 where
-  pub as_many : length cells ≤ first + length own
-  pub are : (a : ℕ) → first + a < length cells → cell own a ≡ cell cells (first + a)
+-- the cells from one on, so many at most
+pub record AreFrom (cells : List ℤ) (first most : ℕ) (own : List ℤ) : Type 0 where
+  pub as_many : (n : ℕ) → n ≤ most → first + n ≤ length cells → n ≤ length own
+  pub are : (a : ℕ) → a < most → first + a < length cells → cell own a ≡ cell cells (first + a)
 
 -- a view is added for each slice, as a block of its own
 pub record HasViews (old : List View) (slices : List Placed) (new : List View) : Type 0 where
@@ -333,7 +333,7 @@ pub record Ends (v : Verified) (is : IsFit v) (j : Job) (r : Rest) (s : State) (
   pub homes : KeepsHomes r.slices.items back.slices.items replaced
   pub fixed : KeepsFixed v is j.place replaced
 
-abbrev pub EndsJob : Machine → (count : ℕ) → Rest → List (Option Placed) → Type 0
-EndsJob m count back replaced =
-    (v : Verified) (is : IsFit v) (j : Job) (r : Rest) (s : State) → HasCome v is j r m s →
+abbrev pub EndsJob : Verified → Machine → (count : ℕ) → Rest → List (Option Placed) → Type 0
+EndsJob v m count back replaced =
+    (is : IsFit v) (j : Job) (r : Rest) (s : State) → HasCome v is j r m s →
     length r.slices.items ≡ count → Ends v is j r s back replaced

@@ -4,6 +4,7 @@ pub mod Counting
 pub mod MeterLaws
 pub mod ReadingLaws
 pub mod TableLaws
+pub mod TrimLaws
 pub mod RestLaws
 pub mod OutsideLaws
 pub mod DetailLaws

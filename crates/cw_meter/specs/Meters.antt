@@ -95,6 +95,12 @@ TellsOf (Measures burden) tags from count os es m = Measured burden tags from co
 abbrev pub Meters : Detail → Tags → Origin → (count : ℕ) → List Open → List Event → Meter → Type 0
 Meters d tags from count os es m = (m.detail ≡ d) × TellsOf d tags from count os es m
 
+-- a meter tells of each run so far of which it told
+abbrev pub TellsAsBefore : (old new : Meter) → Type 0
+TellsAsBefore old new =
+    (d : Detail) (tags : Tags) (from : Origin) (count : ℕ) (os : List Open) (es : List Event)
+    → Meters d tags from count os es old → Meters d tags from count os es new
+
 -- what a meter tells goes from one run so far to another, where an instruction more is within the greatest limit and
 -- the run has not ended
 abbrev pub Tells : (old new : Meter) → (count : ℕ) → Detail → Tags → (from : Origin) → (os os' : List Open)

@@ -28,6 +28,7 @@
 
 mod detail;
 pub mod laws;
+mod memory;
 mod meter;
 mod parts;
 mod tables;

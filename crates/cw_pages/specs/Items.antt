@@ -17,10 +17,10 @@ abbrev pub item_in : {T : Type 0} → (none : T) → List T → ℕ → T
 item_in none page k = slice_index_or page k none
 
 abbrev pub item_on : {T : Type 0} → (none : T) → List (Vec T) → ℕ → T
-item_on none shelf k = item_in none (slice_index_or (lists_of shelf) (k / 64) []) (k % 64)
+item_on none shelf k = item_in none (slice_index_or (lists_of shelf) (k / 8) []) (k % 8)
 
 abbrev pub item : {T : Type 0} → (none : T) → Pages T → ℕ → T
-item none pages k = item_on none (slice_index_or (lists_of pages.shelves.items) (k / 2048) []) (k % 2048)
+item none pages k = item_on none (slice_index_or (lists_of pages.shelves.items) (k / 256) []) (k % 256)
 
 -- a number is given its item, and the others have those that they had
 abbrev pub Gives : {T : Type 0} → (none : T) → Pages T → Pages T → (number : ℕ) → T → Type 0
@@ -36,15 +36,15 @@ GivesIn none old new number value =
 
 -- no number of these has an item: of the shelves from one on, of the pages of a shelf from one on, of a page
 abbrev pub HasNoShelfFrom : {T : Type 0} → Pages T → (shelf : ℕ) → Type 0
-HasNoShelfFrom {T} pages shelf = (none : T) (k : ℕ) → shelf ≤ k / 2048 → item none pages k ≡ none
+HasNoShelfFrom {T} pages shelf = (none : T) (k : ℕ) → shelf ≤ k / 256 → item none pages k ≡ none
 
 abbrev pub HasNoPageFrom : {T : Type 0} → Pages T → (shelf page : ℕ) → Type 0
 HasNoPageFrom {T} pages shelf page =
-    (none : T) (k : ℕ) → k / 2048 ≡ shelf → page ≤ (k % 2048) / 64 → item none pages k ≡ none
+    (none : T) (k : ℕ) → k / 256 ≡ shelf → page ≤ (k % 256) / 8 → item none pages k ≡ none
 
 abbrev pub HasNoPage : {T : Type 0} → Pages T → (shelf page : ℕ) → Type 0
 HasNoPage {T} pages shelf page =
-    (none : T) (k : ℕ) → k / 2048 ≡ shelf → (k % 2048) / 64 ≡ page → item none pages k ≡ none
+    (none : T) (k : ℕ) → k / 256 ≡ shelf → (k % 256) / 8 ≡ page → item none pages k ≡ none
 
 -- the item of a number in a table
 abbrev pub entry : {T : Type 0} → (none : T) → Table T → ℕ → T
@@ -60,7 +60,7 @@ SameIn none old new = (k : ℕ) → item_in none new k ≡ item_in none old k
 
 -- on a shelf no number of these has an item: of the pages from one on, of a page
 abbrev pub IsFreeFrom : {T : Type 0} → List (Vec T) → (page : ℕ) → Type 0
-IsFreeFrom {T} shelf page = (none : T) (k : ℕ) → k < 2048 → page ≤ k / 64 → item_on none shelf k ≡ none
+IsFreeFrom {T} shelf page = (none : T) (k : ℕ) → k < 256 → page ≤ k / 8 → item_on none shelf k ≡ none
 
 abbrev pub IsFreeOn : {T : Type 0} → List (Vec T) → (page : ℕ) → Type 0
-IsFreeOn {T} shelf page = (none : T) (k : ℕ) → k / 64 ≡ page → item_on none shelf k ≡ none
+IsFreeOn {T} shelf page = (none : T) (k : ℕ) → k / 8 ≡ page → item_on none shelf k ≡ none

@@ -6,7 +6,7 @@ ghost use Rattle.cw_pages.specs.Items.{item, item_in, item_on, Gives, GivesIn, G
 use std::alloc::{AllocError, Global};
 
 /// How many items a page has.
-pub const PAGE: usize = 64;
+pub const PAGE: usize = 8;
 
 /// How many pages a shelf has.
 pub const ON_SHELF: usize = 32;
@@ -167,7 +167,7 @@ fn reach<A: Drop>(lists: &mut Vec<Vec<A>>, place: usize) -> Result<(), AllocErro
 
 #[inline(always)]
 fn set_in<T: Copy>(page: &mut Vec<T>, number: usize, value: T, none: T) -> Result<(), AllocError>
-    requires { number < 64 }
+    requires { number < 8 }
     ensures { OnOk result (GivesIn none page.old.items page.new.items number value) }
 {
     if page.len() < PAGE {

@@ -1,5 +1,5 @@
--- The posts of a worker when jobs are stolen and settled.
-use Rattle.std.proofs.Common.{◌≡◌, ◌++◌, List, [], ◌∷◌, Some, sym, ap, subst, reverse}
+-- The posts of a worker as jobs are stolen and settled.
+use Rattle.std.proofs.Common.{◌≡◌, ◌++◌, ℕ, List, [], ◌∷◌, Some, sym, ap, subst, reverse}
 use Rattle.std.specs.declared.snapshot.Snapshot.{Snapshot}
 use Rattle.cw_jobs.specs.declared.job.Job.{Job}
 use Rattle.cw_strand.specs.declared.strand.Strand.{Strand}
@@ -17,8 +17,8 @@ use Rattle.cw_pool.proofs.Joins.{last_first}
 pub same_of : (s t : Strand) → s.of ≡ t.of → its_job s ≡ its_job t
 same_of s t e = ap (λ (o : Snapshot Job). o.value) e
 
-abbrev pub below : Post → Duty → Below
-below p d = record { post = p; duty = d }
+abbrev pub below : Post → Duty → (held : ℕ) → Below
+below p d held = record { post = p; duty = d; held = held }
 
 pub begun : (y : Yard) (root job : Job) (bs : List Below) → bs ≡ [] → job ≡ root → Chain y root job (reverse bs)
 begun y root job bs none e = subst (λ l. Chain y root job (reverse l)) (sym none) e

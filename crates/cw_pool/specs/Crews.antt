@@ -1,5 +1,5 @@
 -- What a run by a crew answers.
-use Rattle.std.specs.Prelude.{◌≡◌, ◌≤◌, ◌<◌, ℕ, ℤ, true, List, Result, Err}
+use Rattle.std.specs.Prelude.{◌≡◌, ◌≤◌, ◌<◌, ℕ, ℤ, Bool, false, List, Result, Err}
 use Rattle.cw_model.specs.declared.burden.Burden.{Burden}
 use Rattle.cw_meter.specs.declared.detail.Detail.{Detail}
 use Rattle.cw_text.specs.declared.fault.Fault.{Fault}
@@ -12,10 +12,10 @@ use Rattle.cw_machine.specs.Recorded.{RecordsAsCode}
 use Rattle.cw_machine.specs.Runs.{GivesAsCode, IsFailure, RunsAsCode}
 use Rattle.cw_runnable.specs.declared.verified.Verified.{Verified}
 use Rattle.cw_jobs.specs.declared.effect.Effect.{Effect}
+use Rattle.cw_jobs.specs.declared.effect.Effect.TheVariants as effect
 use Rattle.cw_jobs.specs.declared.job.Job.{Job}
 use Rattle.cw_jobs.specs.Jobs.{IsRootOf}
 use Rattle.cw_jobs.specs.Means.{IsMeaningOf}
-use Rattle.cw_strand.specs.Losing.{TellsFailure}
 use Rattle.cw_pool.specs.declared.outcome.Outcome.{Outcome}
 use Rattle.cw_pool.specs.declared.run.TheConstants.{MOST_BODIES}
 
@@ -26,9 +26,15 @@ pub record IsEffectOf (v : Verified) (args : List ℤ) (n : ℕ) (burden : Burde
     pub is : IsRootOf v args n burden d root.parts.value
     pub means : IsMeaningOf root e
 
--- the effect tells the answer: the run was not given up, or had come to its end before
+-- THE EFFECT TELLS THE ANSWER: it is no effect of a root that was given up, whatever else is known of the run; and memory
+-- was wanting only where the run was not given up
+abbrev pub Answers : (is_given_up : Bool) → Effect → Type 0
+Answers is_given_up (effect.GivenUp back) = ⊥
+Answers is_given_up (effect.Memory back) = is_given_up ≡ false
+Answers is_given_up _ = Unit {0}
+
 abbrev pub IsKnown : Outcome → Type 0
-IsKnown o = o.is_given_up ≡ true → TellsFailure o.effect → ⊥
+IsKnown o = Answers o.is_given_up o.effect
 
 -- what a run came to, of a crew of so many bodies
 abbrev pub IsOutcome : (bodies : ℕ) → Verified → List ℤ → (n : ℕ) → Burden → Detail → Outcome → Type 0

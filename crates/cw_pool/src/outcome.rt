@@ -33,16 +33,14 @@ pub(crate) struct Outcome {
 }
 
 impl Outcome {
-    // Whether the effect tells the answer: where the run was not given up, or had come to its end before.
+    // Whether the effect tells the answer. One that says that the root was given up never does, whatever the sign says; one
+    // that says that memory was wanting does where the run was not given up.
     fn is_known(&self) -> bool
         ensures yes { result ≡ true → IsKnown self.now }
         ensures no { result ≡ false → IsKnown self.now → ⊥ }
     {
-        if !self.is_given_up {
-            return true;
-        }
         match self.effect {
-            Effect::Memory { back: _ } => false,
+            Effect::Memory { back: _ } => !self.is_given_up,
             Effect::GivenUp { back: _ } => false,
             _ => true,
         }

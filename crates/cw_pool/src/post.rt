@@ -6,15 +6,15 @@ ghost use Rattle.cw_yard.specs.Seats.{IsSeatOf, IsTicketOf};
 ghost use Rattle.cw_yard.specs.declared.seat.Yard.{Yard};
 ghost use Rattle.cw_yard.specs.Tickets.{ticket_job};
 ghost use Rattle.cw_jobs.specs.Means.{IsMeaningOf};
-ghost use Rattle.cw_pool.specs.Posts.{Begins, Ends, IsNewest, Lacks, TurnsTo, Works};
+ghost use Rattle.cw_pool.specs.Posts.{Begins, Ends, IsNewest, Lacks, Settles, TurnsTo, Works};
 
 use crate::gate::{Gate, Moment};
-use crate::sign::Tally;
+use crate::sign::{BUDGET, Tally};
 use cw_jobs::effect::Effect;
 use cw_jobs::job::Job;
 use cw_strand::strand::{End, Event, Spawns, Strand};
 use cw_yard::seat::{Seat, Yard};
-use cw_yard::ticket::Ticket;
+use cw_yard::ticket::{Duty, Ticket};
 use cw_yard::yard::{Collected, Retaken};
 use std::alloc::Global;
 
@@ -37,6 +37,11 @@ const STINT: u64 = 20_000;
 /// And by no more than it has done before, and so many: a strand that has just begun may go very deep by a few thousand
 /// instructions, in a run that is given up.
 const FIRST_STINT: u64 = 512;
+
+// The bytes of a number, and of a job that is kept or offered.
+const NUMBER: usize = 8;
+
+const KEPT: usize = 64;
 
 /// A job that a strand has out.
 pub enum Kept {
@@ -88,6 +93,52 @@ fn cost_of(effect: &Effect) -> u64 {
             shown,
         } => shown.cost,
         _ => 0,
+    }
+}
+
+// The memory that an effect brings, in bytes: its meter's lists, its cells, and the arrays that were made.
+fn bytes_of(effect: &Effect) -> usize {
+    match effect {
+        Effect::Joined {
+            frame,
+            replaced,
+            shown,
+        } => {
+            let mut numbers = frame.cells.capacity();
+            for a in 0..replaced.len() {
+                if a < frame.slices.len() && replaced[a].is_some() {
+                    numbers = numbers.saturating_add(frame.slices[a].len());
+                }
+            }
+            let meter = shown.meter.bytes();
+            numbers.saturating_mul(NUMBER).saturating_add(meter)
+        }
+        _ => 0,
+    }
+}
+
+/// Leaves the effect of a stolen job for who offered it, and counts its bytes until it is collected.
+pub(crate) fn settle<G: Gate>(
+    yard: &Yard,
+    seat: &mut Seat,
+    gate: &G,
+    tally: &Tally,
+    duty: Duty,
+    effect: Effect,
+)
+    requires seat { IsSeatOf yard.now seat.old }
+    requires settles { Settles yard.now duty effect }
+    ensures { IsSeatOf yard.now seat.new }
+{
+    tally.leave(duty.cell(), bytes_of(&effect) as u64);
+    yard.settle(seat, duty, effect);
+    gate.turn(tally.me, Moment::Settled);
+}
+
+// The effect in a cell is collected: rings the bell where who left it may steal again.
+fn release(yard: &Yard, tally: &Tally, cell: usize) {
+    if tally.collect(cell) {
+        yard.bell().notify_all();
     }
 }
 
@@ -146,8 +197,10 @@ impl Post {
         ensures of { self.new.strand.of ≡ self.old.strand.of }
         ensures works { Works yard.now self.new }
     {
+        let cell = ticket.cell();
         match yard.collect(seat, ticket) {
             Collected::Done(effect) => {
+                release(yard, tally, cell);
                 tally.offers.judge(cost_of(&effect));
                 self.strand.give(effect);
                 true
@@ -195,6 +248,17 @@ impl Post {
         if tally.is_up() && !self.strand.is_paused() {
             self.strand.give_up();
         }
+    }
+
+    /// Gives back the memory that it does not use while it waits. Returns what it has, in bytes, if that is at most the
+    /// budget, otherwise any number above it.
+    pub(crate) fn settle_down(&mut self) -> usize
+        ensures of { self.new.strand.of ≡ self.old.strand.of }
+        ensures works { (y : Yard) → Works y self.old → Works y self.new }
+    {
+        self.strand.trim();
+        let kept = self.kept.capacity().saturating_mul(KEPT);
+        kept.saturating_add(self.strand.bytes(BUDGET as usize))
     }
 
     // What the strand did since it had done so many instructions is counted.
@@ -281,11 +345,13 @@ impl Post {
         self.strand.effect_at(end)
     }
 
-    /// A post with nothing out is let go.
+    /// A post with nothing out is let go. Its lists are cut short before: the C library gives a large block back to the system
+    /// when it shrinks, but keeps blocks of the size of any that was freed.
     pub(crate) fn finish(self)
         requires { self.kept.items ≡ [] }
     {
-        let Post { strand, kept } = self;
+        let Post { mut strand, kept } = self;
+        strand.trim();
         drop(strand);
         kept.destroy_empty();
     }

@@ -193,7 +193,7 @@ fn outcome_of<
     }
     let root = Job::root_of(alloc, code, args, n, burden, detail)?;
     let share = Arc::try_clone(&root.parts.code)?;
-    let sign = Sign::new(alloc, crew.len() + 1, n)?;
+    let sign = Sign::new(alloc, crew.len() + 1, CELLS, n)?;
     let sign = Arc::new(alloc, sign)?;
     let effect = drive(rt, alloc, root, crew, gate, &sign)?;
     let is_given_up = sign.is_up();

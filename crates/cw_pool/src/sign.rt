@@ -14,25 +14,65 @@ use std::sync::atomic::{AtomicBool, AtomicU64, Ordering};
 /// A worker tells of so many instructions at once.
 const LOT: u64 = 65_536;
 
-/// Whether a run is given up, and what each worker has told of. Each worker writes a line of its own.
+/// What waits on a worker, and what it has left in effects that nobody has collected, is at most so many bytes where it
+/// steals.
+pub(crate) const BUDGET: u64 = 1_048_576;
+
+/// An effect counts as fewer bytes than this.
+const MOST_BYTES: u64 = 281_474_976_710_656;
+
+/// What lies in a cell: an effect of so many bytes, which a worker left.
+#[inline(always)]
+fn left_by(worker: usize, bytes: u64) -> u64 {
+    (worker as u64)
+        .saturating_mul(MOST_BYTES)
+        .saturating_add(bytes)
+}
+
+/// Whether a run is given up, what each worker has told of, and the effects that nobody has collected. Each worker tells
+/// in a line of its own.
 #[derive(Drop)]
 pub struct Sign {
     up: CachePadded<AtomicBool>,
     told: Vec<CachePadded<AtomicU64>>,
     limit: u64,
+    // For each worker the bytes of the effects that it has left and that nobody has collected.
+    left: Vec<CachePadded<AtomicU64>>,
+    // For each cell of the yard the effect that was left in it last.
+    effects: Vec<AtomicU64>,
+}
+
+// A counter for each worker.
+fn counters(alloc: Global, workers: usize) -> Result<Vec<CachePadded<AtomicU64>>, AllocError> {
+    let mut counters = Vec::with_capacity(alloc, workers)?;
+    for _worker in 0..workers {
+        counters.push(CachePadded::new(AtomicU64::new(0)))?;
+    }
+    Ok(counters)
 }
 
 impl Sign {
-    /// A sign that is down, for so many workers and a run within so many instructions. The error is want of memory.
-    pub(crate) fn new(alloc: Global, workers: usize, limit: u64) -> Result<Sign, AllocError> {
-        let mut told = Vec::with_capacity(alloc, workers)?;
-        for _worker in 0..workers {
-            told.push(CachePadded::new(AtomicU64::new(0)))?;
+    /// A sign that is down, for so many workers, of which each has so many cells, and a run within so many instructions. The
+    /// error is want of memory.
+    pub(crate) fn new(
+        alloc: Global,
+        workers: usize,
+        cells: usize,
+        limit: u64,
+    ) -> Result<Sign, AllocError> {
+        let told = counters(alloc, workers)?;
+        let left = counters(alloc, workers)?;
+        let count = workers.saturating_mul(cells);
+        let mut effects = Vec::with_capacity(alloc, count)?;
+        for _cell in 0..count {
+            effects.push(AtomicU64::new(0))?;
         }
         Ok(Sign {
             up: CachePadded::new(AtomicBool::new(false)),
             told,
             limit,
+            left,
+            effects,
         })
     }
 
@@ -62,6 +102,39 @@ impl Sign {
         }
         if all > self.limit {
             self.raise();
+        }
+    }
+
+    // A worker leaves an effect of so many bytes in a cell.
+    fn leave(&self, worker: usize, cell: usize, bytes: u64) {
+        let bytes = bytes.min(MOST_BYTES - 1);
+        if let Some(effect) = self.effects.get(cell) {
+            effect.store(left_by(worker, bytes), Ordering::SeqCst);
+        }
+        if let Some(left) = self.left.get(worker) {
+            left.fetch_add(bytes, Ordering::SeqCst);
+        }
+    }
+
+    // The effect in a cell is collected. Returns whether its worker may steal again, which it might not before.
+    fn collect(&self, cell: usize) -> bool {
+        let Some(effect) = self.effects.get(cell) else {
+            return false;
+        };
+        let effect = effect.load(Ordering::SeqCst);
+        let bytes = effect % MOST_BYTES;
+        let Some(left) = self.left.get((effect / MOST_BYTES) as usize) else {
+            return false;
+        };
+        let before = left.fetch_sub(bytes, Ordering::SeqCst);
+        before > BUDGET && before.saturating_sub(bytes) <= BUDGET
+    }
+
+    // Whether a worker has left more bytes that nobody has collected than it may where it steals.
+    fn is_full(&self, worker: usize) -> bool {
+        match self.left.get(worker) {
+            Some(left) => left.load(Ordering::SeqCst) > BUDGET,
+            None => false,
         }
     }
 }
@@ -97,6 +170,22 @@ impl Tally {
     /// Gives the run up.
     pub(crate) fn raise(&self) {
         self.sign.raise();
+    }
+
+    /// The worker leaves an effect of so many bytes in a cell.
+    pub(crate) fn leave(&self, cell: usize, bytes: u64) {
+        self.sign.leave(self.me, cell, bytes);
+    }
+
+    /// The worker has collected the effect in a cell. Returns whether who left it may steal again, which it might not
+    /// before.
+    pub(crate) fn collect(&self, cell: usize) -> bool {
+        self.sign.collect(cell)
+    }
+
+    /// Whether too much lies in effects that the worker has left and nobody has collected: then it steals nothing.
+    pub(crate) fn is_full(&self) -> bool {
+        self.sign.is_full(self.me)
     }
 
     /// The worker has done so many instructions more.

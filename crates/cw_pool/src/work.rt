@@ -1,14 +1,15 @@
 //! A worker.
 
-ghost use Rattle.std.specs.Prelude.{[], IfSome};
+ghost use Rattle.std.specs.Prelude.{◌≡◌, [], IfSome};
 ghost use Rattle.cw_jobs.specs.Means.{IsMeaningOf};
 ghost use Rattle.cw_yard.specs.Seats.{IsSeatOf};
 ghost use Rattle.cw_pool.specs.Chains.{KeepsStanding};
-ghost use Rattle.cw_pool.specs.Posts.{IsFound, Settles};
+ghost use Rattle.cw_pool.specs.Posts.{IsFound, Works};
+ghost use Rattle.cw_yard.specs.declared.seat.Yard as yards;
 
 use crate::gate::{Gate, Moment};
-use crate::post::{Post, Turn};
-use crate::sign::Tally;
+use crate::post::{Post, Turn, settle};
+use crate::sign::{BUDGET, Tally};
 use crossbeam_utils::sync::Key;
 use cw_jobs::effect::Effect;
 use cw_jobs::job::Job;
@@ -31,6 +32,8 @@ const SLEPT: u32 = 992;
 pub struct Below {
     pub(crate) post: Post,
     pub(crate) duty: Duty,
+    // The bytes that it has, and all that wait below it.
+    pub(crate) held: usize,
 }
 
 /// Where a worker looks next for a job to steal, and how often it has looked in vain since it found one.
@@ -38,12 +41,18 @@ pub struct Below {
 pub struct Search {
     next: usize,
     tries: u32,
+    // The bytes of what waits on the worker, where it has given back what it does not use.
+    held: Option<usize>,
 }
 
 impl Search {
     // Begins with the worker behind this one.
     fn new(me: usize) -> Search {
-        Search { next: me, tries: 0 }
+        Search {
+            next: me,
+            tries: 0,
+            held: None,
+        }
     }
 
     // One look at the next victim.
@@ -74,6 +83,30 @@ impl Search {
     #[inline(always)]
     fn rest(&mut self) {
         self.tries = 0;
+        self.held = None;
+    }
+
+    // The bytes of what waits on the worker: a post, which gives back what it does not use when it begins to wait, and all
+    // below it.
+    fn weigh(&mut self, post: &mut Post, below: &Vec<Below>) -> usize
+        ensures of { post.new.strand.of ≡ post.old.strand.of }
+        ensures works { (y : yards.Yard) → Works y post.old → Works y post.new }
+    {
+        if let Some(held) = self.held {
+            return held;
+        }
+        let held = post.settle_down().saturating_add(held_below(below));
+        self.held = Some(held);
+        held
+    }
+
+    // A worker that may not steal waits a little; with a key it sleeps until the bell rings: an effect came, or one that it
+    // has left was collected.
+    fn wait<R: Wait>(&mut self, rt: &R, key: Option<Key<'_>>) {
+        match key {
+            Some(key) => key.wait(rt),
+            None => self.idle(),
+        }
     }
 
     // A worker that found nothing waits a little.
@@ -149,19 +182,18 @@ fn doze<R: Wait>(
     None
 }
 
-// Leaves the effect of a stolen job for who offered it.
-fn settle<G: Gate>(yard: &Yard, seat: &mut Seat, gate: &G, me: usize, duty: Duty, effect: Effect)
-    requires seat { IsSeatOf yard.now seat.old }
-    requires settles { Settles yard.now duty effect }
-    ensures { IsSeatOf yard.now seat.new }
-{
-    yard.settle(seat, duty, effect);
-    gate.turn(me, Moment::Settled);
+// The bytes of all that waits below a worker's post.
+fn held_below(below: &Vec<Below>) -> usize {
+    match below.last() {
+        Some(last) => last.held,
+        None => 0,
+    }
 }
 
 // While its post waits, a worker looks for a job to steal, and runs it above that post. It has room for the post before
-// it steals; what it can't begin it gives up. With a key it sleeps where it finds none.
-fn run_above<G: Gate, R: Wait>(
+// it steals; what it can't begin it gives up. With a key it sleeps where it finds none. What waits on it then has so many
+// bytes.
+fn steal_above<G: Gate, R: Wait>(
     rt: &R,
     alloc: Global,
     yard: &Yard,
@@ -172,6 +204,7 @@ fn run_above<G: Gate, R: Wait>(
     below: &mut Vec<Below>,
     search: &mut Search,
     key: Option<Key<'_>>,
+    held: usize,
 )
     requires seat { IsSeatOf yard.now seat.old }
     ensures seat { IsSeatOf yard.now seat.new }
@@ -192,12 +225,42 @@ fn run_above<G: Gate, R: Wait>(
             below.push_reserved(Below {
                 post: waiting,
                 duty,
+                held,
             });
+            search.rest();
         }
         Err(stolen) => {
-            settle(yard, seat, gate, me, duty, stolen.give_up());
+            settle(yard, seat, gate, tally, duty, stolen.give_up());
         }
     }
+}
+
+// The same of a worker that steals only while neither what waits on it, nor what it has left in effects that nobody has
+// collected, has more bytes than the budget.
+fn run_above<G: Gate, R: Wait>(
+    rt: &R,
+    alloc: Global,
+    yard: &Yard,
+    seat: &mut Seat,
+    gate: &G,
+    tally: &Tally,
+    post: &mut Post,
+    below: &mut Vec<Below>,
+    search: &mut Search,
+    key: Option<Key<'_>>,
+)
+    requires seat { IsSeatOf yard.now seat.old }
+    ensures seat { IsSeatOf yard.now seat.new }
+    ensures stands { KeepsStanding yard.now post.old below.old.items post.new below.new.items }
+{
+    let held = search.weigh(post, below);
+    if held as u64 > BUDGET || tally.is_full() {
+        search.wait(rt, key);
+        return;
+    }
+    steal_above(
+        rt, alloc, yard, seat, gate, tally, post, below, search, key, held,
+    );
 }
 
 /// Runs a job to its end. While it waits for a job that another worker has, it runs stolen ones. Without memory to
@@ -243,12 +306,14 @@ pub(crate) fn work<G: Gate, R: Wait>(
                     Below {
                         post: waiting,
                         duty,
+                        held: _,
                     },
                 ) => {
                     let mut ended = mem::replace(&mut post, waiting);
                     let effect = ended.effect(end);
                     ended.finish();
-                    settle(yard, seat, gate, tally.me, duty, effect);
+                    settle(yard, seat, gate, tally, duty, effect);
+                    search.rest();
                 }
                 None => {
                     let effect = post.effect(end);
@@ -281,11 +346,15 @@ pub(crate) fn help<G: Gate, R: Wait>(
         if yard.ended(seat) {
             return;
         }
+        if tally.is_full() {
+            search.wait(rt, key);
+            continue;
+        }
         match search.find(rt, yard, seat, me, key) {
             Some((job, duty)) => {
                 gate.turn(me, Moment::Stolen);
                 let effect = work(rt, alloc, yard, seat, gate, tally, job);
-                settle(yard, seat, gate, me, duty, effect);
+                settle(yard, seat, gate, tally, duty, effect);
                 search.rest();
             }
             None => {}

@@ -12,3 +12,4 @@ pub mod AppendLaws
 pub mod PieceShowLaws
 pub mod JoiningLaws
 pub mod TableLaws
+pub mod TrimLaws

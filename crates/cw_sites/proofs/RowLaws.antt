@@ -141,22 +141,22 @@ on_row piece old new n row past is own others = λ ours h.
 pub on_first : (piece old : Rows) (n : ℕ) → n < length piece.by_site.items → JoinsOn piece n (n + 1) old old
 on_first piece old n within = on_skip piece old n (n + 1) (omega arith) (λ q past from to. absurd (omega arith))
 
-pub on_page_free : (piece old : Rows) (shelf page : ℕ) → page < 32 → HasNoPage piece.further shelf page → JoinsOn piece (shelf * 2048 + page * 64) (shelf * 2048 + page * 64 + 64) old old
-on_page_free piece old shelf page less none = on_skip piece old (shelf * 2048 + page * 64) (shelf * 2048 + page * 64 + 64) (omega arith)
+pub on_page_free : (piece old : Rows) (shelf page : ℕ) → page < 32 → HasNoPage piece.further shelf page → JoinsOn piece (shelf * 256 + page * 8) (shelf * 256 + page * 8 + 8) old old
+on_page_free piece old shelf page less none = on_skip piece old (shelf * 256 + page * 8) (shelf * 256 + page * 8 + 8) (omega arith)
     (λ q past from to. let at = on_page shelf page q less from to in free_row piece q past (none none_kept q at.0 at.1))
 
-pub on_rest_free : (piece old : Rows) (shelf page : ℕ) → page ≤ 32 → HasNoPageFrom piece.further shelf page → JoinsOn piece (shelf * 2048 + page * 64) (shelf * 2048 + 2048) old old
-on_rest_free piece old shelf page less none = on_skip piece old (shelf * 2048 + page * 64) (shelf * 2048 + 2048) (omega arith)
+pub on_rest_free : (piece old : Rows) (shelf page : ℕ) → page ≤ 32 → HasNoPageFrom piece.further shelf page → JoinsOn piece (shelf * 256 + page * 8) (shelf * 256 + 256) old old
+on_rest_free piece old shelf page less none = on_skip piece old (shelf * 256 + page * 8) (shelf * 256 + 256) (omega arith)
     (λ q past from to. let at = on_pages_from shelf page q from to in free_row piece q past (none none_kept q at.0 at.1))
 
--- all shelves were added
-pub all_joined : (piece old new : Rows) (shelf shelves : ℕ) → shelf ≡ shelves → HasNoShelfFrom piece.further shelves → JoinsOn piece 0 (shelf * 2048) old new → JoinsFurther piece old new
+-- all shelves have been added
+pub all_joined : (piece old new : Rows) (shelf shelves : ℕ) → shelf ≡ shelves → HasNoShelfFrom piece.further shelves → JoinsOn piece 0 (shelf * 256) old new → JoinsFurther piece old new
 all_joined piece old new shelf shelves is none on = λ ours h q fits.
     let l = length piece.by_site.items in
     let O : ℕ → Type 0 = λ k. JoinsBelow piece k ours old in
     let start : l ≡ max l 0 = omega arith in
-    let j : JoinsBelow piece (max l (shelf * 2048)) ours new = on ours (subst O start h) in
-    elim (cases_lt q (max l (shelf * 2048))) [
+    let j : JoinsBelow piece (max l (shelf * 256)) ours new = on ours (subst O start h) in
+    elim (cases_lt q (max l (shelf * 256))) [
       | inl less ↦ j.within q less fits
       | inr more ↦ j.beyond q more ∙ sym (summed_none (row_of ours q)) ∙ ap (summed (row_of ours q)) (sym (free_row piece q (omega arith) (none none_kept q (on_shelves_from shelves q (omega arith)))))
     ]

@@ -9,5 +9,6 @@ pub mod SiteRows
 pub mod StepLists
 pub mod PathBounds
 pub mod Tables
+pub mod Trimmed
 pub mod Laws
 pub mod lemmas

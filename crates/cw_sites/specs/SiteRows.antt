@@ -193,11 +193,11 @@ JoinsFirsts piece old new = JoinsBelow piece (length piece.by_site.items) old ne
 
 -- adds the rows of the pages of a shelf
 abbrev pub JoinsShelf : (piece : Rows) → (shelf : ℕ) → Rows → Rows → Type 0
-JoinsShelf piece shelf old new = JoinsOn piece (shelf * 2048) (shelf * 2048 + 2048) old new
+JoinsShelf piece shelf old new = JoinsOn piece (shelf * 256) (shelf * 256 + 256) old new
 
 -- adds the rows of a page
 abbrev pub JoinsPage : (piece : Rows) → (shelf page : ℕ) → Rows → Rows → Type 0
-JoinsPage piece shelf page old new = JoinsOn piece (shelf * 2048 + page * 64) (shelf * 2048 + page * 64 + 64) old new
+JoinsPage piece shelf page old new = JoinsOn piece (shelf * 256 + page * 8) (shelf * 256 + page * 8 + 8) old new
 
 -- if the rows of the piece's vector were added, all rows are added
 abbrev pub JoinsFurther : (piece : Rows) → Rows → Rows → Type 0

@@ -55,6 +55,7 @@
 
 mod compacting;
 pub mod laws;
+mod memory;
 pub mod paths;
 pub mod rows;
 pub mod steps;

@@ -408,8 +408,8 @@ impl Rows {
 // Returns the number of the first site of a page.
 fn first_of(shelf: usize, page: usize) -> Result<usize, AllocError>
     requires { page < 32 }
-    ensures is { IfOk result (λ first. first ≡ shelf * 2048 + page * 64) }
-    ensures within { IfOk result (λ first. first + 64 < 2 ^ 64) }
+    ensures is { IfOk result (λ first. first ≡ shelf * 256 + page * 8) }
+    ensures within { IfOk result (λ first. first + 8 < 2 ^ 64) }
 {
     // Memory cannot hold more rows than a number can count.
     if shelf >= usize::MAX / SHELF {

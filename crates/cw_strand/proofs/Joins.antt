@@ -10,7 +10,7 @@ use Rattle.cw_code.specs.Run.{Around, State}
 use Rattle.cw_code.specs.Fits.{Fits}
 use Rattle.cw_code.specs.Staying.{SeatsLie, IsInside}
 use Rattle.cw_code.specs.lemmas.Lying.{outermost_is}
-use Rattle.cw_meter.specs.Meters.{Meters}
+use Rattle.cw_meter.specs.Meters.{Meters, TellsAsBefore}
 use Rattle.cw_meter.specs.Origins.{Main, Rest}
 use Rattle.cw_meter_laws.specs.Opens.{whole}
 use Rattle.cw_meter_laws.specs.Strands.{CallsKeepMeters, TellsAll}
@@ -209,10 +209,10 @@ module _ (keep : (code : Code) → CallsKeep code) (self : Strand) (limit : ℕ)
       -- an effect holds the frame and the arrays with which the machine ended
       abbrev pub TellsJoin : Run → Effect → Type 0
       TellsJoin r (effect.Joined frame replaced shown) =
-          EndsJob self.run.machine (length (its_parts self).rest.slices.items) frame replaced.items × IsShown r self.count shown
+          EndsJob v self.run.machine (length (its_parts self).rest.slices.items) frame replaced.items × IsShown r self.count shown
       TellsJoin r _ = ⊥
 
-      join_it : (r : Run) → r.meter ≡ self.run.meter → r.machine.lines.items ≡ self.run.machine.lines.items
+      join_it : (r : Run) → TellsAsBefore self.run.meter r.meter → r.machine.lines.items ≡ self.run.machine.lines.items
           → r.machine.totals.items ≡ self.run.machine.totals.items → (e : Effect) → TellsJoin r e → (is : IsFit (its_code self)) (j : jobs.Job)
           → CameTo self limit stop.Joined is j → MeansIt (its_code self) is (its_parts self) e j
       join_it r m l u (effect.Ended value shown) t is j c = absurd t
@@ -222,7 +222,7 @@ module _ (keep : (code : Code) → CallsKeep code) (self : Strand) (limit : ℕ)
       join_it r m l u (effect.GivenUp back) t is j c = absurd t
       join_it r m l u (effect.Joined frame replaced shown) t is j c =
           let at = c.at.1 in
-          let ends = t.0 v is j p.rest c.state (has_come_to stay seats is j c) refl in
+          let ends = t.0 is j p.rest c.state (has_come_to stay seats is j c) refl in
           let e0 = c.at.0 in
           let tells0 : TellsAll code p.detail (Rest p.site) (Going c.state c.later []) self.run.meter =
           subst (λ n. TellsAll code p.detail (Rest p.site) (Going c.state n []) self.run.meter) e0
@@ -237,11 +237,13 @@ module _ (keep : (code : Code) → CallsKeep code) (self : Strand) (limit : ℕ)
               shown_as code r self.count c.later shown c.state.trace t.1 c.at.0 (l ∙ at.lines)
                   (subst (λ z. HoldsTotals code z c.state.trace.updates) (sym u) at.totals),
             );
-            counts = λ g b. subst (λ z. Meters g.detail g.tags (Rest p.site) c.later [] c.state.trace.events z) (sym (t.1.meter ∙ m)) (measured.counts g b);
+            counts = λ g b.
+                subst (λ z. Meters g.detail g.tags (Rest p.site) c.later [] c.state.trace.events z) (sym t.1.meter)
+                (m g.detail g.tags (Rest p.site) c.later [] c.state.trace.events (measured.counts g b));
             homes = (ends.homes, ends.fixed);
           }
 
-      pub join_means : (r : Run) → r.meter ≡ self.run.meter → r.machine.lines.items ≡ self.run.machine.lines.items
+      pub join_means : (r : Run) → TellsAsBefore self.run.meter r.meter → r.machine.lines.items ≡ self.run.machine.lines.items
           → r.machine.totals.items ≡ self.run.machine.totals.items → (e : Effect) → TellsJoin r e → IsMeaningOf (its_job self) e
       unfolding IsMeaningOf
       join_means r m l u e t = λ is j job. ∥∥₁_map (h.comes is j job) (λ c. join_it r m l u e t is j c)

@@ -7,6 +7,7 @@ pub mod Starts
 pub mod Onward
 pub mod Same
 pub mod Halts
+pub mod Trimmed
 pub mod RunsOn
 pub mod Ends
 pub mod Joins

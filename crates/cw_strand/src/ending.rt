@@ -118,9 +118,12 @@ impl Strand {
         runs_stay_in_their_functions();
         let alloc = *self.lent.allocator();
         let mut replaced = Vec::new(alloc);
-        match self.run.machine.finish(&mut self.parts.rest, &mut replaced) {
+        self.run.meter.trim();
+        let mut frame = mem::replace(&mut self.parts.rest, empty_rest(alloc));
+        let machine = &mut self.run.machine;
+        match machine.finish(&self.parts.code, &mut frame, &mut replaced) {
             Ok(()) => Effect::Joined {
-                frame: mem::replace(&mut self.parts.rest, empty_rest(alloc)),
+                frame,
                 replaced,
                 shown: shown(&mut self.run, self.count),
             },

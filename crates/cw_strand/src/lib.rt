@@ -6,6 +6,7 @@ mod ending;
 mod giving;
 mod going;
 mod lending;
+mod memory;
 mod starting;
 mod stopping;
 pub mod strand;

@@ -34,3 +34,17 @@ pub struct FreeCell {
     pub ghost inside: { cell < token.table_id.slots },
     pub ghost free: { token.me ≡ (Owner cell Free, []) },
 }
+
+impl Ticket {
+    /// Returns the number of the cell that its job has, which the duty of the same job has too.
+    pub fn cell(&self) -> usize {
+        self.cell
+    }
+}
+
+impl Duty {
+    /// Returns the number of the cell in which the effect of its job is left.
+    pub fn cell(&self) -> usize {
+        self.cell
+    }
+}

@@ -40,10 +40,10 @@ pub move_all-requires-clause-see : goal.move_all-requires-clause-see
 move_all-requires-clause-see c = sees c.args.self.now (length c.args.rest.now.slices.items) c.requires.can
 
 pub returns-clause-ends : goal.returns-clause-ends
-returns-clause-ends c = λ v is j r s come count.
-    job_ends v is j r c.args.self.now s come
+returns-clause-ends c = λ is j r s come count.
+    job_ends c.args.code.now is j r c.args.self.now s come
     (record { place = c.move_all.new.self.place; depth = c.move_all.new.self.depth; cells = c.in_ok-cells.cells; slices = c.move_all.new.slices })
     c.move_all.new.replaced.items
     (subst (λ n. SlotsEnd c.args.self.now n c.move_all.new.slices.items c.move_all.new.replaced.items) (sym count) c.move_all.ensures.ends)
-    (subst (λ l. AreFrom l c.args.self.now.first c.in_ok-cells.cells.items) c.as_slice.ensures.value c.in_ok-cells.ensures)
+    (subst (λ l. AreFrom l c.args.self.now.first c.args.code.now.most_room c.in_ok-cells.cells.items) c.as_slice.ensures.value c.in_ok-cells.ensures)
     c.move_all.ensures.place

@@ -18,5 +18,5 @@ pub returns : goal.returns
 returns c =
     let f = c.in_ok-first.first in
     let n = c.loop-number.number in
-    let s = c.args.shelf * 2048 + c.args.page * 64 in
-    on_more c.args.piece.now c.args.self.now c.args.self.now c.loop-number.self s s f (f + n) (s + 64) (omega (arith, c.in_ok-first.ensures.is)) (omega (arith, c.in_ok-first.ensures.is)) (on_none c.args.piece.now c.args.self.now s s refl) c.loop-number.invariant
+    let s = c.args.shelf * 256 + c.args.page * 8 in
+    on_more c.args.piece.now c.args.self.now c.args.self.now c.loop-number.self s s f (f + n) (s + 8) (omega (arith, c.in_ok-first.ensures.is)) (omega (arith, c.in_ok-first.ensures.is)) (on_none c.args.piece.now c.args.self.now s s refl) c.loop-number.invariant
