@@ -33,6 +33,7 @@ ghost use Rattle.cw_words.specs.Rows.{IsGivenNumber};
 use crate::asked::{Options, Request, Said};
 use crate::command::command;
 use crate::edges::edges_of;
+use crate::misused::misuse_text;
 use crate::number::{BURDEN, LIMIT, NumberOption, PROCESSORS, TOP, WORKERS, read_number};
 use crate::verb::{Verb, mode_of, verb_named};
 use clap::error::ErrorKind;
@@ -166,6 +167,9 @@ fn said_of(alloc: Global, error: &Error) -> Said
     match error.kind() {
         ErrorKind::OutOfMemory => Said::Fault(Fault::Memory),
         ErrorKind::DisplayHelp | ErrorKind::DisplayVersion => Said::Help(text),
-        _ => Said::Misuse(text),
+        _ => match misuse_text(alloc, text.as_str()) {
+            Ok(text) => Said::Misuse(text),
+            Err(_) => Said::Fault(Fault::Memory),
+        },
     }
 }
