@@ -19,6 +19,9 @@ use std::sync::{Arc, Wait};
 use std::thread::Threads;
 use std::{env, io};
 
+/// The word that names standard input in the place of a file.
+const STANDARD_INPUT: &str = "-";
+
 fn main(rt: HostRuntime) -> ExitCode {
     let alloc = rt.alloc();
     let mut out = Counted::new(io::writer(&rt));
@@ -41,6 +44,13 @@ fn main(rt: HostRuntime) -> ExitCode {
                         say_why(alloc, words.as_slice(), &said, &mut out, &mut err)
                     }
                     Err(said) => say(&said, &mut out, &mut err),
+                    Ok(asked) if asked.file.as_str() == STANDARD_INPUT => {
+                        let mut asked = asked;
+                        asked.explain = explain;
+                        asked.file = String::new(alloc);
+                        let mut source = Counted::new(rt.reader());
+                        answer(&rt, alloc, &asked, &mut source, &mut out, &mut err)
+                    }
                     Ok(asked) => {
                         let mut asked = asked;
                         asked.explain = explain;

@@ -334,6 +334,25 @@ const NO_COMMANDS: &[Misuse] = &[
         "error: unexpected argument '--version' found\n",
     ),
     ("run f -V", "error: unexpected argument '-V' found\n"),
+    // a file in the place of the command
+    (
+        "fib.cilk 10",
+        "error: unrecognized subcommand 'fib.cilk'\n\n  tip: to run a program, use 'cilkwork run fib.cilk 10'\n",
+    ),
+    // options of other commands, and a negative number
+    (
+        "greedy 2 f --burden 9",
+        "error: unexpected argument '--burden' found\n\n  tip: the options of this command are --limit, --workers, --explain and --help\n",
+    ),
+    (
+        "run f -5",
+        "error: unexpected argument '-5' found\n\n  tip: an argument of main is a number from 0 to 9223372036854775807\n",
+    ),
+    // control characters
+    (
+        "run f --\x1b[31m",
+        "error: unexpected argument '--\\x1b[31m' found\n",
+    ),
     // after `--` the word is an argument of main
     ("run f -- --explain", "arguments\n"),
 ];

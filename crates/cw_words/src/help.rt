@@ -8,8 +8,8 @@ part of the source, and scale reports it in a row with the tag NAME.
 LANGUAGE.md describes the language, GUIDE.md how to read a report, and examples/
 has programs to begin with. They are in PREFIX/share/doc/cilkwork if the program
 is installed in PREFIX/bin, and in docs/ and examples/ of the repository.
-'cilkwork COMMAND --help' describes one command. Without a command, the program
-runs the source on standard input without ARGS.
+'cilkwork COMMAND --help' describes one command. FILE - is standard input.
+Without a command, the program runs the source on standard input without ARGS.
 
 Standard output:
   check  'ok' if the source compiles

@@ -7,6 +7,7 @@ pub mod edges;
 mod explaining;
 mod help;
 pub mod laws;
+mod misused;
 pub mod number;
 mod release;
 mod verb;

@@ -16,6 +16,20 @@ pub enum Verb {
     Greedy,
 }
 
+impl Verb {
+    /// Returns the options that the command accepts, as a list in words.
+    pub fn options(self) -> &'static str {
+        match self {
+            Verb::Check => "--explain and --help",
+            Verb::Run | Verb::Scale | Verb::Sites => {
+                "--limit, --burden, --edges, --workers, --explain and --help"
+            }
+            Verb::Gain => "--limit, --burden, --edges, --workers, --top, --explain and --help",
+            Verb::Greedy => "--limit, --workers, --explain and --help",
+        }
+    }
+}
+
 /// The verb of this name, if there is one.
 pub fn verb_named(name: &str) -> Option<Verb>
     ensures { IsVerbNamed name.now result }

@@ -33,6 +33,7 @@ ghost use Rattle.cw_words.specs.Rows.{IsGivenNumber};
 use crate::asked::{Options, Request, Said};
 use crate::command::command;
 use crate::edges::edges_of;
+use crate::misused::misuse_text;
 use crate::number::{BURDEN, LIMIT, NumberOption, PROCESSORS, TOP, WORKERS, read_number};
 use crate::verb::{Verb, mode_of, verb_named};
 use clap::error::ErrorKind;
@@ -54,7 +55,7 @@ pub fn request(alloc: Global, words: &[String]) -> Result<Request, Said>
 {
     let matches = match matches_of(alloc, words) {
         Ok(matches) => matches,
-        Err(error) => return Err(said_of(alloc, &error)),
+        Err(error) => return Err(said_of(alloc, &error, words)),
     };
     let Some((verb, given)) = command_given(&matches) else {
         return Err(Said::Fault(Fault::Arguments));
@@ -156,7 +157,7 @@ fn push_arg(args: &mut Vec<i64>, text: &str) -> Result<(), Fault>
 }
 
 // The help, or what is wrong with the words.
-fn said_of(alloc: Global, error: &Error) -> Said
+fn said_of(alloc: Global, error: &Error, words: &[String]) -> Said
     ensures { IsSaidAt (kind_of error.now) result }
 {
     let text = match error.to_string(alloc) {
@@ -166,6 +167,9 @@ fn said_of(alloc: Global, error: &Error) -> Said
     match error.kind() {
         ErrorKind::OutOfMemory => Said::Fault(Fault::Memory),
         ErrorKind::DisplayHelp | ErrorKind::DisplayVersion => Said::Help(text),
-        _ => Said::Misuse(text),
+        _ => match misuse_text(alloc, text.as_str(), words) {
+            Ok(text) => Said::Misuse(text),
+            Err(_) => Said::Fault(Fault::Memory),
+        },
     }
 }
