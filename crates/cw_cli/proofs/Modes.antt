@@ -1,10 +1,10 @@
--- Which modes run a program, and which of them have tables.
+-- The modes that run a program, and the modes that have tables.
 use Rattle.std.proofs.Common.{◌≡◌, ◌≢◌, ◌∙◌, ◌⊎◌, inl, inr, ℕ, sym, subst}
 use Rattle.cw_words.specs.declared.asked.Mode.{Mode}
 use Rattle.cw_words.specs.declared.asked.Mode.TheVariants as mode
 use Rattle.cw_cli.specs.Told.{HasTables}
 
--- what runs is none of a check
+-- a mode that runs a program is not a check
 pub running : (m k : Mode) → m ≡ k → k ≢ mode.Check → m ≢ mode.Check
 running m k is not check = not (sym is ∙ check)
 

@@ -1,4 +1,4 @@
--- The rows that a run tells of are those of its tree.
+-- The rows that a run reports are the rows of its tree.
 use Rattle.std.proofs.Common.{◌≡◌, ◌∙◌, ◌+◌, ℕ, ℤ, suc, true, List, [], ◌∷◌, ◌++◌, length, Some, Ok, flat_map, map, refl, sym, ap, ap₂, subst, arith}
 use Rattle.std.specs.Prelude.{nat_eq, slice_get, decimal}
 use Rattle.std.proofs.lemmas.List.{length-map}
@@ -83,7 +83,7 @@ rows_are n (s ∷ all) (row ∷ rows) t count numbered h =
     ap₂ (λ a b. a ++ b) (row_is t s row (h 0 s.number row (omega (arith, number)) refl))
     (rows_are (suc n) all rows t (omega (arith, count)) split.1 (λ k site r at there. h (suc k) site r (omega (arith, at)) there))
 
--- the root's row, and those of the call statements behind it
+-- the root's row, and the rows of the call statements after it
 all_rows_are : (root : CallSite) (all : List CallSite) (rows : List SiteRow) (t : Tree) → root.number ≡ 0 → are_numbered 0 all ≡ true → AreSiteRows (length all + 1) t rows
     → row_lines (root ∷ all) rows ≡ flat_map (site_line t) (root ∷ all)
 all_rows_are root all [] t first numbered h = let e = h.as_many in absurd (omega (arith, e))
@@ -106,7 +106,7 @@ sites_are program code e t told line numbered rows =
 
 -- ---- gains
 
--- the line of a function, in a run of this work
+-- the line of a function, in a run with this work
 abbrev line_of : ℕ → FreeRow → List ℕ
 line_of work r = gain_line r.counted work r.span r.burdened
 
@@ -127,7 +127,7 @@ whole_is t work' span' burdened burdened' w s b =
     ∙ ap (λ x. gain_line (record { name = []; line = 0; calls = 0; own_work = work t; own_span = x }) (work t) x burdened') s
     ∙ ap (gain_line (whole_row t) (work t) (span t)) b
 
--- all call sites of the code of a program are the program's
+-- all call sites of the code of a program are the call sites of the program
 all_sites_are : (program : Program) (code : Code) → told_sites code ≡ call_sites program → code.main_line ≡ (root_site program).line → all_sites code ≡ sites_of program
 all_sites_are program code told line = ap₂ (λ l all. root_at l ∷ all) line told
 

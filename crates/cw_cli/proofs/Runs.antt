@@ -1,4 +1,4 @@
--- From what a run of code answers to what its program means.
+-- From the result of a run of code to the meaning of its program.
 use Rattle.std.proofs.Common.{◌≡◌, ◌≢◌, ℕ, ℤ, true, ◌&&◌, ◌<◌, ◌≤◌, List, [], ◌∷◌, ◌++◌, length, Some, Result, Ok, Err, IsErrAnd, flat_map, map, refl, sym, ap, ◌∙◌, subst, arith}
 use Rattle.std.specs.Prelude.{nat_eq, nat_le, codes, decimal, MatchResult}
 use Rattle.std.specs.Global.{Vec}
@@ -47,19 +47,19 @@ use Rattle.cw_cli.specs.Schedules.{HasTooManyStrands, IsScheduled, IsScheduledIn
 use Rattle.cw_cli.specs.Told.{HasTables, told_of}
 use Rattle.cw_cli.proofs.Rows.{scale_is, sites_are, gains_are}
 use Rattle.cw_code.specs.Heads.{head_view}
-use Rattle.cw_gains.specs.Gains.{Gains, GainsAsCode}
+use Rattle.cw_gains.specs.Gains.{Gains, HasNumberedSites}
 use Rattle.cw_code.specs.declared.head.Head as counted
 use Rattle.cw_gains.specs.declared.gains.Gains as declared
 use Rattle.cw_model.specs.SiteLaw.{SitesAreNumbered}
 use Rattle.cw_model.specs.Sites.{call_sites, are_numbered, heads_of}
 
--- reducers as code keeps them, which has no line of theirs, have the same lines
+-- reducers in code, which have no line, print the same lines as the reducers of the program
 coded_lines : (reducers : List Reducer) (totals : List Total) → totals_text (coded_reducers reducers) totals ≡ total_lines reducers totals
 coded_lines [] totals = refl
 coded_lines (r ∷ rs) [] = refl
 coded_lines (r ∷ rs) (v ∷ vs) = ap (λ lines. reduction_word r.how ++ (r.name ++ (codes " = " ++ (total_line v ++ lines)))) (coded_lines rs vs)
 
--- whether a run ended, as an analysis answers it
+-- the result of an analysis: whether the run ended
 abbrev result_of : {V : Type 0} → Result V Fault → Result (Unit {0}) Fault
 result_of (Ok e) = Ok tt
 result_of (Err f) = Err f
@@ -70,12 +70,18 @@ not_over a has over = subst analyses.HasEnded over has
 trap_not_over : {trap : Trap} {line : ℕ} {lines : List ℤ} → TrappedAt trap line lines ≡ OverLimit → ⊥
 trap_not_over e = cc
 
--- the report of values, of code that carries what reports tell of the program
+-- the report of values, for code that carries what reports show of the program
 values_are : (program : Program) (code : Code) (burden : Burden) (e : Values) (tree : Tree) → Generates program code
     → handed_text code (Ok e) ≡ report_text report.Run program burden (Ended e.value e.lines.items e.totals.items tree)
 values_are program code burden e tree g =
     ap (λ part. flat_map value_line e.lines.items ++ (part ++ (codes "return " ++ value_line e.value)))
     (ap (λ reducers. totals_text reducers e.totals.items) g.reducers ∙ coded_lines program.reducers e.totals.items)
+
+-- the call sites of code that is compiled are numbered
+pub sites_numbered : SitesAreNumbered → (bytes : List ℕ) (code : Code) → IsCompiled bytes code → HasNumberedSites code
+sites_numbered law bytes code compiled =
+    let source = compiled.compiles.accepted.source in
+    ap (are_numbered 0) compiled.generates.sites ∙ law bytes source.tokens compiled.program source.parsed.derived
 
 -- the report that is asked for of what is counted
 report_is : (m : Mode) (program : Program) (code : Code) (args : List ℤ) (n : ℕ) (burden : Burden) (e : run.Ended) (r : Runs code args n burden e) → HasTables m
@@ -91,7 +97,7 @@ printed_is mode.Scale program code burden trap line lines has = refl
 printed_is mode.Sites program code burden trap line lines has = refl
 printed_is _ program code burden trap line lines has = absurd has
 
--- of a run that has no tables for another reason nothing is told
+-- the report of a run that has no tables, for another reason than a trap, is empty
 over_is : (m : Mode) (code : Code) → told_of m code (Err fault.OverLimit) ≡ []
 over_is mode.Check code = refl
 over_is mode.Run code = refl
@@ -135,7 +141,7 @@ tables_scheduled mode.Scale a has = tt
 tables_scheduled mode.Sites a has = tt
 tables_scheduled _ a has = absurd has
 
--- of a trap no schedule is told
+-- a run that trapped has no schedule to report
 trap_scheduled : (m : Mode) (trap : Trap) (line : ℕ) (lines : List ℤ) → IsScheduledIn m (TrappedAt trap line lines)
 trap_scheduled mode.Check trap line lines = tt
 trap_scheduled mode.Run trap line lines = tt
@@ -153,7 +159,7 @@ row_is p p' work work' span span' steps steps' a b c d =
     ∙ ap (λ x. csv_line (decimal p' ∷ decimal work' ∷ decimal x ∷ decimal steps ∷ [])) c
     ∙ ap (λ x. csv_line (decimal p' ∷ decimal work' ∷ decimal span' ∷ decimal x ∷ [])) d
 
--- a sink that stayed as it was counts no further failed write
+-- a sink that is unchanged counts no further failed write
 no_part : {W : Type 0} (seen : W → Seen) (old new : W) (text : List ℕ) → new ≡ old → WritesPart (seen old) (seen new) text → ⊥
 no_part seen old new text same part = let e : (seen new).failures ≡ (seen old).failures = ap (λ w. (seen w).failures) same in omega (arith, e, part.failed)
 
@@ -164,7 +170,7 @@ module _ (bytes : List ℕ) (args : List ℤ) (words : list_all fits args ≡ tr
   abbrev answer : Answer
   answer = analyses.answer_to compiled.program args options
 
-  -- a run asks for what is in range
+  -- a valid request allows the run
   may : (burden : Burden) → IsModeInRange options.mode → options.burden.charge ≤ MOST_BURDEN → is_request code args options.limit burden ≡ true → May
   may burden of_mode low h =
       let n = and_parts (nat_eq (length args) (main_params code)) (nat_le 1 options.limit && (nat_le options.limit MOST_LIMIT && nat_le burden.charge MOST_BURDEN)) h in
@@ -175,7 +181,7 @@ module _ (bytes : List ℕ) (args : List ℤ) (words : list_all fits args ≡ tr
         in_range = record { mode = of_mode; some_limit = le_of 1 options.limit l.0; limit = le_of options.limit MOST_LIMIT b.0; burden = low };
       }
 
-  -- with the burden of the options
+  -- the burden of the options is in range if the request is valid
   burden_of : is_request code args options.limit options.burden ≡ true → options.burden.charge ≤ MOST_BURDEN
   burden_of h =
       let n = and_parts (nat_eq (length args) (main_params code)) (nat_le 1 options.limit && (nat_le options.limit MOST_LIMIT && nat_le options.burden.charge MOST_BURDEN)) h in
@@ -201,7 +207,7 @@ module _ (bytes : List ℕ) (args : List ℤ) (words : list_all fits args ≡ tr
   abbrev pub report_of : Answer → List ℕ
   report_of a = analyses.text_in options.mode compiled.program options.burden a
 
-  -- a run that ended: what the code means by it, and what is told of it
+  -- a run that ended: the meaning of its code, and its report
   pub record EndsAs (text : List ℕ) : Type 0 where
     pub may_run : May
     pub end : Answer
@@ -210,7 +216,7 @@ module _ (bytes : List ℕ) (args : List ℤ) (words : list_all fits args ≡ tr
     pub scheduled : IsScheduledIn options.mode end
     pub told : text ≡ report_of end
 
-  -- why there is nothing to tell
+  -- the reason why a run has no report
   abbrev pub IsUnrun : Fault → Type 0
   IsUnrun fault.OverLimit = May × (answer ≡ OverLimit)
   IsUnrun (fault.Trap trap line lines) = May × (answer ≡ TrappedAt trap line lines.items)
@@ -219,7 +225,7 @@ module _ (bytes : List ℕ) (args : List ℤ) (words : list_all fits args ≡ tr
   IsUnrun fault.Memory = Unit {0}
   IsUnrun _ = ⊥
 
-  -- what is told of the outcome of a run is its report
+  -- the text for the outcome of a run is its report
   pub record Tells {V : Type 0} (ran : V → Type 0) (failed : Fault → Type 0) (told : Result V Fault → List ℕ) : Type 0 where
     pub ended : (e : V) → ran e → EndsAs (told (Ok e))
     pub unrun : (f : Fault) → failed f → IsUnrun f
@@ -229,7 +235,7 @@ module _ (bytes : List ℕ) (args : List ℤ) (words : list_all fits args ≡ tr
     pub arguments : told (Err fault.Arguments) ≡ []
     pub strands : (count : ℕ) → told (Err (fault.Strands count)) ≡ []
 
-  -- a run with another mode than a schedule
+  -- a run in a mode other than a schedule
   unrun_of : IsModeInRange options.mode → (f : Fault) → IsFailure code args options.limit options.burden f → IsUnrun f
   unrun_of of_mode fault.OverLimit h = let m = may_run_so of_mode h.0 in (m, answer_is m OverLimit h.1)
   unrun_of of_mode (fault.Trap trap line lines) h = let m = may_run_so of_mode h.0 in (m, answer_is m (TrappedAt trap line lines.items) h.1)
@@ -262,7 +268,7 @@ module _ (bytes : List ℕ) (args : List ℤ) (words : list_all fits args ≡ tr
         strands = λ count. refl;
       }
 
-  -- what is counted of a run
+  -- the measures of a run
   pub tables_tell : HasTables options.mode → SitesAreNumbered → Tells (Runs code args options.limit options.burden) (IsFailure code args options.limit options.burden) (told_of options.mode code)
   tables_tell has law =
       let source = compiled.compiles.accepted.source in
@@ -288,7 +294,7 @@ module _ (bytes : List ℕ) (args : List ℤ) (words : list_all fits args ≡ tr
         strands = strands_are options.mode code;
       }
 
-  -- what functions of a run would bring
+  -- the gains of functions of a run
   pub gains_tell : (heads : List counted.Head) (top : ℕ) → options.mode ≡ mode.Gain top → IsModeInRange options.mode → map head_view heads ≡ heads_of compiled.program
       → Tells (Gains code heads args options.limit options.burden top) (IsFailure code args options.limit options.burden) gain_report
   gains_tell heads top is of_mode heads_are = record {
@@ -311,13 +317,6 @@ module _ (bytes : List ℕ) (args : List ℤ) (words : list_all fits args ≡ tr
     arguments = refl;
     strands = λ count. refl;
   }
-
-  -- what is said of code whose call sites are numbered
-  pub told_as : SitesAreNumbered → (heads : List counted.Head) (top : ℕ) (gains : Result declared.Gains Fault) → GainsAsCode code heads args options.limit options.burden top gains
-      → MatchResult gains (Gains code heads args options.limit options.burden top) (IsFailure code args options.limit options.burden)
-  told_as law heads top gains h =
-      let source = compiled.compiles.accepted.source in
-      h (ap (are_numbered 0) compiled.generates.sites ∙ law bytes source.tokens compiled.program source.parsed.derived)
 
   -- the schedule of a run on so many processors, where the burden is in range
   module _ (p : ℕ) (is : options.mode ≡ mode.Greedy p) (low : options.burden.charge ≤ MOST_BURDEN) where
@@ -373,14 +372,14 @@ module _ (bytes : List ℕ) (args : List ℤ) (words : list_all fits args ≡ tr
   text_is a text e told = told ∙ sym (ap report_of e)
 
   module _ {V : Type 0} (ran : V → Type 0) (failed : Fault → Type 0) (told : Result V Fault → List ℕ) (tells : Tells ran failed told) {W : Type 0} (seen : W → Seen) (old new : W) where
-    -- a run gives what the code's meaning gives, or tells why not
+    -- a run returns what the meaning of the code defines, or the reason why it does not
     abbrev RanAs : Result V Fault → Type 0
     RanAs r = MatchResult r ran failed
 
     scheduled_of : (e : V) (r : ran e) → analyses.IsScheduleOf compiled.program args options
     scheduled_of e r = let ends = tells.ended e r in subst (IsScheduledIn options.mode) (sym ends.is) ends.scheduled
 
-    -- a run that ended, and its text was written
+    -- a run that ended, and whose report was written
     reported : (e : V) → ran e → WritesAll (seen old) (seen new) (told (Ok e)) → analyses.IsReported seen old new bytes args options
     reported e r took =
         let ends = tells.ended e r in
@@ -392,7 +391,7 @@ module _ (bytes : List ℕ) (args : List ℤ) (words : list_all fits args ≡ tr
           took = subst (λ text. WritesAll (seen old) (seen new) text) (text_is ends.end (told (Ok e)) ends.is ends.told) took;
         }
 
-    -- a run that did not end, and what is told of it was written
+    -- a run that did not end, and whose text was written
     unreported_as : (f : Fault) → IsUnrun f → WritesAll (seen old) (seen new) (told (Err f)) → (told (Err f) ≡ [] → new ≡ old) → analyses.IsUnreported seen old new bytes args options f
     unreported_as fault.OverLimit h took idle =
         record { program = compiled.program; run = run_of h.0; over = h.1; untouched = idle tells.over }
@@ -417,13 +416,13 @@ module _ (bytes : List ℕ) (args : List ℤ) (words : list_all fits args ≡ tr
     finished_itself (Ok e) r took idle = reported e r took
     finished_itself (Err f) h took idle = unreported f h took idle
 
-    -- a run that ended with a value, and its text was written
+    -- a run that ended with a value, and whose report was written
     pub finished : (ended : Result V Fault) (e : V) → ended ≡ Ok e → RanAs ended → WritesAll (seen old) (seen new) (told ended)
         → (told ended ≡ [] → new ≡ old) → analyses.IsReported seen old new bytes args options
     finished ended e same h took idle =
         subst (λ r. analyses.IsRun seen old new bytes args options (result_of r)) same (finished_itself ended h took idle)
 
-    -- one that has none
+    -- a run that ended without a value
     pub stopped : (ended : Result V Fault) (f : Fault) → ended ≡ Err f → RanAs ended → WritesAll (seen old) (seen new) (told ended)
         → (told ended ≡ [] → new ≡ old) → analyses.IsUnreported seen old new bytes args options f
     stopped ended f same h took idle =
@@ -466,7 +465,7 @@ module _ (bytes : List ℕ) (args : List ℤ) (words : list_all fits args ≡ tr
 -- ---- a check
 
 module _ {W : Type 0} (seen : W → Seen) (old new : W) (bytes : List ℕ) (args : List ℤ) (options : Options) where
-  -- what is answered in the mode that is asked for
+  -- the result of an analysis in the mode that is asked for
   in_mode : (m : Mode) → options.mode ≡ m → (r : Result (Unit {0}) Fault) → analyses.IsAnalysedIn seen old new bytes args options m r → analyses.IsAnalysed seen old new bytes args options r
   in_mode m is r h = subst (λ k. analyses.IsAnalysedIn seen old new bytes args options k r) (sym is) h
 
@@ -495,17 +494,17 @@ module _ {W : Type 0} (seen : W → Seen) (old new : W) (bytes : List ℕ) (args
   in_running_mode (mode.Gain top) runs r h = h
   in_running_mode (mode.Greedy processors) runs r h = h
 
-  -- what a run answers, where a run is asked for
+  -- the result of a run, if the mode runs the program
   pub run_is : options.mode ≢ mode.Check → (r : Result (Unit {0}) Fault) → analyses.IsRun seen old new bytes args options r → analyses.IsAnalysed seen old new bytes args options r
   run_is runs r h = in_running_mode options.mode runs r h
 
--- the number that the mode has is out of range
+-- the number in the mode is out of range
 pub out_of_range : {W : Type 0} (seen : W → Seen) (old : W) (bytes : List ℕ) (args : List ℤ) (options : Options) (code : Code) → IsCompiled bytes code → (m : Mode) (f : Fault) → options.mode ≡ m
     → f ≡ fault.Arguments → ¬ (IsModeInRange m) → analyses.IsUnreported seen old old bytes args options f
 out_of_range seen old bytes args options code compiled m f is same not = subst (analyses.IsUnreported seen old old bytes args options) (sym same)
     (record { program = compiled.program; compiles = compiled.compiles; misused = λ may. not (subst IsModeInRange is may.in_range.mode); untouched = refl })
 
--- ---- bytes that are refused
+-- ---- bytes that are rejected
 
 run_refusal : {W : Type 0} (seen : W → Seen) (old : W) (bytes : List ℕ) (args : List ℤ) (options : Options) (f : Fault) → IsRefused bytes f → analyses.IsUnreported seen old old bytes args options f
 run_refusal seen old bytes args options (fault.Lexical p) h = record { refused = h; untouched = refl }
@@ -534,13 +533,13 @@ refused_in seen old bytes args options mode.Sites f h = run_refusal seen old byt
 refused_in seen old bytes args options (mode.Gain top) f h = run_refusal seen old bytes args options f h
 refused_in seen old bytes args options (mode.Greedy processors) f h = run_refusal seen old bytes args options f h
 
--- bytes that are refused, in any mode
+-- bytes that are rejected, in every mode
 pub refusal : {W : Type 0} (seen : W → Seen) (old : W) (bytes : List ℕ) (args : List ℤ) (options : Options) (f : Fault) → IsRefused bytes f
     → (r : Result (Unit {0}) Fault) → IsErrAnd r (λ x. x ≡ f) → analyses.IsAnalysed seen old old bytes args options r
 refusal seen old bytes args options f h (Ok done) e = absurd e
 refusal seen old bytes args options f h (Err g) e = refused_in seen old bytes args options options.mode g (subst (IsRefused bytes) (sym e) h)
 
--- a crew that is as large as it may be, and one that is larger
+-- a crew of at most the maximum size, and a larger one
 pub by_crew : {W : Type 0} (seen : W → Seen) (old new : W) (bytes : List ℕ) (args : List ℤ) (options : Options) (bodies : ℕ) (r : Result (Unit {0}) Fault)
     → bodies ≤ MOST_BODIES → analyses.IsAnalysed seen old new bytes args options r → analyses.IsAnalysedBy seen old new bytes args options bodies r
 by_crew seen old new bytes args options bodies r few h = record { fits = λ _. h; refused = λ many. absurd (omega (arith, few, many)); untouched = λ many. absurd (omega (arith, few, many)) }

@@ -1,4 +1,4 @@
--- A source of which one byte too many is read at most, and lines on standard error.
+-- A source is read up to one byte past its limit, and lines are written to standard error.
 use Rattle.std.proofs.Common.{◌≡◌, ℕ, ℤ, option_map, IfSome, ◌<◌, ◌≤◌, ◌⊎◌, inl, inr, List, [], ◌++◌, ◌+◌, length, take}
 use Rattle.std.proofs.Common.{Option, Some, None, Result, Ok, Err, refl, sym, subst, arith, Bool, true, false}
 use Rattle.std.proofs.lemmas.List.{append-nil, take_all, length-take-le}
@@ -20,7 +20,7 @@ use Rattle.cw_cli.specs.Tools as tools
 use Rattle.cw_words.specs.declared.asked.Request.{Request}
 use Rattle.cw_words.specs.declared.asked.Options.{Options}
 
--- a write whose answer is dropped
+-- a write whose result is dropped
 pub tries : {W A : Type 0} (seen : W → Seen) (old new : W) (text : List ℕ) (r : Result A Fault) → Writes (seen old) (seen new) text r → tools.TriesText seen old new text
 tries seen old new text (Ok x) p = inl p
 tries seen old new text (Err e) p = inr p.1
@@ -33,7 +33,7 @@ idle seen w = inl (record { bytes = nothing (seen w).bytes; failed = refl })
     nothing None = tt
     nothing (Some xs) = sym (append-nil xs)
 
--- a text with nothing behind it
+-- a text with nothing after it
 pub alone : {W : Type 0} (seen : W → Seen) (old new : W) (explain : Bool) (text : List ℕ) → tools.TriesText seen old new text → tools.IsTold seen old new explain text
 alone seen old new explain text p = record { between = new; line = p; behind = []; explanation = idle seen new; plain = λ _. refl }
 
@@ -49,7 +49,7 @@ shorter_or_longer n m = tested (nat_le n m) refl
     tested false e = inr (grind (arith, nat_tests, e))
 
 module _ (bytes : List ℕ) (long : MOST_SOURCE_BYTES < length bytes) where
-  -- one byte too many is read too
+  -- if the source is too long, the byte past the limit is read, too
   too_long : MOST_SOURCE_BYTES < length (take most_read bytes)
   too_long = let e = length-take-le most_read bytes (omega (arith, long)) in omega (arith, e)
 
@@ -123,7 +123,7 @@ module _ (bytes : List ℕ) (long : MOST_SOURCE_BYTES < length bytes) where
     long_whole (mode.Greedy processors) r h = run_whole r h
 
 module _ {W : Type 0} (seen : W → Seen) (old new : W) (args : List ℤ) (options : Options) where
-  -- what an analysis of the bytes that were read answers is answered for the whole source
+  -- the result of an analysis of the bytes that were read is the result for the whole source
   whole : (bytes : List ℕ) (r : Result (Unit {0}) Fault) → IsAnalysed seen old new (take most_read bytes) args options r → IsAnalysed seen old new bytes args options r
   whole bytes r h = by_length (shorter_or_longer (length bytes) MOST_SOURCE_BYTES)
     where
@@ -131,26 +131,26 @@ module _ {W : Type 0} (seen : W → Seen) (old new : W) (args : List ℤ) (optio
       by_length (inl short) = subst (λ bs. IsAnalysed seen old new bs args options r) (take_all most_read bytes (omega (arith, short))) h
       by_length (inr long) = long_whole bytes long seen old new args options options.mode r h
 
-  -- so is what an analysis by a crew answers
+  -- the result of an analysis by a crew is the result for the whole source, too
   whole_by : (bytes : List ℕ) (bodies : ℕ) (r : Result (Unit {0}) Fault) → IsAnalysedBy seen old new (take most_read bytes) args options bodies r
       → IsAnalysedBy seen old new bytes args options bodies r
   whole_by bytes bodies r h = record { fits = λ few. whole bytes r (h.fits few); refused = h.refused; untouched = h.untouched }
 
--- the count of failed reads grew
+-- the number of failed reads increased
 pub grew : (before after old new : ℕ) → before ≡ old → after ≡ new → before < after → old < new
 grew before after old new b a h = omega (arith, b, a, h)
 
--- what a read that did not fail tells
+-- the postcondition of a read that did not fail
 pub on_ok : {A E : Type 0} (r : Result A E) (P : Type 0) → is_err r ≡ false → OnOk r P → P
 on_ok (Ok x) P h p = p
 on_ok (Err e) P h p = cc
 
--- what holds of all bytes holds of those of a source
+-- a property of all bytes holds for the bytes of a source
 pub of_any : (known : Option (List ℕ)) (P : List ℕ → Type 0) → ((bytes : List ℕ) → P bytes) → tools.OnItsBytes known P
 of_any None P h = ([], tt, h [])
 of_any (Some bytes) P h = (bytes, refl, h bytes)
 
--- the bytes that were read, where more is not known, or the whole source
+-- the bytes that were read, if nothing else is known, or the whole source
 of_read : (known : Option (List ℕ)) (read : List ℕ) → IfSome (option_map (take most_read) known) (λ bytes. read ≡ bytes) → (P : List ℕ → Type 0) → P read
     → ((bytes : List ℕ) → read ≡ take most_read bytes → P bytes) → tools.OnItsBytes known P
 of_read None read h P here more = (read, tt, here)
@@ -158,7 +158,7 @@ of_read (Some bytes) read h P here more = (bytes, refl, more bytes h)
 
 module _ {W E : Type 0} (seen : W → Seen) (seen' : E → Seen) (old new : W) (old' new' : E) (asked : Request) (bodies reads_before reads_after : ℕ) where
   module _ {D : Type 0} (remaining : D → Option (List ℕ)) (source inner : D) (limit : ℕ) (before read slice : List ℕ) (args : List ℤ) where
-    -- what the bytes that were read come to is the answer on the source
+    -- the result for the bytes that were read is the answer for the source
     pub answered : limit ≡ most_read → inner ≡ source → before ≡ [] → slice ≡ read → args ≡ asked.args.items →
         IfSome (option_map (take limit) (remaining inner)) (λ xs. read ≡ before ++ xs) →
         (r : Result (Unit {0}) Fault) (status : ℕ) → status ≡ tools.status_of r → IsAnalysedBy seen old new slice args asked.options bodies r

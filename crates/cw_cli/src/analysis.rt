@@ -8,6 +8,7 @@ ghost use Rattle.cw_compile.specs.Compiled.{IsCompiled, IsMade};
 ghost use Rattle.cw_cli.specs.Analyses.{IsModeInRange};
 ghost use Rattle.cw_cli.specs.Analyses.{IsAnalysed, IsAnalysedBy, IsRun};
 ghost use Rattle.cw_cli.specs.Told.{HasTables};
+ghost use Rattle.cw_gains.specs.Gains.{HasNumberedSites};
 ghost use Rattle.cw_schedule.specs.Schedules.{SchedulesAsCode};
 
 use crate::reporting::{are_words, write_gains, write_tables, write_values};
@@ -15,6 +16,7 @@ use cw_compile::{Compiled, compile_with_heads};
 use cw_gains::gains::{gains_of_run, gains_of_run_with};
 use cw_machine::alone::run_alone;
 use cw_machine::values::values_alone;
+use cw_model::laws::derived_sites_are_numbered;
 use cw_model::limits::{MOST_BURDEN, MOST_TOP};
 use cw_pool::crew::Body;
 use cw_pool::gate::Gate;
@@ -52,6 +54,7 @@ pub fn analyse_alone<W: Sink>(
     requires { (W.seen out.old).failures < 2 ^ 64 - 1 }
     ensures { IsAnalysed W.seen out.old out.new bytes.now args.now options result }
 {
+    derived_sites_are_numbered();
     let made = compile_with_heads(alloc, bytes)?;
     match options.mode {
         Mode::Check => ok(out),
@@ -99,6 +102,7 @@ pub fn analyse<
     if crew.is_empty() {
         return analyse_alone(alloc, bytes, args, options, out);
     }
+    derived_sites_are_numbered();
     let made = compile_with_heads(alloc, bytes)?;
     match options.mode {
         Mode::Check => ok(out),
@@ -230,7 +234,8 @@ fn run_gain<W: Sink>(
     options: Options,
     out: &mut W,
 ) -> Result<(), Fault>
-    requires { (W.seen out.old).failures < 2 ^ 64 - 1 }
+    requires out { (W.seen out.old).failures < 2 ^ 64 - 1 }
+    requires numbered { HasNumberedSites (code_view made.code.code) }
     ensures { (bytes : List ℕ) → options.mode ≡ mode.Gain top → IsMade bytes made
         → IsRun W.seen out.old out.new bytes args.now options result }
 {
@@ -264,6 +269,7 @@ fn run_gain_with<
 ) -> Result<(), Fault>
     requires out { (W.seen out.old).failures < 2 ^ 64 - 1 }
     requires few { length crew.items ≤ MOST_BODIES }
+    requires numbered { HasNumberedSites (code_view made.code.code) }
     ensures { (bytes : List ℕ) → options.mode ≡ mode.Gain top → IsMade bytes made
         → IsRun W.seen out.old out.new bytes args.now options result }
 {

@@ -9,15 +9,19 @@ use cw_pool::run::MOST_BODIES;
 use std::alloc::{AllocError, Global};
 use std::sync::Wait;
 
-// How many threads a run by so many workers has beside the caller's.
+// Returns the number of threads of a run by `workers` workers, without the caller's thread.
 fn bodies_for(workers: u64) -> usize
     ensures { result ≡ crews.bodies_for workers }
 {
     workers.saturating_sub(1).min(MOST_BODIES as u64) as usize
 }
 
-/// A crew for a run by so many workers, of whom the caller's thread is one: a body that serves for each other one, at
-/// most 63. The error is want of memory.
+/// Creates the crew of a run by `workers` workers. The caller's thread is one of them; each other worker, at most 63,
+/// gets a body that serves.
+///
+/// # Errors
+///
+/// `AllocError` if memory runs out.
 pub fn crew_of<R: Wait + Copy + Drop>(
     alloc: Global,
     rt: R,

@@ -1,4 +1,4 @@
-//! Which of the program's words are no numbers or out of range, in words.
+//! Messages for the words of the command line that are not numbers or are out of range.
 
 use clap::ArgMatches;
 use cw_explain::Word;
@@ -9,11 +9,15 @@ use cw_words::edges::{EDGES, USUAL_EDGES, edges_named};
 use cw_words::number::{BURDEN, LIMIT, NumberOption, PROCESSORS, TOP, WORKERS, read_number};
 use std::alloc::{AllocError, Global};
 
-/// No word more is told behind so many bytes.
+/// No further number is reported once the messages have this number of bytes.
 const MOST_BYTES: usize = 3_072;
 
-/// Each word that is the reason of `Arguments`, with the range that it has to be in, on a line of its own. Of words that the command
-/// line refuses in another way nothing is told. `Memory` where memory runs out.
+/// Returns a text with a line for each word that is a reason for `Fault::Arguments`, with the range that the word must
+/// be in. Returns an empty text if the command line rejects the words for another reason.
+///
+/// # Errors
+///
+/// `Fault::Memory` if memory runs out.
 pub fn misused(alloc: Global, words: &[String]) -> Result<String, Fault> {
     let mut out = String::new(alloc);
     let Ok(matches) = command(alloc)?.try_get_matches_from(words) else {
@@ -33,7 +37,7 @@ pub fn misused(alloc: Global, words: &[String]) -> Result<String, Fault> {
     Ok(out)
 }
 
-// A number that is given.
+// Adds a message for the number of an option, if it is malformed or out of range.
 fn of_number(
     out: &mut String,
     given: &ArgMatches<'_>,
@@ -43,7 +47,7 @@ fn of_number(
     of_range(out, option.name, text, option.least, option.most)
 }
 
-// A number with its range.
+// Adds a message for a number, if it is malformed or out of range, unless the messages are already too long.
 fn of_range(
     out: &mut String,
     name: &str,
@@ -63,7 +67,7 @@ fn of_range(
     Ok(())
 }
 
-// The word for the edges.
+// Adds a message for the word of `--edges`, if it is not the name of any edges.
 fn of_edges(out: &mut String, given: &ArgMatches<'_>) -> Result<(), AllocError> {
     let text = given.get_str(EDGES).unwrap_or(USUAL_EDGES);
     if edges_named(text).is_none() {

@@ -82,7 +82,6 @@ pub(crate) fn write_gains<W: Sink>(
         → GainsAsCode (code_view code.code) heads args.now options.limit options.burden top gains
         → IsRun W.seen out.old out.new bytes args.now options result }
 {
-    derived_sites_are_numbered();
     are_words(args);
     gain(alloc, &gains, out)?;
     gains?;

@@ -1,4 +1,4 @@
-//! What the program answers on a source, and what it says in place of a run.
+//! The answers of the program: on a source, and if there is nothing to run.
 
 ghost use Rattle.std.specs.Prelude.{◌≡◌, ◌<◌, ◌-◌, ◌^◌, length, true};
 ghost use Rattle.std.specs.IoError.{error_kind};
@@ -32,22 +32,23 @@ use std::io::Read;
 use std::sync::{Arc, Wait};
 use std::thread::Threads;
 
-/// One byte more than a source may have: as much as is read of one.
+/// One byte more than a source may have, which is the maximum that is read of one.
 const MOST_READ: u64 = MOST_SOURCE_BYTES as u64 + 1;
 
-/// Reads the source, analyses it as asked, and writes the report to `out`; gives the exit status. The caller's thread
-/// and one for each body of the crew are the workers of the run; nothing that is written depends on them.
+/// Reads the source, analyses it as asked, writes the report to `out`, and returns the exit status. The caller's
+/// thread and one thread for each body of the crew are the workers of the run; nothing that is written depends on
+/// them.
 ///
-/// The status is 0 where the report was written, else that of the fault, whose line is written to
-/// `err`, and behind it, where the request explains, why the source has the fault (`cw_explain`). No
-/// more than one byte past the greatest size of a source is read. Whether the write to `err` fails
-/// changes nothing. Fewer than 2^64 - 1 writes to each sink failed before.
+/// The status is 0 if the report was written, otherwise the status of the fault. The line of the fault is written to
+/// `err`, followed by the reason why the source has the fault if the request explains (`cw_explain`). At most one
+/// byte past the maximum size of a source is read. A failed write to `err` changes nothing. Requires that fewer than
+/// 2^64 - 1 writes to each sink failed before.
 ///
-/// Where a read of the source failed for another reason than want of memory, and so it cannot be
-/// read, the line is `file` and the status 5, and nothing is written to `out`. It is `memory` and 6
-/// where memory ran out for the bytes or in a read. Of a reader that does not tell its bytes, as a
-/// file, some bytes are meant. Where the source was read, a crew of more than 63 bodies is `arguments` and 5,
-/// with nothing written to `out`.
+/// If a read of the source fails for another reason than that memory runs out, the line is `file` and the status 5,
+/// and nothing is written to `out`. If memory runs out for the bytes or in a read, the line is `memory` and the
+/// status 6. For a reader that does not reveal its bytes, such as a file, the contract holds for some bytes. If the
+/// source was read and the crew has more than 63 bodies, the line is `arguments` and the status 5, and nothing is
+/// written to `out`.
 pub fn tool<
     D: Input,
     W: Sink,
@@ -96,7 +97,7 @@ pub fn tool<
     }
 }
 
-// Why a read failed.
+// Returns the kind of the error with which a read failed.
 fn kind_of(read: &io::Result<usize>) -> io::ErrorKind {
     match read {
         Ok(_) => io::ErrorKind::Other,
@@ -104,8 +105,8 @@ fn kind_of(read: &io::Result<usize>) -> io::ErrorKind {
     }
 }
 
-// Writes the line of a fault to `err` and, where it is asked for, why these bytes have the fault; gives the exit status.
-// Of an explanation that there is no memory for nothing is written, and none behind a line that was not.
+// Writes the line of a fault to `err` and, if asked for, the reason why these bytes have the fault. Returns the exit
+// status. If there is no memory for the explanation, or the line was not written, no explanation is written.
 fn tell<E: Sink>(alloc: Global, asked: &Request, bytes: &[u8], fault: &Fault, err: &mut E) -> u8
     requires { (E.seen err.old).failures < 2 ^ 64 - 1 }
     ensures told { IsTold E.seen err.old err.new asked.now.explain (fault_line fault.now) }
@@ -135,7 +136,7 @@ fn tell<E: Sink>(alloc: Global, asked: &Request, bytes: &[u8], fault: &Fault, er
     status
 }
 
-// Adds the values of a trap, and the calls and loops round it, as far as there is memory for the run that finds them.
+// Adds the values of a trap, and the calls and loops around it, if there is memory for the run that finds them.
 fn add_values(
     alloc: Global,
     asked: &Request,
@@ -154,7 +155,8 @@ fn add_values(
     add_trap(alloc, text, file, &run)
 }
 
-// Writes the line of a fault of these words to `err`, and behind it which of them it is for; gives the exit status.
+// Writes the line of a fault of these words to `err`, followed by the words that have the fault. Returns the exit
+// status.
 fn tell_words<E: Sink>(alloc: Global, words: &[String], fault: &Fault, err: &mut E) -> u8
     requires { (E.seen err.old).failures < 2 ^ 64 - 1 }
     ensures told { IsTold E.seen err.old err.new true (fault_line fault.now) }
@@ -171,8 +173,8 @@ fn tell_words<E: Sink>(alloc: Global, words: &[String], fault: &Fault, err: &mut
     status
 }
 
-/// Says that a source cannot be opened, and, where that is asked for, why; gives the exit status: `file` and 5, or, where that
-/// is for want of memory, `memory` and 6. Whether a write to `err` fails changes nothing.
+/// Reports that a source cannot be opened and, if asked for, the reason. Writes `file` and returns 5, or, if memory
+/// ran out, writes `memory` and returns 6. A failed write to `err` changes nothing.
 pub fn unread<E: Sink>(alloc: Global, asked: &Request, error: &io::Error, err: &mut E) -> u8
     requires { (E.seen err.old).failures < 2 ^ 64 - 1 }
     ensures { IsUnreadAnswer E.seen err.old err.new asked.now (error_kind error.now) result }
@@ -183,7 +185,7 @@ pub fn unread<E: Sink>(alloc: Global, asked: &Request, error: &io::Error, err: &
     tell_file(alloc, asked, error.kind(), err)
 }
 
-// Writes the line for a source that cannot be read and, where that is asked for, why; gives the exit status.
+// Writes the line for a source that cannot be read and, if asked for, the reason. Returns the exit status.
 fn tell_file<E: Sink>(alloc: Global, asked: &Request, kind: io::ErrorKind, err: &mut E) -> u8
     requires { (E.seen err.old).failures < 2 ^ 64 - 1 }
     ensures { IsFileAnswer E.seen err.old err.new asked.now.explain result }
@@ -198,12 +200,11 @@ fn tell_file<E: Sink>(alloc: Global, asked: &Request, kind: io::ErrorKind, err: 
     5
 }
 
-/// Writes what stands in place of a run: the help to `out`, and anything else to `err`; gives the
-/// exit status.
+/// Writes the answer if there is nothing to run: the help to `out`, and anything else to `err`. Returns the exit
+/// status.
 ///
-/// The status is 0 for the help, 5 for what is wrong with the words, else that of the fault. Where
-/// the help cannot be written, the fault's line goes to `err`, with status 7. Whether a write to
-/// `err` fails changes nothing.
+/// The status is 0 for the help, 5 for wrong words, otherwise the status of the fault. If the help cannot be written,
+/// the fault's line is written to `err`, and the status is 7. A failed write to `err` changes nothing.
 pub fn say<W: Sink, E: Sink>(said: &Said, out: &mut W, err: &mut E) -> u8
     requires out { (W.seen out.old).failures < 2 ^ 64 - 1 }
     requires err { (E.seen err.old).failures < 2 ^ 64 - 1 }
@@ -222,7 +223,8 @@ pub fn say<W: Sink, E: Sink>(said: &Said, out: &mut W, err: &mut E) -> u8
     }
 }
 
-/// The same, and behind the line of a fault of these words which of them it is for.
+/// Writes the answer if there is nothing to run, like `say`. The line of a fault of these words is followed by the
+/// words that have the fault.
 pub fn say_why<W: Sink, E: Sink>(
     alloc: Global,
     words: &[String],
@@ -240,8 +242,7 @@ pub fn say_why<W: Sink, E: Sink>(
     }
 }
 
-/// Writes the line of a fault to `err`; gives the exit status. Whether the write fails changes
-/// nothing.
+/// Writes the line of a fault to `err` and returns the exit status. A failed write changes nothing.
 pub fn refuse<E: Sink>(fault: &Fault, err: &mut E) -> u8
     requires { (E.seen err.old).failures < 2 ^ 64 - 1 }
     ensures { IsRefusal E.seen err.old err.new fault.now result }

@@ -1,4 +1,4 @@
--- The sites that are free by a list are those of a function.
+-- The sites that take no time by a list are those of a function.
 use Rattle.std.proofs.Common.{◌≡◌, ℕ, zero, suc, ◌+◌, ◌≤◌, Bool, true, false, ◌&&◌, ◌||◌, ◌<◌, List, [], ◌∷◌, ◌++◌, length, map, take, get_or, arith, refl, sym, ap, ap₂, ◌∙◌}
 use Rattle.std.proofs.lemmas.List.{map-append, take_more}
 use Rattle.std.specs.Prelude.{nat_eq, ◌==◌}
@@ -27,7 +27,7 @@ module _ (name : Name) where
   abbrev told : List CodeSite → List CallSite
   told sites = map (λ s. s.told) sites
 
-  -- no site of a number up to this one comes behind it
+  -- no later site has a number up to this one
   none_before : (n site : ℕ) (sites : List CodeSite) → site ≤ n → are_numbered n (told sites) ≡ true
       → is_site_of (told sites) name site ≡ false
   none_before n site [] h numbered = refl
@@ -37,7 +37,7 @@ module _ (name : Name) where
       ap₂ (λ a b. (a && same_name name s.told.callee) || b) (other_site site s.told.number (λ e. omega (arith, e, number, h)))
       (none_before (suc n) site sites (omega (arith, h)) split.1)
 
-  -- a site behind it is of the function where its entry says so
+  -- a later site calls the function if and only if its entry says so
   by_entry : (n k site : ℕ) (sites : List CodeSite) → site ≡ suc n + k → are_numbered n (told sites) ≡ true
       → is_site_of (told sites) name site ≡ is_freed (callees_are name sites) k
   by_entry n k site [] at numbered = refl
@@ -68,7 +68,7 @@ module _ (name : Name) where
       sym (ap₂ (λ a b. (a && same_name name main_name) || b) (other_site (suc k) 0 (λ e. omega (arith, e)))
       (by_entry 0 k (suc k) sites (omega arith) numbered))
 
--- sites that are freed alike free a tree alike
+-- two tests of sites that agree give a tree the same spans
 freed_alike : (frees others : ℕ → Bool) → ((site : ℕ) → frees site ≡ others site) → (site : ℕ) (t : Tree)
     → freed frees site t ≡ freed others site t
 freed_alike frees others h site (Leaf k) = rw (h site) refl
@@ -76,7 +76,7 @@ freed_alike frees others h site (Seq a b) = rw (freed_alike frees others h site 
 freed_alike frees others h site (Par a b) = rw (freed_alike frees others h site a, freed_alike frees others h site b) refl
 freed_alike frees others h site (Marked mark t) = rw (freed_alike frees others h (site_inside mark site) t) refl
 
--- so the spans are those if the function were free
+-- so the spans are those if the function took no time
 pub freed_row_is : (code : Code) → are_numbered 0 (map (λ s. s.told) code.sites) ≡ true → (burden : Burden) (t : Tree) (row : FunctionRow)
     → freed_row code burden t row ≡ free_row (all_sites code) burden t row
 freed_row_is code numbered burden t row =
@@ -84,7 +84,7 @@ freed_row_is code numbered burden t row =
     (same_frees row.name code.main_line code.sites numbered) 0 t in
     ap (λ u. record { counted = row; span = span u; burdened = burdened_span burden u }) alike
 
--- of functions that are told, one more
+-- one more listed function
 pub told_more : {A B C : Type 0} (view : B → C) (F : A → C) (old new : List B) (one : B) (all : List A) (i : ℕ) (d : A)
     → new ≡ old ++ one ∷ [] → i < length all → map view old ≡ map F (take i all) → view one ≡ F (get_or all i d)
     → map view new ≡ map F (take (i + 1) all)

@@ -24,13 +24,13 @@ use Rattle.cw_gains.specs.Gains.{root_at}
 use Rattle.cw_code.specs.declared.head.Head.{Head}
 use Rattle.cw_gains.specs.declared.counts.Sums.{Sums}
 
--- the second sums are the first ones and the rows of these sites in a tree
+-- the second sums are the first ones, with the rows of these sites in a tree added
 record AreOver (t : Tree) (named : List CallSite) (from to : Sums) : Type 0 where
   calls : to.calls ≡ from.calls + sum_by (λ s. (site_row s.number t).calls) named
   own_work : to.own_work ≡ from.own_work + sum_by (λ s. (site_row s.number t).own_work) named
   own_span : to.own_span ≡ from.own_span + sum_by (λ s. (site_row s.number t).own_span) named
 
--- so are the sites of this name among some
+-- the sites among these that call a function of this name
 abbrev named_in : Name → List CallSite → List CallSite
 named_in name all = filter (λ s. same_name name s.callee) all
 
@@ -41,7 +41,7 @@ module _ (t : Tree) where
   sum_more reading s named of first last e h =
       rw (sum_by-cons (λ (s : CallSite). reading (site_row s.number t)) s named) (omega (arith, e, h))
 
-  -- one site more, whose row is that of the tree
+  -- one more site, whose row is that of the tree
   one_more : (b : Bool) (s : CallSite) (named : List CallSite) (row : SiteRow) (from to : Sums) → tables.IsRow row (site_row s.number t)
       → AreOver t named (and_row from b row) to → AreOver t (if b then s ∷ named else named) from to
   one_more true s named row from to is h = record {
@@ -81,7 +81,7 @@ module _ (t : Tree) where
       there_at : (k site : ℕ) (r : SiteRow) → site ≡ suc k → slice_get rows k ≡ Some r → slice_get (row ∷ rows) site ≡ Some r
       there_at k site r at there = ap (slice_get (row ∷ rows)) at ∙ there
 
-  -- what is counted of a function is its row
+  -- a function with its sums is its row
   pub counted_is : (head : Head) (line : ℕ) (sites : List CodeSite) (rows : List SiteRow) → AreSiteRows (length sites + 1) t rows
       → are_numbered 0 (map (λ s. s.told) sites) ≡ true
       → row_view (counted_of head sites rows) ≡ function_row (root_at line ∷ map (λ s. s.told) sites) t (head_view head)

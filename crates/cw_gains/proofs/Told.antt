@@ -1,4 +1,4 @@
--- What is told of a run that ended, whoever did the runs behind it.
+-- The table of a run that ended, by whichever threads the further runs are executed.
 use Rattle.std.proofs.Common.{◌≡◌, ℕ, ℤ, true, List, length, take, ◌+◌, sym, subst}
 use Rattle.std.specs.Prelude.{IsErrAnd, MatchResult, Result}
 use Rattle.cw_facts.specs.Options.{handed_on}
@@ -24,14 +24,14 @@ module _ (v : Verified) (heads : List Head) (args : List ℤ) (n : ℕ) (burden 
   ends : EndsWith (code_view v.code) args n burden runs.tree
   ends = record { asked = runs.asked; value = ended.value; lines = ended.lines.items; totals = ended.totals.items; answer = runs.answer }
 
-  -- want of memory is why there are none
+  -- lack of memory is the only error
   pub stopped : (e : Fault) (r : Result declared.Gains Fault) → OnlyMemory v args n burden e → IsErrAnd r (λ x. x ≡ e)
       → MatchResult r (Gains (code_view v.code) heads args n burden top) (IsFailure (code_view v.code) args n burden)
   stopped e r only h =
       handed_on (Gains (code_view v.code) heads args n burden top) (IsFailure (code_view v.code) args n burden) e r
       (subst (IsFailure (code_view v.code) args n burden) (sym (only runs.tree ends)) runs.asked) h
 
-  -- the first of those that are ranked, each freed
+  -- the first of the ranked functions, each with its spans
   pub gained : (g : declared.Gains) (rows : List SiteRow) (counted : List Counted) → are_numbered 0 (told_sites (code_view v.code)) ≡ true
       → g.measure ≡ ended.measure → AreSiteRows (length (code_view v.code).sites + 1) runs.tree rows
       → counted ≡ take top (ranked_from heads (code_view v.code).sites rows)

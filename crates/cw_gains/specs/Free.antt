@@ -1,4 +1,4 @@
--- The sites that are free if a function is, as the run is told them.
+-- The sites that take no time if a function does, as the run receives them.
 use Rattle.std.specs.Prelude.{◌≡◌, ℕ, ℤ, true, Bool, List, ◌∷◌, map, Some}
 use Rattle.std.specs.Global.{Vec}
 use Rattle.cw_model.specs.declared.burden.Burden.{Burden}
@@ -25,15 +25,15 @@ use Rattle.cw_gains.specs.declared.gains.FunctionGain.{FunctionGain}
 abbrev pub callees_are : Name → List CodeSite → List Bool
 callees_are name sites = map (λ s. same_name name s.told.callee) sites
 
--- the same of all sites: that of the call of main by the run itself comes first
+-- the entries of all sites; the first is that of the call of main by the run itself
 abbrev pub frees_from : Name → List CodeSite → List Bool
 frees_from name sites = same_name name main_name ∷ callees_are name sites
 
--- for each site of code, by its number, whether it calls a function of this name
+-- for each site of code, in the order of the numbers, whether it calls a function of this name
 abbrev pub AreFrees : Name → declared.Code → Vec Bool → Type 0
 AreFrees name code frees = frees.items ≡ frees_from name (map site_view code.sites.items)
 
--- the run was asked for in range, and ends with this tree
+-- the request for the run is in range, and the run ends with this tree
 pub record EndsWith (code : Code) (args : List ℤ) (n : ℕ) (burden : Burden) (t : Tree) : Type 0 where
   pub asked : is_request code args n burden ≡ true
   pub value : ℤ
@@ -41,24 +41,24 @@ pub record EndsWith (code : Code) (args : List ℤ) (n : ℕ) (burden : Burden) 
   pub totals : List Total
   pub answer : code_serial code args n ≡ Some (Ended value lines totals t)
 
--- what the spans would be if the sites of a function were free
+-- a function, with the spans of the run if its sites took no time
 abbrev pub freed_row : Code → Burden → Tree → FunctionRow → FreeRow
 freed_row code burden t row =
     let frees = is_freed (frees_from row.name code.sites) in
     record { counted = row; span = span_if_free frees t; burdened = burdened_if_free burden frees t }
 
--- of a run of verified code that ends, this is told of a function
+-- if the run of verified code ends, this is the row of the function
 abbrev pub IsFreeOf : Verified → List ℤ → (n : ℕ) → Burden → Counted → FunctionGain → Type 0
 IsFreeOf v args n burden counted g =
     (t : Tree) → EndsWith (code_view v.code) args n burden t
     → gain_view g ≡ freed_row (code_view v.code) burden t (row_view counted)
 
--- and this of functions
+-- and these are the rows of the functions
 abbrev pub AreFreeOf : Verified → List ℤ → (n : ℕ) → Burden → List Counted → Vec FunctionGain → Type 0
 AreFreeOf v args n burden all gains =
     (t : Tree) → EndsWith (code_view v.code) args n burden t
     → map gain_view gains.items ≡ map (λ c. freed_row (code_view v.code) burden t (row_view c)) all
 
--- of a run that ends, nothing but want of memory is told in place of that
+-- if the run ends, lack of memory is the only error
 abbrev pub OnlyMemory : Verified → List ℤ → (n : ℕ) → Burden → Fault → Type 0
 OnlyMemory v args n burden e = (t : Tree) → EndsWith (code_view v.code) args n burden t → e ≡ fault.Memory

@@ -1,9 +1,9 @@
-//! The spans of a run if the instructions of functions were free.
+//! The spans of a run if the instructions of a function took no time.
 
 ghost use Rattle.std.specs.Prelude.{IfErr, IfOk};
 ghost use Rattle.cw_code.specs.Code.{code_view};
 ghost use Rattle.cw_gains.specs.Free.{AreFreeOf, AreFrees, IsFreeOf, OnlyMemory};
-ghost use Rattle.cw_gains.specs.Gains.{GainsAsCode};
+ghost use Rattle.cw_gains.specs.Gains.{GainsAsCode, HasNumberedSites};
 ghost use Rattle.cw_machine.specs.Runs.{Runs, RunsAsCode};
 
 use crate::counts::{Counted, greatest};
@@ -20,30 +20,34 @@ use std::sync::Arc;
 use std::thread;
 use std::thread::Threads;
 
-/// A function, and what the spans of the run would be if its instructions were free.
+/// A function, and the spans of the run if its instructions took no time.
 #[derive(Debug, Drop)]
 pub struct FunctionGain {
     /// The function, with its invocations and their instructions.
     pub counted: Counted,
     /// The span of the run, in instructions.
     pub span_if_free: u64,
-    /// Its burdened span, in instructions.
+    /// The burdened span of the run, in instructions.
     pub burdened_if_free: u128,
 }
 
-/// What functions of a run would bring.
+/// The gain table of a run.
 #[derive(Debug, Drop)]
 pub struct Gains {
-    /// Work, span and burdened span of the run as it is, in instructions.
+    /// Work, span and burdened span of the run as it was, in instructions.
     pub measure: Readings,
-    /// The functions with the most instructions on the chosen path, the greatest first, of equal ones by place.
+    /// The functions with the largest own spans, in descending order; functions with equal own spans keep the order of
+    /// the source.
     pub functions: Vec<FunctionGain>,
 }
 
-/// What functions of a run would bring, at most `top` of them: of a run of this code on these arguments within `n`
-/// instructions that was done, and answered this. Each function that is told costs a further run, one after another.
+/// Computes the gain table of a run of this code on these arguments within `n` instructions that was executed and
+/// answered `ended`: at most `top` functions. It executes the program once more for each listed function, one run at a
+/// time. The call sites of the code must be numbered in order from 1, as `compile` numbers them.
 ///
-/// The error is that of the run, or `Memory` where memory runs out.
+/// # Errors
+///
+/// The error of the run, or `Memory` if memory runs out.
 pub fn gains_of_run(
     alloc: Global,
     code: Arc<Verified>,
@@ -54,6 +58,7 @@ pub fn gains_of_run(
     top: usize,
     ended: Result<Ended, Fault>,
 ) -> Result<Gains, Fault>
+    requires { HasNumberedSites (code_view code.value.code) }
     ensures { RunsAsCode (code_view code.value.code) args.now n burden ended
         → GainsAsCode (code_view code.value.code) heads.now args.now n burden top result }
 {
@@ -66,8 +71,13 @@ pub fn gains_of_run(
     }
 }
 
-/// The same, by so many threads, of which the caller's is one: the further runs go side by side. With one no thread is
-/// started, and where a thread can't be started the caller's does its runs, too. What is told is the same.
+/// Computes the gain table as `gains_of_run` does, with `threads` threads, one of which is the caller's: the further
+/// runs go in parallel. With one thread no other thread is started. If a thread cannot be started, the caller's thread
+/// does its runs. The result does not depend on `threads`.
+///
+/// # Errors
+///
+/// Those of `gains_of_run`.
 pub fn gains_of_run_with<R: Threads>(
     rt: &R,
     alloc: Global,
@@ -80,6 +90,7 @@ pub fn gains_of_run_with<R: Threads>(
     threads: usize,
     ended: Result<Ended, Fault>,
 ) -> Result<Gains, Fault>
+    requires { HasNumberedSites (code_view code.value.code) }
     ensures { RunsAsCode (code_view code.value.code) args.now n burden ended
         → GainsAsCode (code_view code.value.code) heads.now args.now n burden top result }
 {
@@ -94,7 +105,7 @@ pub fn gains_of_run_with<R: Threads>(
     }
 }
 
-// The same of a run that ended.
+// The gain table of a run that ended.
 fn gains_of_ended(
     alloc: Global,
     code: &Arc<Verified>,
@@ -105,6 +116,7 @@ fn gains_of_ended(
     top: usize,
     ended: &Ended,
 ) -> Result<Gains, Fault>
+    requires { HasNumberedSites (code_view code.now.value.code) }
     ensures { Runs (code_view code.now.value.code) args.now n burden ended.now
         → GainsAsCode (code_view code.now.value.code) heads.now args.now n burden top result }
 {
@@ -122,7 +134,7 @@ fn gains_of_ended(
     })
 }
 
-// The same by so many threads.
+// The gain table of a run that ended, computed by `threads` threads.
 fn gains_of_ended_with<R: Threads>(
     rt: &R,
     alloc: Global,
@@ -135,6 +147,7 @@ fn gains_of_ended_with<R: Threads>(
     threads: usize,
     ended: &Ended,
 ) -> Result<Gains, Fault>
+    requires { HasNumberedSites (code_view code.now.value.code) }
     ensures { Runs (code_view code.now.value.code) args.now n burden ended.now
         → GainsAsCode (code_view code.now.value.code) heads.now args.now n burden top result }
 {
@@ -159,7 +172,7 @@ fn gains_of_ended_with<R: Threads>(
     Ok(Gains { measure, functions })
 }
 
-// Functions with the spans of the run if each were free.
+// Each function, with the spans of the run if the function took no time.
 fn freed(
     alloc: Global,
     code: &Arc<Verified>,
@@ -179,8 +192,8 @@ fn freed(
     Ok(gains)
 }
 
-// The same by so many threads at most: one of its own does the first functions, and beside it the caller's and the others
-// do the rest.
+// The result of `freed`, computed by at most `threads` threads: a new thread does the first functions, and the
+// caller's thread and the remaining ones do the rest in parallel.
 #[cycle(threads)]
 fn freed_with<R: Threads>(
     rt: &R,
@@ -218,7 +231,7 @@ fn freed_with<R: Threads>(
     Ok(gains)
 }
 
-// A function with the spans of the run if it were free.
+// A function, with the spans of the run if it took no time.
 fn gain_of(
     alloc: Global,
     code: &Arc<Verified>,
@@ -245,7 +258,7 @@ fn gain_of(
     })
 }
 
-// For each site, by its number, whether it calls a function of this name.
+// For each site, in the order of the numbers, whether it calls a function of this name.
 fn frees_of(alloc: Global, code: &Code, name: &[u8]) -> Result<Vec<bool>, AllocError>
     ensures { IfOk result (AreFrees name.now code.now) }
 {

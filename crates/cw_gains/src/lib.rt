@@ -1,4 +1,4 @@
-//! What functions of a program would bring if their instructions were free.
+//! What a program gains at most if the instructions of a function take no time.
 #![tactic(auto)]
 
 pub mod counts;

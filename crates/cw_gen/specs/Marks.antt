@@ -63,11 +63,12 @@ places_from a r [] = []
 places_from a r (true ∷ marks) = loan.Reader r ∷ places_from a (suc r) marks
 places_from a r (false ∷ marks) = loan.Array a ∷ places_from (suc a) r marks
 
--- the marks of these places
+-- whether this is the place of a reader
 abbrev pub is_reader_place : Loan → Bool
 is_reader_place (loan.Array a) = false
 is_reader_place (loan.Reader r) = true
 
+-- the marks of these places
 abbrev pub marks_told : List Loan → Marks
 marks_told places = map is_reader_place places
 

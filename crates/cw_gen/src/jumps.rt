@@ -69,7 +69,7 @@ pub(crate) fn land_past(instrs: &mut Vec<Instr>, place: usize, returns: bool)
     instrs[place] = Instr::Skip(n);
 }
 
-/// Returns a distance as an instruction holds it, at most the maximum.
+/// Returns a distance as an instruction holds it: `n`, or `MOST_JUMP` if `n` is larger.
 pub(crate) fn distance(n: usize) -> u32
     ensures { result ≡ spec.distance n }
 {

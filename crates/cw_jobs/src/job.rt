@@ -33,8 +33,8 @@ impl Job {
     /// # Errors
     ///
     /// `Fault::Arguments` exactly if the number of arguments is not the number of `main`'s parameters, or `n` is not
-    /// in 1..=2^62, or the charge exceeds 1,000,000,000 instructions; otherwise `Fault::Memory`, if there is not
-    /// enough memory.
+    /// in 1..=2^62, or the charge of `burden` exceeds 1,000,000,000 instructions for an edge; otherwise
+    /// `Fault::Memory`, if there is not enough memory.
     pub fn root(
         alloc: Global,
         code: Arc<Verified>,

@@ -12,9 +12,10 @@ use Rattle.cw_model.specs.Captured.{captured}
 use Rattle.cw_model.specs.Meaning.{function_named}
 use Rattle.cw_loops.specs.Lowered.{is_plain, low, high}
 
--- the context of an iteration of the innermost enclosing loop: the outer integers in the frame of the source, in the
--- frame of the generated function and in both, the outer arrays in the frame of the source, the arrays of the loop and
--- of all enclosing loops, the loop's variable, whether a return is allowed here, and the functions of the program
+-- the context of an iteration of the innermost enclosing loop: the outer integers in the frame of the source (`outer`),
+-- in the frame of the generated function (`given`) and in both (`shared`); the outer arrays in the frame of the source;
+-- the arrays of the loop (`over`) and of all enclosing loops (`sliced`); the loop's variable; whether a return is
+-- allowed here; and the functions of the program
 pub record Surroundings : Type 0 where
   pub outer : List Name
   pub given : List Name

@@ -16,9 +16,9 @@ pub fn lowered_examples()
     ensures { LoweredExamples }
 {}
 
-/// States that lowering the loops of a program keeps its answer, for a list of 64-bit arguments as long as the
-/// parameter list of its main, and within each limit: value, printed lines, totals, tree, trap with its line, and
-/// over the limit.
+/// States that lowering the loops of a program keeps its answer, for one 64-bit argument for each parameter of its
+/// `main`, and within each limit: its value, printed lines, totals and tree, or its trap with the line, or that it
+/// exceeds the limit.
 pub fn lowered_answers_as_its_source()
     ensures { LoweredAnswersAsItsSource }
 {}
@@ -82,8 +82,9 @@ pub fn core_is_lowered(core: &Core)
     resolved_is_fitting();
 }
 
-/// States that a core has a body for each function of its source, at most 1,024 functions and 4,096 loops, that a
-/// leaf of a loop has at most 1,000,000 iterations, and that a loop captures at most 256 integers and 256 arrays.
+/// States that a core has a body for each function of its source, and that it is small: it has at most 1,024 functions
+/// and 4,096 loops; a leaf of a loop has at most 1,000,000 iterations; a loop captures at most 256 integers and 256
+/// arrays.
 pub fn core_is_small(core: &Core)
     ensures { IsSmallTree core.now.source.typed.tree core.now.tree }
 {}

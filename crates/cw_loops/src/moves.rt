@@ -58,7 +58,7 @@ pub(crate) fn moves_of<'a>(head: &'a Head, arrays: u32) -> Moves<'a>
     }
 }
 
-/// Returns a count as a slot, at most the maximum slot.
+/// Returns a count as the number of a slot: `n`, or `MOST_SLOT` if `n` is larger.
 pub(crate) fn slot(n: usize) -> u32
     ensures { result ≡ spec.slot n }
 {

@@ -151,9 +151,9 @@ pub record HandedOut (v : Verified) (ok : Ok v) (m : Machine) (s : State) (w : W
   pub comes : Comes r.cells.items 0 (length w.slots) w.results × ComesRound r.cells.items 0 (length w.slots) around
   pub taken : AreNone r.slices.items passed
 
--- a spawn has just begun its call: the caller waits, without operands, these slots were taken, these arrays were lent
--- and the caller keeps them, everything that is handed out belongs to calls below the caller, and the first call of
--- the run only reads the shares that it was given
+-- a spawn has just begun its call: the caller waits, without operands; the arrays of these slots were taken; these
+-- arrays were lent, and the caller keeps them; everything that is handed out belongs to calls below the caller; and
+-- the first call of the run only reads the shares that it was given
 pub record Hands (v : Verified) (ok : Ok v) (m : Machine) (s : State) (w : Waiting) (around : List Around)
     (passed : List ℕ) (lent : List Loan) : Type 0 where
   pub shows : Shows v ok m s

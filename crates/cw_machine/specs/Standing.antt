@@ -1,5 +1,5 @@
 -- Where a run stands that traps, and what its instruction has there.
-use Rattle.std.specs.Prelude.{◌≡◌, ℕ, ◌+◌, ◌<◌, ℤ, true, List, [], ◌∷◌, length, Option, Some, None, slice_get}
+use Rattle.std.specs.Prelude.{◌≡◌, ℕ, zero, suc, ◌+◌, ◌<◌, ℤ, true, List, [], ◌∷◌, length, Option, Some, None, slice_get}
 use Rattle.std.specs.Prelude.{Result, MatchResult}
 use Rattle.cw_model.specs.declared.total.Total.{Total}
 use Rattle.cw_model.specs.declared.trap.Trap.{Trap}
@@ -14,7 +14,7 @@ use Rattle.cw_code.specs.declared.code.Func.{Func}
 use Rattle.cw_code.specs.declared.code.Instr.{Instr}
 use Rattle.cw_code.specs.declared.code.Instr.TheVariants as instr
 use Rattle.cw_code.specs.Code.{Code, code_view}
-use Rattle.cw_code.specs.Run.{State, Stops, arguments_of, step, steps, first_state, code_serial}
+use Rattle.cw_code.specs.Run.{State, Transition, On, Stops, arguments_of, step, steps, first_state, code_serial}
 use Rattle.cw_runnable.specs.declared.op.Op.{Op}
 use Rattle.cw_runnable.specs.declared.op.Op.TheVariants as op
 use Rattle.cw_runnable.specs.declared.verified.Verified.{Verified}
@@ -87,12 +87,26 @@ IsHad m h (op.Start d c line) =
 IsHad m h (op.Call d kind c) = h ≡ had.Call m.depth c.site
 IsHad m h _ = Unit {0}
 
--- fewer than so many instructions lead from a state to one whose next instruction traps, with what it has there
+-- the state in which a run goes on after an instruction, if it goes on
+abbrev pub state_of : Transition → Option State
+state_of (On s) = Some s
+state_of _ = None
+
+abbrev pub next_state : Code → Option State → Option State
+next_state code None = None
+next_state code (Some s) = state_of (step code s)
+
+-- THE STATE AFTER THIS MANY INSTRUCTIONS from a state, if the run goes on that far
+abbrev pub state_after : Code → (count : ℕ) → State → Option State
+state_after code zero s = Some s
+state_after code (suc n) s = next_state code (state_after code n s)
+
+-- fewer than this many instructions lead from a state to the one whose next instruction traps, with what it has there
 pub record TrapsAt (code : Code) (trap : Trap) (line : ℕ) (h : Had) (lines : List ℤ) (n : ℕ) (s : State) : Type 0 where
   pub done : ℕ
   pub within : done < n
   pub state : State
-  pub same : (k : ℕ) → steps code (done + k) s ≡ steps code k state
+  pub reached : state_after code done s ≡ Some state
   pub traps : step code state ≡ Stops trap line lines
   pub has : HasNext code state h
 

@@ -1,4 +1,4 @@
-//! A run with one worker.
+//! Runs of code with one worker.
 
 ghost use Rattle.std.specs.Prelude.{◌≡◌, ◌≤◌, true, IfOk};
 ghost use Rattle.std.specs.List.{enumerate_from, zip};
@@ -26,33 +26,35 @@ use indexmap::IndexMap;
 use std::alloc::{AllocError, Global};
 use std::sync::Arc;
 
-/// How a run ended that neither trapped nor passed its limit.
+/// The result of a run that finishes without a trap and within its limit.
 #[derive(Debug, Drop)]
 pub struct Ended {
     /// The value of `main`.
     pub value: i64,
     /// The values printed, in order.
     pub lines: Vec<i64>,
-    /// For each reducer what it comes to, in source order.
+    /// The total of each reducer, in source order.
     pub totals: Vec<Total>,
     /// Work, span and burdened span of the whole run, in instructions.
     pub measure: Readings,
-    /// What is counted of each call site, under its number and in the order of the numbers: 0 is the call of `main` by
+    /// The row of each call site, keyed by its number, in the order of the numbers. Site 0 is the call of `main` by
     /// the run itself.
     pub sites: IndexMap<u32, SiteRow>,
-    /// What is counted of each region tag, under its bytes and in the order of the code's tags.
+    /// The row of each region tag, keyed by its bytes, in the order of the code's tags.
     pub regions: IndexMap<Vec<u8>, RegionRow>,
 }
 
-/// Runs code on these arguments within `n` instructions: its value, the values printed, what each reducer comes to and
-/// all that is counted of its strand tree, exactly where the code's meaning gives them.
+/// Runs code on these arguments within `n` instructions. Returns its value, the values printed, the total of each
+/// reducer, and all measures of its strand tree, exactly as the meaning of the code defines them.
 ///
-/// `burden` is what is charged for a spawn, by which the burdened spans alone are told.
+/// `burden` is the charge for a spawn, in instructions. It changes only the burdened spans.
 ///
-/// The error is `Arguments` exactly where the count of the arguments is not that of `main`'s parameters, or `n` is not
-/// in 1..=2^62, or more than 1,000,000,000 instructions are charged for an edge; otherwise `OverLimit` exactly where the run
-/// costs more than `n`,
-/// `Trap` exactly where it traps, with its line and the values printed before, and `Memory` where memory runs out.
+/// # Errors
+///
+/// `Fault::Arguments` exactly if the number of arguments is not the number of `main`'s parameters, or `n` is not in
+/// 1..=2^62, or more than 1,000,000,000 instructions are charged for an edge. Otherwise `Fault::OverLimit` exactly if
+/// the run costs more than `n`, `Fault::Trap` exactly if it traps, with the line and the values printed before, and
+/// `Fault::Memory` if memory runs out.
 pub fn run_alone(
     alloc: Global,
     code: Arc<Verified>,
@@ -69,8 +71,9 @@ pub fn run_alone(
     Ok(ended)
 }
 
-// A whole run of code on these arguments within `n` instructions, of which so much is kept: the value that it ended with,
-// if it gives one, and what it has shown. The errors are those of `run_alone`.
+// Executes a whole run of code on these arguments within `n` instructions, and records what `detail` says. Returns
+// the value with which it ended, if it returns one, and what it has printed, counted and recorded. The errors are
+// the errors of `run_alone`.
 pub(crate) fn run_whole(
     alloc: Global,
     code: &Verified,
@@ -111,8 +114,8 @@ pub(crate) fn run_whole(
     }
 }
 
-// What a run of code comes to that ended with this value, if it gives one, and has shown this. Of the code's tags no two
-// are the same.
+// Builds the result of a run of this code from its value, if it returns one, and from what the run has printed,
+// counted and recorded. The code's tags are distinct.
 pub(crate) fn end_of(
     alloc: Global,
     code: &Code,
@@ -142,7 +145,7 @@ pub(crate) fn end_of(
     })
 }
 
-// The rows under their numbers. A number of a site has 32 bits, and a map has no room for as many rows as that.
+// Returns the rows, keyed by their numbers. The number of a site has 32 bits, and a map has no room for 2^32 rows.
 fn by_number(alloc: Global, rows: &[SiteRow]) -> Result<IndexMap<u32, SiteRow>, AllocError>
     ensures { IfOk result (λ m. m.entries ≡ enumerate_from 0 rows.now) }
 {
@@ -154,7 +157,7 @@ fn by_number(alloc: Global, rows: &[SiteRow]) -> Result<IndexMap<u32, SiteRow>, 
     Ok(sites)
 }
 
-// The rows under their tags, of which no two are the same.
+// Returns the rows, keyed by their tags. The tags are distinct.
 fn by_tag(
     alloc: Global,
     tags: &[Name],
@@ -171,14 +174,14 @@ fn by_tag(
     Ok(regions)
 }
 
-/// How many arguments `main` takes.
+/// Returns the number of arguments that `main` takes.
 pub fn main_takes(code: &Verified) -> usize
     ensures { result ≡ fits.main_params (code_view code.now.code) }
 {
     code.func(code.code.main as usize).params
 }
 
-// The value that a call gave, and 0 where it gave none.
+// Returns the value of a call, or 0 if the call returns none.
 pub(crate) fn int_given(value: Option<i64>) -> i64
     ensures { result ≡ answers.int_given value }
 {

@@ -1,4 +1,4 @@
-//! What the effect of a whole run answers.
+//! Converts the effect of the job of a whole run to the result of the run.
 
 ghost use Rattle.std.specs.Prelude.{ℕ, ℤ, List};
 ghost use Rattle.cw_code.specs.Code.{code_view};
@@ -23,7 +23,7 @@ use cw_strand_laws::laws::the_root_answers_what_the_code_gives;
 use cw_text::Fault;
 use std::alloc::Global;
 
-// The value of a run that ended and what it has shown, by its effect; else why it has none.
+// Returns the value of a run that ended and what the run has shown, or the fault that its effect reports.
 fn ended_in(effect: Effect) -> Result<(Option<i64>, Shown), Fault>
     requires { ∥ IsOfRun effect ∥₁ }
     ensures { TakesOut effect result }
@@ -53,11 +53,13 @@ fn ended_in(effect: Effect) -> Result<(Option<i64>, Shown), Fault>
     }
 }
 
-/// What a run of this code answers whose job, that of the whole run of which all was counted, came to this effect: as
-/// `run_alone` answers, whoever ran the job, on however many workers.
+/// Converts the effect of the job of a whole run of this code, which recorded all measures, to the result that
+/// `run_alone` returns. The result does not depend on the workers that executed the job, nor on their number.
 ///
-/// The error is `OverLimit` or `Trap`, as the effect tells, and `Memory` where memory was wanting, in the run or here, or
-/// where the run was given up.
+/// # Errors
+///
+/// `Fault::OverLimit` or `Fault::Trap` if the effect is of that kind; `Fault::Memory` if memory ran out, in the run
+/// or here, or if the run was given up.
 pub fn answer(alloc: Global, code: &Verified, effect: Effect) -> Result<Ended, Fault>
     requires whole { ∥ IsOfWhole code.now effect ∥₁ }
     ensures tells { IsAnswerOf effect result }
@@ -71,8 +73,12 @@ pub fn answer(alloc: Global, code: &Verified, effect: Effect) -> Result<Ended, F
     Ok(ended)
 }
 
-/// What a run gives whose job, that of the whole run, came to this effect, however much was kept of it: as `values_alone`
-/// answers. The errors are those of `answer`; of a run that ended none comes.
+/// Converts the effect of the job of a whole run, with any detail recorded, to the result that `values_alone`
+/// returns.
+///
+/// # Errors
+///
+/// As for `answer`; a run that ended causes none.
 pub fn values_of(effect: Effect) -> Result<Values, Fault>
     requires { ∥ IsOfRun effect ∥₁ }
     ensures tells { AreValuesOf effect result }
@@ -90,8 +96,12 @@ pub fn values_of(effect: Effect) -> Result<Values, Fault>
     })
 }
 
-/// The strands of a run whose job, that of the whole run of which the strands were kept, came to this effect: as
-/// `strands_alone` answers. The errors are those of `answer`.
+/// Converts the effect of the job of a whole run that recorded its strands to the strands that `strands_alone`
+/// returns.
+///
+/// # Errors
+///
+/// As for `answer`.
 pub fn strands_of(effect: Effect) -> Result<Strands, Fault>
     requires { ∥ IsOfRun effect ∥₁ }
     ensures tells { IsAnswerOf effect result }

@@ -1,4 +1,4 @@
-//! What instructions on arrays do.
+//! The execution of instructions on arrays.
 
 ghost use Rattle.std.specs.Prelude.{◌≡◌, ◌+◌, ◌<◌, ◌^◌, ℤ, length, Some, slice_get, IfOk, OnOk};
 ghost use Rattle.cw_runnable.specs.declared.op.Op.TheVariants as op;
@@ -13,10 +13,10 @@ use cw_runnable::verified::Verified;
 use cw_slices::Block;
 use std::alloc::AllocError;
 
-// The greatest length of an array, as an operand.
+// The maximum length of an array, as an operand.
 const GREATEST_LENGTH: i64 = MOST_ELEMENTS as i64;
 
-// Whether an index is one of so many elements.
+// Whether an index is within an array of length `len`.
 #[inline(always)]
 pub(crate) fn is_within(i: i64, len: usize) -> bool
     ensures { result ≡ arrays.is_index i len }
@@ -24,7 +24,7 @@ pub(crate) fn is_within(i: i64, len: usize) -> bool
     i >= 0 && (i as usize) < len
 }
 
-// The length of a new array, or why there is none.
+// Returns the length of a new array, or the trap if the operand is no valid length.
 #[inline(always)]
 fn new_length(n: i64) -> Result<usize, Trap>
     ensures length { arrays.IsNewLength n result }
@@ -36,7 +36,7 @@ fn new_length(n: i64) -> Result<usize, Trap>
     Ok(n as usize)
 }
 
-// The place where so many elements are cut, or why there is none.
+// Returns the index at which an array of length `len` is cut, or the trap if the operand is out of range.
 #[inline(always)]
 fn cut_place(k: i64, len: usize) -> Result<usize, Trap>
     ensures { arrays.IsCutPlace k len result }
@@ -47,7 +47,7 @@ fn cut_place(k: i64, len: usize) -> Result<usize, Trap>
     Ok(k as usize)
 }
 
-// So many places after one.
+// Returns the index `k` positions after `from`.
 #[inline(always)]
 fn beyond(from: usize, k: usize) -> usize
     requires { 0 < k → from + k < 2 ^ 64 }
@@ -57,7 +57,7 @@ fn beyond(from: usize, k: usize) -> usize
 }
 
 impl Machine {
-    // Where the array in a slot lies.
+    // Returns the view of the array in a slot.
     #[inline(always)]
     pub(crate) fn view(&self, a: u32) -> View
         requires { self.now.first_array + a < length self.now.views.items }
@@ -66,7 +66,7 @@ impl Machine {
         self.views[self.first_array + a as usize]
     }
 
-    // What a place of a block has.
+    // Returns the element of a block at an index.
     #[inline(always)]
     fn at(&self, block: usize, k: usize) -> i64
         requires { (x : ℤ) × arrays.found self.now.blocks.items block k ≡ Some x }
@@ -75,7 +75,7 @@ impl Machine {
         self.blocks[block].get(k)
     }
 
-    // A value, into a place of a block that is all its own.
+    // Writes an element of a block. The block must hold the element, with no share of it out.
     #[inline(always)]
     fn set_at(&mut self, block: usize, k: usize, x: i64)
         requires there { (y : ℤ) × arrays.found self.old.blocks.items block k ≡ Some y }
@@ -87,7 +87,7 @@ impl Machine {
         self.blocks[block].set(k, x);
     }
 
-    // Another view for a cell.
+    // Replaces the view of a cell.
     #[inline(always)]
     fn set_view(&mut self, cell: usize, block: usize, from: usize, len: usize)
         requires { cell < length self.old.views.items }
@@ -98,7 +98,8 @@ impl Machine {
         self.views[cell] = View { block, from, len };
     }
 
-    // So many zeros as the block of a cell. The old one is let go first, so that there are never both.
+    // Replaces the block of a cell by `len` zeros. It frees the old block first, so that the two never exist at the
+    // same time.
     fn renew(&mut self, cell: usize, len: usize) -> Result<(), AllocError>
         requires there { cell < length self.old.blocks.items }
         requires small { len < 2 ^ 60 }
@@ -110,7 +111,7 @@ impl Machine {
         Ok(())
     }
 
-    // An array of zeros, into a slot.
+    // Puts an array of zeros into a slot.
     #[inline(always)]
     pub(crate) fn new_array(&mut self, _code: &Verified, d: usize, a: u32, line: u32) -> Moved
         requires { ∥ IsAt _code.now self.old (op.NewArray d a line) ∥₁ }
@@ -131,7 +132,7 @@ impl Machine {
         }
     }
 
-    // The count of the elements of an array, into a cell.
+    // Puts the length of an array into a cell.
     #[inline(always)]
     pub(crate) fn length(&mut self, _code: &Verified, d: usize, a: u32) -> Moved
         requires { ∥ IsAt _code.now self.old (op.Length d a) ∥₁ }
@@ -142,7 +143,7 @@ impl Machine {
         Moved::On
     }
 
-    // An element of an array, into the cell that had its index.
+    // Replaces the index in a cell by that element of an array.
     #[inline(always)]
     pub(crate) fn element(&mut self, _code: &Verified, d: usize, a: u32, line: u32) -> Moved
         requires { ∥ IsAt _code.now self.old (op.Element d a line) ∥₁ }
@@ -158,7 +159,7 @@ impl Machine {
         Moved::On
     }
 
-    // The value of the cell after one with an index, into that element of an array.
+    // Writes the value of the next cell into an array, at the index in a cell.
     #[inline(always)]
     pub(crate) fn set_element(&mut self, _code: &Verified, d: usize, a: u32, line: u32) -> Moved
         requires { ∥ IsAt _code.now self.old (op.SetElement d a line) ∥₁ }
@@ -175,8 +176,8 @@ impl Machine {
         Moved::On
     }
 
-    // An array is cut: its parts go into two slots. An error is a trap, or none where memory was refused. Apart, so that the
-    // loop of a run need not hold it.
+    // Cuts an array: its two parts go into two slots. The error is a trap, or `None` if memory runs out. A separate
+    // function, so that the loop of a run stays small.
     #[inline(never)]
     fn cut_apart(
         &mut self,
@@ -207,7 +208,7 @@ impl Machine {
         Ok(())
     }
 
-    // The same, and where it led.
+    // Executes a cut, as `cut_apart` does, and returns the outcome of the step.
     #[inline(always)]
     pub(crate) fn cut(&mut self, code: &Verified, d: usize, h: &Halves, line: u32) -> Moved
         requires { ∥ IsAt code.now self.old (op.Cut d h.now line) ∥₁ }
@@ -220,7 +221,7 @@ impl Machine {
         }
     }
 
-    // A cut ends: the elements of its parts lie in the array already.
+    // Ends a cut. The elements of the parts are in the array already, because the parts are views of its block.
     #[inline(always)]
     pub(crate) fn end_cut(&mut self, _code: &Verified, h: &Halves) -> Moved
         requires { ∥ IsAt _code.now self.old (op.EndCut h.now) ∥₁ }

@@ -1,4 +1,4 @@
-//! What the spans of a run would be if the instructions of some sites' invocations were free.
+//! Computes the spans that a run would have if the instructions of some sites' invocations were zero-cost.
 
 ghost use Rattle.std.specs.Prelude.{◌≡◌};
 ghost use Rattle.cw_code.specs.Code.{code_view};
@@ -14,15 +14,15 @@ use cw_text::Fault;
 use std::alloc::{AllocError, Global};
 use std::sync::Arc;
 
-/// The meter of a run in which some sites are freed, and which these are.
+/// The meter of a run in which some sites are zero-cost, and the list of these sites.
 #[derive(Drop, Debug)]
 pub(crate) struct Freeing {
     pub(crate) meter: FreedMeter,
-    /// For each site, by its number, whether it is freed; none is behind the list's end.
+    /// For each site, by its number, whether it is zero-cost. No site past the end of the list is.
     pub(crate) frees: Vec<bool>,
 }
 
-// Whether a site is freed.
+// Whether a site is zero-cost.
 #[inline(always)]
 fn is_free(frees: &[bool], site: u32) -> bool
     ensures { result ≡ is_freed frees.now site }
@@ -79,17 +79,20 @@ impl Listener for Freeing {
     }
 }
 
-/// Runs code on these arguments within `n` instructions and tells what the spans of the run would be if the
-/// instructions of some call sites' invocations were free: those of its strand tree in which they weigh nothing.
+/// Runs code on these arguments within `n` instructions, and returns the spans that the run would have if the
+/// instructions of some call sites' invocations were zero-cost: the spans of its strand tree in which these
+/// instructions weigh nothing.
 ///
-/// `frees` says for each site, by its number, whether it is freed; site 0 is the call of `main` by the run itself, and
-/// no site behind the list's end is freed. `burden` is what is charged for a spawn, by which the burdened span alone is
-/// told: it is charged where a freed invocation spawns, too.
+/// `frees` says for each site, by its number, whether it is zero-cost. Site 0 is the call of `main` by the run
+/// itself, and no site past the end of the list is zero-cost. `burden` is the charge for a spawn, in instructions. It
+/// changes only the burdened span, and is also charged if a zero-cost invocation spawns.
 ///
-/// The error is `Arguments` exactly where the count of the arguments is not that of `main`'s parameters, or `n` is not
-/// in 1..=2^62, or more than 1,000,000,000 instructions are charged for an edge; otherwise `OverLimit` exactly where the
-/// run costs more than `n`, instructions that are free included, `Trap` exactly where it traps, with its line and the
-/// values printed before, and `Memory` where memory runs out.
+/// # Errors
+///
+/// `Fault::Arguments` exactly if the number of arguments is not the number of `main`'s parameters, or `n` is not in
+/// 1..=2^62, or more than 1,000,000,000 instructions are charged for an edge. Otherwise `Fault::OverLimit` exactly if
+/// the run costs more than `n`, with the zero-cost instructions counted, `Fault::Trap` exactly if it traps, with the
+/// line and the values printed before, and `Fault::Memory` if memory runs out.
 pub fn freed_alone(
     alloc: Global,
     code: Arc<Verified>,

@@ -1,5 +1,6 @@
-//! A rest that ran elsewhere comes back: its arrays and numbers come home, and the machine goes on from where it came to.
-//! Its lines, totals and measures are joined in `giving.rt` of `cw_strand`.
+//! Takes back a continuation that was executed elsewhere: its arrays and values return to the machine, which
+//! continues from the place that the continuation reached. `giving.rt` of `cw_strand` joins its lines, totals and
+//! measures.
 
 ghost use Rattle.std.specs.Prelude.{◌≡◌, ◌≢◌, ℕ, ◌+◌, ◌<◌, ◌≤◌, length, Some, slice_get, MatchBool};
 ghost use Rattle.std.specs.Option.{option_flatten};
@@ -16,7 +17,7 @@ use cw_jobs::call::Rest;
 use cw_slices::{Block, Slice};
 use std::mem;
 
-// The array that comes home to a slot; a new one that was made in the slot stays in its place in `replaced`.
+// Takes the array that returns to a slot. A new array that was made in the slot stays in `replaced`, at its index.
 pub(crate) fn take_home(
     slices: &mut Vec<Slice>,
     replaced: &mut Vec<Option<Slice>>,
@@ -41,7 +42,7 @@ pub(crate) fn take_home(
     }
 }
 
-// The new array of a slot, where one was made.
+// Takes the new array of a slot, if one was made.
 fn take_new(made: &mut Vec<Option<Slice>>, a: usize) -> Option<Slice>
     ensures taken { result ≡ option_flatten (slice_get made.old.items a) }
     ensures others { (b : ℕ) → b ≢ a → slice_get made.new.items b ≡ slice_get made.old.items b }
@@ -52,7 +53,7 @@ fn take_new(made: &mut Vec<Option<Slice>>, a: usize) -> Option<Slice>
     mem::replace(&mut made[a], None)
 }
 
-// Whether a slot is the one that has the result of the call already.
+// Whether a slot is the target that already holds the result of the spawned call.
 fn is_target(target: Option<u32>, k: usize) -> bool
     ensures { MatchBool result (target ≡ Some k) (Some k ≢ target) }
 {
@@ -63,7 +64,7 @@ fn is_target(target: Option<u32>, k: usize) -> bool
 }
 
 impl Machine {
-    // A new array becomes that of a slot of the call that runs, in a block of its own, where there is one.
+    // Puts the new array, if there is one, into an array slot of the call that runs, in a block of its own.
     fn lay_new(&mut self, a: usize, slot: Option<Slice>)
         requires { MayTakeNew self.old (self.old.first_array + a) slot }
         ensures { HasNew self.old (self.old.first_array + a) slot self.new }
@@ -83,7 +84,8 @@ impl Machine {
         }
     }
 
-    // Each array comes home, the newest share of a place first; `replaced` has the new ones now.
+    // Returns each array to its slot, the newest share of an element first. Afterwards `replaced` holds the new
+    // arrays.
     fn lay_homes(
         &mut self,
         slices: &mut Vec<Slice>,
@@ -106,7 +108,7 @@ impl Machine {
         }
     }
 
-    // Each new array becomes that of its slot, of which there are so many.
+    // Puts each new array into its slot; there are `count` slots.
     fn lay_made(&mut self, made: &mut Vec<Option<Slice>>, count: usize)
         requires { ∥ MayMake self.old made.old.items count ∥₁ }
         ensures shows { LaysMade self.old made.old.items count self.new }
@@ -118,7 +120,7 @@ impl Machine {
         }
     }
 
-    // The value of a slot or operand, but for the slot that has the result of the call already.
+    // Writes the value of a slot or operand, except for the slot that already holds the result of the spawned call.
     fn lay_cell(&mut self, k: usize, v: i64, target: Option<u32>)
         requires { self.old.first ≤ length self.old.cells.items }
         ensures cells { LaysCell self.old k v target self.new }
@@ -132,7 +134,7 @@ impl Machine {
         self.cells[at] = v;
     }
 
-    // The values of slots and operands, as many as there is room for.
+    // Writes the values of slots and operands, as far as there is room for them.
     fn lay_cells(&mut self, cells: &Vec<i64>, target: Option<u32>)
         requires { self.old.first ≤ length self.old.cells.items }
         ensures cells { LaysCells self.old cells.now.items target self.new }
@@ -144,11 +146,12 @@ impl Machine {
         }
     }
 
-    /// Gives back a rest of the call that runs, which ran elsewhere up to its join: its arrays come home to where they
-    /// lay, with the numbers that they have now; where a new array was made in a slot, the slot's own is in `replaced`;
-    /// its values are those of the call, but for the slot `target` of the call that was spawned, whose result lies
-    /// there; and the machine goes on at its place. The call has so many array slots, and `lent` is what the spawned call
-    /// was lent. The rest keeps slices without numbers. It takes no memory and cannot fail.
+    /// Takes back a continuation of the call that runs, which was executed elsewhere up to its join. Its arrays
+    /// return to where they were, with their current elements; if a new array was made in a slot, `replaced` holds
+    /// the slot's own array. The call takes the values of the continuation, except for the slot `target` of the
+    /// spawned call, which already holds its result, and continues at the continuation's place. The call has `slots`
+    /// array slots, and `lent` lists what the spawned call was lent. The continuation keeps slices without elements.
+    /// Allocates nothing and cannot fail.
     pub fn give_rest(
         &mut self,
         back: &mut Rest,

@@ -1,4 +1,4 @@
-//! The rest of a block is handed out at a spawn, with the arrays of the call that waits.
+//! Hands out the continuation of a block at a spawn, with the arrays of the waiting call.
 
 ghost use Rattle.std.specs.Prelude.{◌≡◌, ◌+◌, ◌-◌, ◌<◌, ◌≤◌, ◌^◌, length, reverse, slice_range, IfOk, OnOk, OnErr};
 ghost use Rattle.cw_machine.specs.Shows.{StaysBut};
@@ -14,16 +14,16 @@ use cw_runnable::verified::Verified;
 use cw_slices::Slice;
 use std::alloc::AllocError;
 
-/// The call that a rest was handed out of.
+/// The call whose continuation was handed out.
 #[derive(Clone, Copy, Debug)]
 pub struct Lender {
-    /// The cell of its first array slot.
+    /// The index of its first array slot in the machine.
     pub first: usize,
-    /// How many array slots it has: so many of the rest's slices are of these.
+    /// The number of its array slots. This many slices of the continuation belong to them.
     pub slots: usize,
 }
 
-// Whether a slot is among some.
+// Whether a slot is in a list of slots.
 fn is_among(a: usize, slots: &[u32]) -> bool
     ensures { result ≡ arrays.is_among a slots.now }
 {
@@ -35,7 +35,7 @@ fn is_among(a: usize, slots: &[u32]) -> bool
     false
 }
 
-// Whether one of these loans is of the array in a slot.
+// Whether one of these loans is a loan of the array in a slot.
 fn is_lent(a: usize, lent: &[Loan]) -> bool
     ensures { result ≡ arrays.is_among a (slots_lent lent.now) }
 {
@@ -52,8 +52,8 @@ fn is_lent(a: usize, lent: &[Loan]) -> bool
     false
 }
 
-// Whether a slice of a rest is a share: of an array that its call reads, which come behind so many slots, or of one that
-// the spawned call was lent.
+// Whether slice `a` of a continuation is a share: `a` is at least `slots`, so the call only reads the array, or the
+// array in slot `a` was lent to the spawned call.
 #[inline(always)]
 pub(crate) fn is_shared(a: usize, slots: usize, lent: &[Loan]) -> bool
     ensures { result ≡ arrays.shares_slice slots (slots_lent lent.now) a }
@@ -61,7 +61,7 @@ pub(crate) fn is_shared(a: usize, slots: usize, lent: &[Loan]) -> bool
     a >= slots || is_lent(a, lent)
 }
 
-// Slices without numbers, so that there are so many at least.
+// Adds slices without elements, so that there are at least `count`.
 fn make_slices(slices: &mut Vec<Slice>, count: usize) -> Result<(), AllocError>
     ensures more { HasMoreBare slices.old.items slices.new.items }
     ensures enough { OnOk result (count ≤ length slices.new.items) }
@@ -73,7 +73,8 @@ fn make_slices(slices: &mut Vec<Slice>, count: usize) -> Result<(), AllocError>
     Ok(())
 }
 
-// A rest gets so many cells and slices: out of line, since one that is used again most often has them.
+// Gives a continuation `cells` cells and `slices` slices. Not inlined, since a continuation that is reused usually
+// has them.
 #[cold]
 #[inline(never)]
 fn make_fit(rest: &mut Rest, cells: usize, slices: usize) -> Result<(), AllocError>
@@ -87,7 +88,7 @@ fn make_fit(rest: &mut Rest, cells: usize, slices: usize) -> Result<(), AllocErr
     Ok(())
 }
 
-// A rest has so many cells and slices, and gets them where it has not.
+// Makes sure that a continuation has `cells` cells and `slices` slices.
 #[inline(always)]
 fn fit(rest: &mut Rest, cells: usize, slices: usize) -> Result<(), AllocError>
     ensures cells { OnOk result (length rest.new.cells.items ≡ cells) }
@@ -102,8 +103,9 @@ fn fit(rest: &mut Rest, cells: usize, slices: usize) -> Result<(), AllocError>
 }
 
 impl Machine {
-    // Whether the array of a cell is cut by an open block of the call at a first cell, the newest that has any. Cells
-    // of arrays that are cut rise with the calls, so the search ends at the first one below that cell.
+    // Whether an open block of the call whose first array slot is `first`, the newest call that has cuts, has cut the
+    // array of a cell. The cells of cut arrays increase with the calls, so the search ends at the first one below
+    // `first`.
     fn is_cut(&self, cell: usize, first: usize) -> bool
         ensures { result ≡ hands.is_cut_among cell first (reverse self.now.cuts.items) }
     {
@@ -120,7 +122,8 @@ impl Machine {
         false
     }
 
-    // Whether the array in a slot of the call at a first cell stays here: the spawn took it, or an open cut has it.
+    // Whether the array in a slot of the call whose first array slot is `first` stays here: the spawn took it, or an
+    // open cut uses it.
     fn stays(&self, first: usize, a: usize, passed: &[u32]) -> bool
         requires { first + a < 2 ^ 64 }
         ensures { result ≡ stays_here self.now.cuts.items first passed.now a }
@@ -128,7 +131,7 @@ impl Machine {
         is_among(a, passed) || self.is_cut(first + a, first)
     }
 
-    // The frame of the call that waits nearest.
+    // Returns the frame of the newest waiting call.
     #[inline(always)]
     fn waiting(&self) -> Frame
         requires { 0 < length self.now.frames.items }
@@ -137,7 +140,7 @@ impl Machine {
         self.frames[self.frames.len() - 1]
     }
 
-    // These cells, into as many others.
+    // Copies the cells from `from` to `to` into a vector of the same length.
     fn copy_cells(&self, from: usize, to: usize, cells: &mut Vec<i64>)
         requires order { from ≤ to }
         requires there { to ≤ length self.now.cells.items }
@@ -147,7 +150,7 @@ impl Machine {
         cells.copy_from_slice(&self.cells[from..to]);
     }
 
-    // The array of a cell is lent, where it doesn't stay here and has elements.
+    // Lends the array of a cell, unless it stays here or has no elements.
     #[inline(always)]
     fn lend_out(&mut self, cell: usize, stays: bool) -> Slice
         requires { MayLend self.old cell stays }
@@ -161,7 +164,7 @@ impl Machine {
         self.blocks[v.block].lend(v.from, v.len)
     }
 
-    // The array of a cell is shared, where it has elements.
+    // Shares the array of a cell, if it has elements.
     #[inline(always)]
     fn share_out(&mut self, cell: usize) -> Slice
         requires { MayShare self.old cell }
@@ -175,7 +178,8 @@ impl Machine {
         self.blocks[v.block].share(v.from, v.len)
     }
 
-    // The slice with this number of the call at a first cell: a share, or the array, where it doesn't stay here.
+    // Returns the slice with index `a` for the call whose first array slot is `first`: a share, or the array itself
+    // unless it stays here.
     #[inline(always)]
     fn hand_one(&mut self, first: usize, a: usize, shared: bool, passed: &[u32]) -> Slice
         requires { MayHandOne self.old first a shared passed.now }
@@ -188,8 +192,8 @@ impl Machine {
         self.lend_out(first + a, stays)
     }
 
-    // The arrays of the call that waits nearest, whose first cell is this one, each into the slice of its slot, and
-    // those that it reads into the slices behind these.
+    // Hands out the arrays of the newest waiting call, each into the slice of its slot, and shares of the arrays that
+    // it reads into the slices after these.
     #[inline(never)]
     fn hand_each(&mut self, lender: Lender, passed: &[u32], lent: &[Loan], slices: &mut Vec<Slice>)
         requires { ∥ MayHandAll self.old lender passed.now lent.now slices.old.items ∥₁ }
@@ -202,7 +206,7 @@ impl Machine {
         }
     }
 
-    // The same, where there are any: of a call without arrays nothing is called.
+    // Hands out the arrays, if there are any. For a call without arrays it calls nothing.
     #[inline(always)]
     fn hand_arrays(
         &mut self,
@@ -221,14 +225,16 @@ impl Machine {
         self.hand_each(lender, passed, lent, slices);
     }
 
-    /// The rest of the block that has just spawned a call: the slots and arrays of the call that waits nearest, into
-    /// a rest whose vectors are used again, whatever it held. `passed` are the array slots that the spawn took, and
-    /// `lent` is what the spawned call only reads: of that, and of what the waiting call reads, the rest has shares. The
-    /// machine goes on as it was while the arrays are out; `take_back` brings them home. The value is the call that was
-    /// handed out.
+    /// Hands out the continuation of the block that has just spawned a call: puts the slots and arrays of the newest
+    /// waiting call into `rest`. The vectors of `rest` are reused, and their contents are replaced. `passed` lists the
+    /// array slots that the spawn took, and `lent` lists what the spawned call only reads. The continuation gets
+    /// shares of these arrays, and of the arrays that the waiting call reads. The machine continues unchanged while
+    /// the arrays are out; `take_back` returns them. Returns the call whose continuation was handed out.
     ///
-    /// The error is want of memory. Then the machine is as it was, and so is the rest, but that it may have more
-    /// slices without numbers.
+    /// # Errors
+    ///
+    /// `AllocError` if memory runs out. Then the machine is unchanged, and so is `rest`, except that it may have more
+    /// slices without elements.
     #[inline(always)]
     pub fn hand_out(
         &mut self,

@@ -1,4 +1,4 @@
-//! Operators on two values.
+//! The operators on one and two values.
 
 ghost use Rattle.std.specs.Prelude.{◌≡◌};
 ghost use Rattle.cw_model.specs.Ints as ints;
@@ -10,7 +10,7 @@ use cw_code::code::UnaryOperator;
 use cw_model::syntax::Operator;
 use cw_model::trap::Trap;
 
-// An operator on two values: its result, or why it traps.
+// Applies an operator to two values. Returns the result, or the trap if the operator traps.
 #[inline(always)]
 pub fn operate(operator: Operator, v: i64, w: i64) -> Result<i64, Trap>
     ensures { IsResult (apply operator v w) result }
@@ -42,7 +42,7 @@ pub fn operate(operator: Operator, v: i64, w: i64) -> Result<i64, Trap>
     }
 }
 
-// An operator on a value: its result, or why it traps.
+// Applies an operator to a value. Returns the result, or the trap if the operator traps.
 #[inline(always)]
 pub fn operate_on(operator: UnaryOperator, v: i64) -> Result<i64, Trap>
     ensures { IsResult (apply_unary operator v) result }
@@ -53,7 +53,7 @@ pub fn operate_on(operator: UnaryOperator, v: i64) -> Result<i64, Trap>
     }
 }
 
-// Whether a value is 0.
+// Returns whether a value is 0.
 #[inline(always)]
 pub fn is_zero(v: i64) -> bool
     ensures { result ≡ ints.is_zero v }

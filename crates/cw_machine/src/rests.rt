@@ -1,4 +1,4 @@
-//! Arrays of a call that are out while it waits, and come home.
+//! The return of arrays that were handed out while their call waits.
 
 ghost use Rattle.std.specs.Prelude.{◌≡◌, ◌+◌, length};
 ghost use Rattle.cw_machine.specs.Rests.{MayTake, TakesHome, AreBare, MayLay, HasLaid};
@@ -11,8 +11,8 @@ use cw_jobs::call::Rest;
 use cw_slices::Slice;
 
 impl Machine {
-    // A slice, a share or not, goes home to where the array lies with this number of a call, whose first array slot is
-    // this cell; one without numbers has no home.
+    // Returns a slice, a share or not, to its place in array `a` of the call whose first array slot is `first`. A
+    // slice without elements has no place to return to.
     #[inline(always)]
     pub(crate) fn lay_at(&mut self, first: usize, a: usize, shared: bool, slice: Slice)
         requires { MayLay self.old (first + a) shared slice }
@@ -29,8 +29,8 @@ impl Machine {
         }
     }
 
-    // The arrays that were handed out with a rest of the call that runs go home, each to its slot, the newest share of a
-    // place first: out of line, since most rests have none.
+    // Returns the arrays that were handed out with a continuation of the call that runs, each to its slot, the newest
+    // share of an element first. Not inlined, since most continuations have none.
     #[inline(never)]
     fn lay_each(&mut self, rest: &mut Rest, slots: usize, lent: &[Loan])
         requires { ∥ MayTake self.old slots (slots_lent lent.now) rest.old.slices.items ∥₁ }
@@ -49,10 +49,10 @@ impl Machine {
         }
     }
 
-    /// Takes back the arrays that were handed out with a rest of the call that runs, in the slots that they were of:
-    /// the machine goes on as if they had never been out. The call has so many array slots, and `lent` is what the
-    /// spawned call was lent. The rest keeps slices without numbers; its cells are not looked at. It takes no memory and
-    /// cannot fail.
+    /// Takes back the arrays that were handed out with a continuation of the call that runs, into the slots from
+    /// which they came. The machine continues as if they had never been handed out. The call has `slots` array slots,
+    /// and `lent` lists what the spawned call was lent. The continuation keeps slices without elements; its cells are
+    /// not read. Allocates nothing and cannot fail.
     #[inline(always)]
     pub fn take_back(&mut self, rest: &mut Rest, slots: usize, lent: &[Loan])
         requires { ∥ MayTake self.old slots (slots_lent lent.now) rest.old.slices.items ∥₁ }

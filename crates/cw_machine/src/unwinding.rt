@@ -1,4 +1,4 @@
-//! Arrays that are out come home into a machine that stopped, one call after another, the newest first.
+//! The return of arrays that are out to a machine that stopped, one call at a time, the newest call first.
 
 ghost use Rattle.std.specs.Prelude.{◌≡◌, length};
 ghost use Rattle.cw_machine.specs.Rests.{AreBare};
@@ -12,10 +12,10 @@ use cw_code::code::Loan;
 use cw_slices::Slice;
 
 impl Machine {
-    /// Takes home the arrays of the newest call that is out, `lender`, into a machine that stopped, whatever it did
-    /// before: a rest of the call came back unrun, or with what became of it. `lent` is what the spawned call was lent.
-    /// Where a new array was made in a slot, the slot's own is in `replaced`, and the new one stays there. The slices are
-    /// left without numbers. It takes no memory and cannot fail.
+    /// Takes back the arrays of the newest call that is out, `lender`, into a machine that stopped, whatever it
+    /// executed before. The continuation of the call returned without being executed, or with its effect. `lent`
+    /// lists what the spawned call was lent. If a new array was made in a slot, `replaced` holds the slot's own array
+    /// before, and the new one afterwards. The slices are left without elements. Allocates nothing and cannot fail.
     pub fn come_home(
         &mut self,
         lender: Lender,

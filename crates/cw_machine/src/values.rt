@@ -1,4 +1,4 @@
-//! A run with one worker of which nothing is counted.
+//! Runs with one worker that measure nothing.
 
 ghost use Rattle.cw_code.specs.Code.{code_view};
 ghost use Rattle.cw_machine.specs.Runs as runs;
@@ -12,21 +12,23 @@ use cw_text::Fault;
 use std::alloc::Global;
 use std::sync::Arc;
 
-/// What a run gave that neither trapped nor passed its limit.
+/// The result of a run that finishes without a trap and within its limit.
 #[derive(Debug, Drop)]
 pub struct Values {
     /// The value of `main`.
     pub value: i64,
     /// The values printed, in order.
     pub lines: Vec<i64>,
-    /// For each reducer what it comes to, in source order.
+    /// The total of each reducer, in source order.
     pub totals: Vec<Total>,
 }
 
-/// Runs code on these arguments within `n` instructions: its value, the values printed and what each reducer comes to,
-/// exactly where the code's meaning gives them. Nothing is counted of its strand tree.
+/// Runs code on these arguments within `n` instructions. Returns its value, the values printed and the total of each
+/// reducer, exactly as the meaning of the code defines them. Measures nothing of its strand tree.
 ///
-/// The errors are those of `run_alone`; the burden is only looked at for that.
+/// # Errors
+///
+/// The errors of `run_alone`. The burden is used only to check for these errors.
 pub fn values_alone(
     alloc: Global,
     code: Arc<Verified>,

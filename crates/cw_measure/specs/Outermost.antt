@@ -66,7 +66,7 @@ abbrev pub begun_at : (first : Bool) → (reading : ℕ) → Tally → Tally
 begun_at true reading t = record { sum = t.sum; active = t.active + 1; began = reading }
 begun_at false reading t = record { sum = t.sum; active = t.active + 1; began = t.began }
 
--- a counted part begins at this reading; the first open one sets the start
+-- a counted part begins at this reading; if no other counted part is open, its start is recorded
 abbrev pub begun : (reading : ℕ) → Tally → Tally
 begun reading t = begun_at (t.active == 0) reading t
 
@@ -75,7 +75,7 @@ abbrev pub ended_at : (last : Bool) → (reading : ℕ) → Tally → Tally
 ended_at true reading t = record { sum = t.sum + (reading - t.began); active = t.active - 1; began = t.began }
 ended_at false reading t = record { sum = t.sum; active = t.active - 1; began = t.began }
 
--- a counted part ends at this reading; the last open one is added to the sum
+-- a counted part ends at this reading; if no other counted part is open, its measure is added to the sum
 abbrev pub ended : (reading : ℕ) → Tally → Tally
 ended reading t = ended_at (t.active == 1) reading t
 

@@ -1,4 +1,4 @@
--- Runs so far that are alike stay so.
+-- Runs so far that are alike remain alike.
 use Rattle.std.specs.Prelude.{◌≡◌, Bool, ℕ, true, false, ◌&&◌, ◌||◌, List, [], ◌∷◌, ◌++◌, Option, Some, None, refl}
 use Rattle.std.proofs.Common.{sym, ◌∙◌, ap, subst}
 use Rattle.std.proofs.lemmas.List.{append-nil, append_assoc}
@@ -42,7 +42,7 @@ same_lists a b c d e f h =
 and_further : (a b c : List Event) → SameParts a b → SameParts b c → SameParts a c
 and_further a b c h g = (further h.0 g.0, further h.1 g.1)
 
--- whether events have a join
+-- whether events contain a join
 pub joins_append : (es fs : List Event) → no_joins (es ++ fs) ≡ no_joins es && no_joins fs
 joins_append [] fs = refl
 joins_append (Work k ∷ es) fs = joins_append es fs
@@ -78,7 +78,7 @@ in_marked : (mark : Option Mark) (t u : Tree) → Regrouped t u → Regrouped (m
 in_marked None t u h = h
 in_marked (Some m) t u h = in_mark m h
 
--- one part more
+-- one more part
 alike_part : (s : Bool) (a b : List Event) (t u : Tree) → AreAlike a b → Regrouped t u → AreAlike (a ++ part_of s t ∷ []) (b ++ part_of s u ∷ [])
 alike_part s a b t u h r = record {
   parts = λ more.
@@ -99,7 +99,7 @@ alike_closed o p es fs s m h r =
     let Q : Option Mark → Type 0 = λ x. AreAlike (closed o es) (p.outer ++ part_of p.spawned (marked x (tree_of fs)) ∷ []) in
     subst Q m (subst P s (alike_part o.spawned o.outer p.outer (marked o.mark (tree_of es)) (marked o.mark (tree_of fs)) h (in_marked o.mark (tree_of es) (tree_of fs) r)))
 
--- a piece more
+-- one more piece
 spawned_on : (fs : List Event) → has_spawned_from true fs ≡ no_joins fs || has_spawned fs
 spawned_on [] = refl
 spawned_on (Work k ∷ fs) = spawned_on fs
@@ -124,7 +124,7 @@ alike_both es es' fs fs' h g = record {
   joins = joins_append es fs ∙ ap (λ (b : Bool). b && no_joins fs) h.joins ∙ ap (λ (b : Bool). no_joins es' && b) g.joins ∙ sym (joins_append es' fs');
 }
 
--- whether a block has spawned, with a piece without a join
+-- whether a block has spawned, after a piece without a join
 pub spawned_either : (a b : Bool) (es fs : List Event) → no_joins fs ≡ true → a ≡ has_spawned es → b ≡ has_spawned fs → a || b ≡ has_spawned (es ++ fs)
 spawned_either true b es fs n e f = sym (spawned_append false es fs ∙ ap (λ (x : Bool). has_spawned_from x fs) (sym e) ∙ spawned_on fs ∙ ap (λ (x : Bool). x || has_spawned fs) n)
 spawned_either false b es fs n e f = f ∙ sym (spawned_append false es fs ∙ ap (λ (x : Bool). has_spawned_from x fs) (sym e))

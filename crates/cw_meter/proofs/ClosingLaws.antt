@@ -1,4 +1,4 @@
--- A part of a run ends, and the tables are told of it.
+-- A part of a run ends, and the tables record it.
 use Rattle.std.specs.Prelude.{◌≡◌, ℕ, ◌≤◌, Bool, true, false, List, [], ◌∷◌, Option, Some, None, refl}
 use Rattle.std.proofs.Common.{sym, ◌∙◌, subst}
 use Rattle.std.proofs.lemmas.List.{append-nil}
@@ -28,11 +28,11 @@ use Rattle.cw_meter.specs.Tables.{Closes, Settles, opened}
 use Rattle.cw_meter.proofs.Counting.{counted_closed, small_tags}
 use Rattle.cw_meter.proofs.TableLaws.{tables_told, tables_late, tags_closed, told_spawned, sites_since, told_small, path_told, path_waits, none_since, fits_now, with_tables, with_regions}
 
--- what tables tell where a part with this mark ends, told at its events
+-- the tables represent the run after a part with this mark has ended
 abbrev Ended : (t new : Tables) (count : ℕ) (burden : Burden) (tags : Tags) (from : Origin) (os : List Open) (es : List Event) → Open → Type 0
 Ended t new count burden tags from os es o = TablesTell burden tags from count (o ∷ os) es t → TablesTell burden tags from count os (closed o es) new
 
--- a part is known by what it is
+-- a part is determined by its spawned flag and its mark
 of_mark : (P : Open → Type 0) (o : Open) (spawned : Bool) (mark : Option Mark) → o.spawned ≡ spawned → o.mark ≡ mark → P (record { spawned = spawned; mark = mark; outer = o.outer }) → P o
 of_mark P o spawned mark e f h =
     let A : Option Mark → Type 0 = λ x. P (record { spawned = spawned; mark = x; outer = o.outer }) in
@@ -41,7 +41,7 @@ of_mark P o spawned mark e f h =
 kind_of : (from : Origin) (tags : Tags) (o : Open) (os : List Open) (part : Part) (k : PartKind) → part.kind ≡ k → IsPart from tags o os part → IsOfKind tags o k
 kind_of from tags o os part k e h = let P : PartKind → Type 0 = λ x. IsOfKind tags o x in subst P e h.kind
 
--- the block that goes on has spawned as before, where the part was none that is spawned
+-- the block that continues has spawned exactly if it had before, if the part was not spawned
 goes_on : (mark : Option Mark) (before es : List Event) (b : Bool) → b ≡ has_spawned before → b ≡ has_spawned (closed (record { spawned = false; mark = mark; outer = before }) es)
 goes_on mark before es b e = e ∙ sym (spawned_append false before (Series (marked mark (tree_of es)) ∷ []))
 
@@ -52,7 +52,7 @@ joined_now : (burden : Burden) (tags : Tags) (from : Origin) (count : ℕ) (os :
     → TablesTell burden tags from count os es t → has_spawned es ≡ false
 joined_now burden tags from count os es t e h = sym h.spawned_is ∙ e
 
--- a call in place ends
+-- a plain call ends
 pub call_closed : (t : Tables) (s : SiteTable) (count : ℕ) (part : Part) → Leaves t.sites s count part.site → LatePathsWait → part.kind ≡ kind.Call
     → Closes t (with_tables t s t.path part.spawned) count part
 call_closed t s count part leaves waits e = λ burden tags from o os es is joined small light.

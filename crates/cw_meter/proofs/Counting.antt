@@ -21,7 +21,7 @@ use Rattle.cw_meter.specs.Origins.{Origin, Main, Rest, given_open}
 use Rattle.cw_meter.specs.Meters.{IsCounted, nothing_open, ticked}
 use Rattle.cw_meter.specs.Tables.{opened}
 
--- the burdened work of a block, with one event more
+-- the burdened work of a block, with one more event
 burdened_ticked : (burden : Burden) (es : List Event) (k : ℕ) → burdened_work burden (tree_of (es ++ Work k ∷ [])) ≡ burdened_work burden (tree_of es) + k
 burdened_ticked burden [] k = omega arith
 burdened_ticked burden (Work j ∷ es) k = let i = burdened_ticked burden es k in omega arith
@@ -52,7 +52,7 @@ pub one_at_most : (b : Bool) → one_if b ≤ 1
 one_at_most true = omega arith
 one_at_most false = omega arith
 
--- what counts a run counts what it comes to
+-- numbers that count a run so far count it after one more instruction
 pub counted_ticked : (burden : Burden) (from : Origin) (count : ℕ) (os : List Open) (es : List Event) → IsCounted burden from count os es → IsCounted burden from (count + 1) os (ticked es)
 counted_ticked burden from count os es k = record {
   work = let a = k.work in let b = work_more os es (Work 1) in omega arith;
@@ -117,7 +117,7 @@ small_tags burden tags from count os es small light k = record {
   active = λ number. let a = k.opened in let g = few_given from in let b = active_at_most (is_tag (tags.name number)) os in omega arith;
 }
 
--- a rest that ran apart
+-- a continuation that was executed separately
 pub counted_rest : (burden : Burden) (from : Origin) (count cost site : ℕ) (os : List Open) (es fs : List Event) → IsCounted burden from count os es
     → IsCounted burden (Rest site) cost [] fs → IsCounted burden from (count + cost) os (es ++ fs)
 counted_rest burden from count cost site os es fs k r = record {

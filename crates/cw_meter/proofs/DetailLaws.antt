@@ -1,4 +1,4 @@
--- What each call on a meter does, however much is kept.
+-- The effect of each call on a meter, for each detail that it records.
 use Rattle.std.specs.Prelude.{◌≡◌, ℕ, ◌+◌, ◌≤◌, ◌<◌, ◌^◌, Bool, true, false, nat_eq, List, [], ◌∷◌, length, Option, Some, refl}
 use Rattle.std.proofs.Common.{sym, ◌∙◌, ap, subst, arith}
 use Rattle.std.proofs.lemmas.Bool.{true≢false}
@@ -27,11 +27,11 @@ use Rattle.cw_meter.proofs.MeterLaws.{Counts, CountsBegin, CountsRegion, CountsE
 use Rattle.cw_meter.proofs.RestLaws.{CountsRest, meter_rest_starts, meter_here}
 use Rattle.cw_meter.proofs.OutsideLaws.{parts_many}
 
--- how much is kept is one of three
+-- the three details differ
 differ : (f : Detail → Bool) (d e : Detail) → f d ≡ true → f e ≡ false → d ≡ e → ⊥
 differ f d e so not_so same = true≢false (sym so ∙ ap f same ∙ not_so)
 
--- it is the strands
+-- the detail is the strands
 pub record Records (d : Detail) : Type 0 where
   pub counts : is_counted d ≡ false
   pub values : keeps_values d ≡ false
@@ -93,7 +93,7 @@ region_values old new count tag so opens = λ d tags from os es known. values_te
     (begun false (Some (Execution (tags.name tag))) es os) es [] (one_more (given_open from) count
     (record { spawned = false; mark = Some (Execution (tags.name tag)); outer = ticked es }) os old new opens.parts (few_given from))
 
--- what a part that begins is to a recorder, and to the count of those that are open
+-- the start of a part, for a recorder and for the number of open parts
 pub spawned_recorded : (old mid : Meter) (r : Recorder) (count : ℕ) → Records old.detail → IsOpened old mid → strands.BeginsChild mid.recorder r count
     → BeginsSpawned old (record mid { recorder = r }) count
 spawned_recorded old mid r count records opens begins = λ mark d tags from os es.
@@ -119,7 +119,7 @@ quiet_recorded old mid r count records opens begins = λ mark quiet d tags from 
     (record { spawned = false; mark = mark; outer = ticked es }) os old new opens.parts (few_given from))
     (λ small open_ h. subst (λ q. strands.BeginsQuiet q r count) opens.recorder begins from mark os es quiet small open_ h)
 
--- a region is such a part
+-- the start of a region
 pub regions_too : (old new : Meter) (count : ℕ) → BeginsQuiet old new count → BeginsRegions old new count
 regions_too old new count begins = λ tag d tags from os es known. begins (Some (Execution (tags.name tag))) tt d tags from os es
 
@@ -162,7 +162,7 @@ returns_recorded old mid r count records leaves ends = λ d tags from o os es.
     strands_tell old new count records leaves.detail d tags from (o ∷ os) os es (closed o (synced es)) (one_less (given_open from) count o os old new leaves.parts)
     (subst (λ q. strands.Returns q r count) leaves.recorder ends from o os es)
 
--- the block that runs joins, and an instruction that needs no call
+-- the current block joins, and an instruction that needs no call
 pub syncs_counted : (old new : Meter) (count : ℕ) → is_counted old.detail ≡ true → new.detail ≡ old.detail → CountsSync old new count → Syncs old new count
 syncs_counted old new count not_so kept syncs = λ d tags from os es. counted_tells old new count not_so kept d tags from os os es (synced es) (λ burden. syncs burden tags from os es)
 
@@ -183,7 +183,7 @@ instructions_need_no_call quiet m count Strands tags from os es small light open
     (h.0, (as_open (given_open from) count 1 os m h.1.0, quiet m.recorder count from os es small open_ h.1.1))
 instructions_need_no_call quiet m count (Measures burden) tags from os es small light open_ h = (h.0, ticks m count burden tags from os es h.1)
 
--- a rest is taken in
+-- a continuation is appended
 pub rests_counted : (old rest new : Meter) (count cost : ℕ) → is_counted old.detail ≡ true → new.detail ≡ old.detail → CountsRest old rest new count cost → Rests old rest new count cost
 rests_counted old rest new count cost so kept rests Values tags from os es fs small light open_ s n h g = absurd (differ is_counted old.detail Values so refl h.0)
 rests_counted old rest new count cost so kept rests Strands tags from os es fs small light open_ s n h g = absurd (differ is_counted old.detail Strands so refl h.0)
@@ -215,7 +215,7 @@ rest_starts_as Values site m is outer kept starts parts = λ tags. (is, record {
 rest_starts_as Strands site m is outer kept starts parts = λ tags. (is, (record { many = outer; few = omega arith }, kept site))
 rest_starts_as (Measures burden) site m is outer kept starts parts = λ tags. (is, meter_rest_starts burden site m starts parts tags)
 
--- what is read of it
+-- the site that the meter reports
 pub here_as : (m : Meter) → IsHere m m.tables.sites.here
 here_as m Values tags from count os es h = tt
 here_as m Strands tags from count os es h = tt

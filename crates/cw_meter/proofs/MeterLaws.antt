@@ -1,4 +1,4 @@
--- What each call on a meter does to what it tells.
+-- The effect of each call on the run that a meter represents.
 use Rattle.std.specs.Prelude.{◌≡◌, ℕ, ◌+◌, ◌≤◌, ◌<◌, Bool, false, List, [], ◌∷◌, ◌++◌, length, reverse, Option, Some, refl}
 use Rattle.std.proofs.Common.{sym, ◌∙◌, ap, subst, arith}
 use Rattle.std.proofs.lemmas.List.{append_assoc, nil_from_length}
@@ -36,7 +36,7 @@ use Rattle.cw_meter.proofs.AlikeLaws.{alike_itself, alike_more, alike_trees, ali
 use Rattle.cw_meter.proofs.Counting.{counted_opened, one_at_most, small_run}
 use Rattle.cw_meter.proofs.TableLaws.{tables_ticked, tables_told, tags_opened}
 
--- what is told of a run of which all is counted
+-- the meter represents the run after an event, if all measures are counted
 abbrev pub Counts : (old new : Meter) → (count : ℕ) → Burden → Tags → (from : Origin) → (os os' : List Open) → (es es' : List Event) → Type 0
 Counts old new count burden tags from os os' es es' = count < MOST_LIMIT → burden.charge ≤ MOST_BURDEN → Measured burden tags from count os es old → Measured burden tags from (count + 1) os' es' new
 
@@ -166,7 +166,7 @@ meter_begins_region old mid t count next tag stacks opens sat = λ burden tags f
       parts = part_stacked burden tags from count false mark h.told_open h.told old mid (kind.Region tag) stacks (refl, known, refl) h.tables h.parts;
     }
 
--- the block that runs joins
+-- the current block joins
 synced_alike : (es fs : List Event) → AreAlike es fs → AreAlike (synced es) (ticked (fs ++ Join ∷ []))
 synced_alike es fs h =
     let P : List Event → Type 0 = λ x. AreAlike (synced es) x in subst P (sym (append_assoc fs (Join ∷ []) (Work 1 ∷ []))) (alike_more es fs (Join ∷ Work 1 ∷ []) h)

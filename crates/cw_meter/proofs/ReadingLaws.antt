@@ -1,4 +1,4 @@
--- What is read off the tables once a run has ended.
+-- The measures that are read from the tables when a run has ended.
 use Rattle.std.specs.Prelude.{◌≡◌, ℕ, zero, suc, ◌+◌, ◌≤◌, ◌<◌, false, List, [], ◌∷◌, ◌++◌, length, Some, slice_get, unwrap_or, refl}
 use Rattle.std.proofs.Common.{sym, ◌∙◌, ap, subst, length-append, arith}
 use Rattle.std.proofs.lemmas.Option.{slice_get_within}
@@ -40,7 +40,7 @@ pub nothing_alike : (ps : List Open) → AreOpenAlike [] ps → ps ≡ []
 nothing_alike [] h = refl
 nothing_alike (p ∷ ps) h = absurd h
 
--- one row more at the end of a list
+-- one more row at the end of a list
 at_push : {X : Type 0} (xs : List X) (x : X) (P : ℕ → X → Type 0) → ((k : ℕ) (y : X) → slice_get xs k ≡ Some y → P k y) → P (length xs) x
     → (k : ℕ) (y : X) → slice_get (xs ++ x ∷ []) k ≡ Some y → P k y
 at_push [] x P h last zero y e = let Q = P zero in subst Q (ap (λ o. unwrap_or o x) e) last
@@ -81,7 +81,7 @@ span_is es t n h =
     let weight = λ (x : Path). x.weight in
     sym (ap weight shown.now_is) ∙ ap weight ((all_runs_are_shown 0 0).end es (strand_path 0 t.paths) n shown) ∙ chosen-weight 0 0 (tree_of es)
 
--- the tree that is told is that of the run, grouped otherwise
+-- the tree that the tables represent is the tree of the run, grouped in another way
 whole_tree : (t : Tree) (es : List Event) → AreAlike (Series t ∷ []) es → Regrouped (normal t) (tree_of es)
 whole_tree t es h =
     let alone : Regrouped (tree_of (Series t ∷ [])) t = further (nothing_after (Seq t (Leaf 0))) (nothing_after t) in
@@ -93,7 +93,7 @@ same_site row a b e h = let P : model.SiteRow → Type 0 = λ x. sites.IsRow row
 same_region : (row : region.RegionRow) (a b : model.RegionRow) → b ≡ a → regions.IsRow row a → regions.IsRow row b
 same_region row a b e h = let P : model.RegionRow → Type 0 = λ x. regions.IsRow row x in subst P (sym e) h
 
--- all that is read of a run that has been told
+-- all measures of a run that the tables represent
 measures_told : (burden : Burden) (count sites : ℕ) (by_number : Tags) (names : List Name) (t : Tables) (whole : Tree) (es : List Event)
     (all : Measures) → count ≤ MOST_LIMIT → burden.charge ≤ MOST_BURDEN → HasNames by_number names → AreTold burden by_number Main count [] es t
     → has_spawned es ≡ false → ReadSame whole (tree_of es) → all.measure.work ≡ count → ReadsPath t.sites all.measure.span

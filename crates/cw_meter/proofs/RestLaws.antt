@@ -1,4 +1,4 @@
--- The rest of a block ran apart, with a meter of its own.
+-- The continuation of a block was executed separately, with a meter of its own.
 use Rattle.std.specs.Prelude.{◌≡◌, ℕ, ◌+◌, ◌≤◌, Bool, true, false, not, ◌||◌, List, [], ◌++◌, reverse, refl}
 use Rattle.std.proofs.Common.{sym, ◌∙◌, ap, subst, arith}
 use Rattle.std.proofs.Math.Bool.{not-not}
@@ -29,7 +29,7 @@ use Rattle.cw_meter.proofs.Counting.{counted_rest, small_run, fits_run, small_ta
 use Rattle.cw_meter.proofs.TableLaws.{tables_told}
 use Rattle.cw_meter.proofs.ReadingLaws.{nothing_alike}
 
--- a rest begins
+-- a continuation begins
 pub rest_tables_start : (burden : Burden) (site : ℕ) (s : SiteTable) (p : BurdenedPath) (r : RegionTable) → sites.Tells site (λ q. 0) [] [] s
     → ((b : Burden) → TellsWeight b [] [] p) → StartsRegions r → StartsTablesOfRest burden site
     (record { sites = s; path = p; regions = r; burden = burden; spawned = false })
@@ -55,12 +55,12 @@ meter_rest_starts burden site m starts e = λ tags. record {
   parts = let P : List Part → Type 0 = λ x. AreParts (Rest site) tags [] (reverse x) in subst P (sym e) tt;
 }
 
--- where it is
+-- the site of the innermost invocation
 pub meter_here : (m : Meter) (burden : Burden) (tags : Tags) (from : Origin) (count : ℕ) (os : List Open) (es : List Event)
     → Measured burden tags from count os es m → m.tables.sites.here ≡ here_in (base_of from) os
 meter_here m burden tags from count os es h = h.tables.sites.here_is ∙ sym (here_alike (base_of from) os h.told_open h.open_alike)
 
--- the tables of a rest are taken in
+-- the tables of a continuation are appended
 either_way : (b c : Bool) → c ≡ true → b || c ≡ true
 either_way true c e = refl
 either_way false c e = e
@@ -94,7 +94,7 @@ rest_taken_in old rest new first f joins appends regions b s = λ burden tags fr
       spawned_is = s ∙ spawned_either old.spawned rest.spawned es fs n h.spawned_is g.spawned_is;
     }
 
--- what is told of a rest that is taken in, where all is counted
+-- the meter represents the run with the continuation appended, if all measures are counted
 abbrev pub CountsRest : (old rest new : Meter) → (count cost : ℕ) → Type 0
 CountsRest old rest new count cost =
     (burden : Burden) (tags : Tags) (from : Origin) (os : List Open) (es fs : List Event) → count + cost ≤ MOST_LIMIT → burden.charge ≤ MOST_BURDEN → no_joins fs ≡ true

@@ -1,4 +1,4 @@
--- The tables of a run are told of it together.
+-- The tables of a run record its events together.
 use Rattle.std.specs.Prelude.{◌≡◌, ℕ, ◌+◌, ◌-◌, ◌≤◌, Bool, true, false, not, List, [], ◌∷◌, ◌++◌, Option, Some, None, refl}
 use Rattle.std.proofs.Common.{sym, ◌∙◌, ap, subst, arith}
 use Rattle.std.proofs.lemmas.List.{append-nil, append_assoc}
@@ -25,7 +25,7 @@ use Rattle.cw_meter.specs.Meters.{AreTold, IsCounted, TablesTell, TellsTags, not
 use Rattle.cw_meter.specs.Tables.{JoinsSpawned, Opens, OpensRegion, Settles, opened}
 use Rattle.cw_meter.proofs.Counting.{counted_ticked, counted_joined, small_run, fits_run, small_tags}
 
--- what has not been told goes on
+-- events that are not yet included are followed by more events
 more_is : (told since gs es : List Event) → told ++ since ≡ es → told ++ (since ++ gs) ≡ es ++ gs
 more_is told since gs es e = sym (append_assoc told since gs) ∙ ap (λ (x : List Event). x ++ gs) e
 
@@ -46,7 +46,7 @@ since_join b (Join ∷ fs) k e s = (s.0, since_join b fs k e s.1)
 since_join b (Series t ∷ fs) k e s = absurd s
 since_join b (Fork t ∷ fs) k e s = absurd s
 
--- the tags, as the run goes on
+-- the region tables as the run continues
 tags_ticked : (burden : Burden) (tags : Tags) (from : Origin) (os : List Open) (es : List Event) (r : RegionTable) (k : ℕ)
     → TellsTags burden tags from os es r → TellsTags burden tags from os (es ++ Work k ∷ []) r
 tags_ticked burden tags from os es r k h = record {
@@ -84,7 +84,7 @@ tags_closed burden tags from spawned mark before os es r quiet h = record {
   tells = (regions_need_no_call burden h.along tags nothing_open os r).ends (record { spawned = spawned; mark = mark; outer = before }) es quiet h.tells;
 }
 
--- whether what has been told has spawned
+-- whether the events that are included have spawned
 pub told_spawned : (burden : Burden) (tags : Tags) (from : Origin) (count : ℕ) (os : List Open) (es : List Event) (t : Tables)
     (h : TablesTell burden tags from count os es t) → has_spawned h.told ≡ t.spawned
 told_spawned burden tags from count os es t h =
@@ -93,7 +93,7 @@ told_spawned burden tags from count os es t h =
     has_spawned_of : List Event → Bool
     has_spawned_of x = has_spawned x
 
--- an instruction, and a join of a block that has spawned nothing, need no call
+-- an instruction, and a join of a block that has not spawned, need no call
 pub tables_ticked : (burden : Burden) (tags : Tags) (from : Origin) (count : ℕ) (os : List Open) (es : List Event) (t : Tables)
     → TablesTell burden tags from count os es t → TablesTell burden tags from (count + 1) os (ticked es) t
 tables_ticked burden tags from count os es t h = record {
@@ -131,7 +131,7 @@ tables_unspawned burden tags from count os es t e h = record {
   spawned_is = e ∙ sym (spawned_append false es (Join ∷ []));
 }
 
--- what has all been told tells, the heaviest path late
+-- tables that include all events; the heaviest path includes the last ones late
 pub tables_late : (burden : Burden) (tags : Tags) (from : Origin) (count : ℕ) (os : List Open) (es : List Event) (t : Tables)
     → sites.Tells (base_of from) nothing_open os es t.sites → TellsLate burden os es t.path → TellsTags burden tags from os es t.regions
     → IsCounted burden from count os es → t.burden ≡ burden → t.spawned ≡ has_spawned es → TablesTell burden tags from count os es t
@@ -152,7 +152,7 @@ pub tables_told : (burden : Burden) (tags : Tags) (from : Origin) (count : ℕ) 
     → AreTold burden tags from count os es t → TablesTell burden tags from count os es t
 tables_told burden tags from count os es t h = tables_late burden tags from count os es t h.sites (told_late burden os es t.path h.path) h.regions h.counted h.burden_is h.spawned_is
 
--- what each table is owed
+-- the events that each table does not yet include
 pub sites_since : (burden : Burden) (tags : Tags) (from : Origin) (count : ℕ) (os : List Open) (es : List Event) (t : Tables)
     (h : TablesTell burden tags from count os es t) → Since t.sites.noted count h.told h.since
 sites_since burden tags from count os es t h = let P : ℕ → Type 0 = λ x. Since x count h.told h.since in subst P (sym h.sites.noted_is) h.waits
@@ -171,14 +171,14 @@ path_told burden tags from count os es t p notes small light h =
     let P : List Event → Type 0 = λ x. TellsWeight burden os x p in
     subst P h.all (notes burden os h.told h.since h.waits (told_fits burden tags from count os es t h small light) h.path)
 
--- the heaviest path, of which nothing more is told
+-- the heaviest path, if it is not updated
 pub path_waits : (burden : Burden) (tags : Tags) (from : Origin) (count : ℕ) (os : List Open) (es : List Event) (t : Tables) → LatePathsWait
     → count ≤ MOST_LIMIT → burden.charge ≤ MOST_BURDEN → TablesTell burden tags from count os es t → TellsLate burden os es t.path
 path_waits burden tags from count os es t waits small light h =
     let P : List Event → Type 0 = λ x. TellsLate burden os x t.path in
     subst P h.all (waits burden os h.told h.since t.path count h.waits (told_fits burden tags from count os es t h small light) h.path)
 
--- nothing came since a path was noted
+-- no event follows the last update of a path
 pub none_since : (burden : Burden) (from : Origin) (count : ℕ) (os : List Open) (es : List Event) (p : BurdenedPath)
     → IsCounted burden from count os es → TellsWeight burden os es p → Since p.noted count es []
 none_since burden from count os es p counted h = let w = counted.work in let n = h.noted_is in record { goes_on = omega arith; instructions = omega arith }
@@ -187,14 +187,14 @@ pub fits_now : (burden : Burden) (tags : Tags) (from : Origin) (count : ℕ) (os
     → TablesTell burden tags from count os es t → count ≤ MOST_LIMIT → burden.charge ≤ MOST_BURDEN → FitsRun burden os (es ++ [])
 fits_now burden tags from count os es t h small light = let P : List Event → Type 0 = λ x. FitsRun burden os x in subst P (sym (append-nil es)) (fits_run burden from count os es small light h.counted)
 
--- tables with these sites, this path, and this of the block that runs
+-- tables with these sites, this path, and this flag of the current block
 abbrev pub with_tables : Tables → SiteTable → BurdenedPath → (spawned : Bool) → Tables
 with_tables t s p spawned = record { sites = s; path = p; regions = t.regions; burden = t.burden; spawned = spawned }
 
 abbrev pub with_regions : Tables → RegionTable → (spawned : Bool) → Tables
 with_regions t r spawned = record { sites = t.sites; path = t.path; regions = r; burden = t.burden; spawned = spawned }
 
--- all is told
+-- all events are included
 pub tables_settled : (t : Tables) (s : SiteTable) (p : BurdenedPath) (count : ℕ) → Notes t.sites s count → NotesLate t.path p count → Settles t (with_tables t s p t.spawned) count
 tables_settled t s p count notes heavier = λ burden tags from os es small light h. record {
   sites =
@@ -219,7 +219,7 @@ call_opened t s count site enters waits = λ burden tags from os es k small ligh
     (late_begun burden mark os es t.path (path_waits burden tags from count os es t waits small light h))
     (tags_opened burden tags from false mark os es t.regions tt h.regions) k h.burden_is refl
 
--- a spawned part begins, by a table's own rule
+-- a spawned part begins, by the rule of one table
 spawned_path : (burden : Burden) (tags : Tags) (from : Origin) (count : ℕ) (os : List Open) (es : List Event) (t : Tables) (m p : BurdenedPath)
     (mark : Option Mark) → NotesLate t.path m count → SpawnsWeight m p count (not t.spawned) → count ≤ MOST_LIMIT → burden.charge ≤ MOST_BURDEN
     → TablesTell burden tags from count os es t → TellsWeight burden (opened true mark es os) [] p
@@ -294,7 +294,7 @@ region_opened t now r count tag path heavy settles reads weighs begins = λ burd
       spawned_is = refl;
     })
 
--- the block that runs joins
+-- the current block joins
 pub tables_joined : (t : Tables) (s : SiteTable) (m p : BurdenedPath) (count : ℕ) → Joins t.sites s count → NotesLate t.path m count
     → JoinsWeight m p count → JoinsSpawned t (with_tables t s p false) count
 tables_joined t s m p count joins notes heavier = λ burden tags from os es e small light h.

@@ -1,17 +1,16 @@
--- Runs so far whose trees differ only in how they are grouped: a part that joined at its end, and one that had nothing
--- to join.
+-- Runs so far whose trees differ only in their grouping: one may have a part that joined at its end, or a join with
+-- nothing to join.
 use Rattle.std.specs.Prelude.{◌≡◌, List, [], ◌∷◌, ◌++◌}
 use Rattle.cw_model.specs.Trees.{Event, parts_of}
 use Rattle.cw_model.specs.TreeLaws.{Regrouped}
 use Rattle.cw_measure.specs.OpenParts.{Open, has_spawned, no_joins}
 
--- what runs up to the first join of these events, and what runs after it, differ only so
+-- the events up to the first join, and the events after it, have trees that differ only in their grouping
 abbrev pub SameParts : List Event → List Event → Type 0
 SameParts es fs = Regrouped (parts_of es).0 (parts_of fs).0 × Regrouped (parts_of es).1 (parts_of fs).1
 
--- events of a block: with whatever comes after them, the parts of their trees differ only so; both have spawned since
--- their last join, or
--- neither has, and so both have joined or neither
+-- two lists of events of a block are alike: with any events after them, the parts of their trees differ only in their
+-- grouping; both have spawned since their last join, or neither has, and so both have joined or neither has
 pub record AreAlike (es fs : List Event) : Type 0 where
   pub parts : (more : List Event) → SameParts (es ++ more) (fs ++ more)
   pub spawned : has_spawned es ≡ has_spawned fs

@@ -1,4 +1,4 @@
--- What is kept of the open parts of a run.
+-- The record of the open parts of a run.
 use Rattle.std.specs.Prelude.{◌≡◌, ℕ, ◌<◌, true, false, List, [], ◌∷◌, Option, Some, None}
 use Rattle.cw_model.specs.Trees.{Mark, Invocation, Execution}
 use Rattle.cw_measure.specs.OpenParts.{Open, has_spawned}
@@ -9,7 +9,7 @@ use Rattle.cw_meter.specs.declared.parts.PartKind.{PartKind}
 use Rattle.cw_meter.specs.declared.parts.PartKind.TheVariants.{Call, SpawnedCall, Quiet, Half, Region}
 use Rattle.cw_meter.specs.declared.parts.Part.{Part}
 
--- a run of a call statement
+-- the mark is an invocation, a run of a call statement
 abbrev pub IsInvocation : Option Mark → Type 0
 IsInvocation mark = (site : ℕ) × (mark ≡ Some (Invocation site))
 
@@ -21,13 +21,13 @@ IsOfKind tags o Quiet = (o.spawned ≡ false) × (o.mark ≡ None)
 IsOfKind tags o Half = (o.spawned ≡ true) × (o.mark ≡ None)
 IsOfKind tags o (Region tag) = (o.spawned ≡ false) × (tag < tags.count) × (o.mark ≡ Some (Execution (tags.name tag)))
 
--- what is kept of an open part, inside of these
+-- the record of an open part, inside these open parts
 pub record IsPart (from : Origin) (tags : Tags) (o : Open) (os : List Open) (p : Part) : Type 0 where
   pub kind : IsOfKind tags o p.kind
   pub site : p.site ≡ here_in (base_of from) os
   pub spawned : p.spawned ≡ has_spawned o.outer
 
--- what is kept of all of them, the innermost first
+-- the records of all open parts, the innermost first
 abbrev pub AreParts : Origin → Tags → List Open → List Part → Type 0
 AreParts from tags [] [] = Unit {0}
 AreParts from tags [] (p ∷ ps) = ⊥

@@ -1,4 +1,4 @@
--- What each call on the tables of a run does.
+-- The effect of each call on the tables of a run.
 use Rattle.std.specs.Prelude.{◌≡◌, ℕ, ◌+◌, ◌≤◌, ◌<◌, Bool, true, false, List, [], ◌∷◌, ◌++◌, Option, Some}
 use Rattle.cw_model.specs.declared.burden.Burden.{Burden}
 use Rattle.cw_model.specs.declared.limits.TheConstants.{MOST_LIMIT, MOST_BURDEN}
@@ -13,7 +13,7 @@ use Rattle.cw_meter.specs.declared.tables.Tables.{Tables}
 use Rattle.cw_meter.specs.Meters.{AreTold, IsCounted, TablesTell}
 use Rattle.cw_meter.specs.Parts.{IsPart}
 
--- what tables tell goes from one run so far to another, within the greatest limit
+-- if the old tables represent one run so far, the new tables represent another, within the maximum limit
 abbrev pub TellOf : (old new : Tables) → (count : ℕ) → Burden → Tags → (from : Origin) → (os os' : List Open)
     → (es es' : List Event) → Type 0
 TellOf old new count burden tags from os os' es es' =
@@ -24,7 +24,7 @@ TellOf old new count burden tags from os os' es es' =
 abbrev pub StartsTables : Burden → Tables → Type 0
 StartsTables burden t = (tags : Tags) → TablesTell burden tags Main 0 main_open [] t
 
--- all of a run so far is told
+-- the tables include all events of the run so far
 abbrev pub Settles : (old new : Tables) → (count : ℕ) → Type 0
 Settles old new count =
     (burden : Burden) (tags : Tags) (from : Origin) (os : List Open) (es : List Event) → count ≤ MOST_LIMIT
@@ -35,7 +35,7 @@ Settles old new count =
 abbrev pub opened : (spawned : Bool) → Option Mark → List Event → List Open → List Open
 opened spawned mark es os = record { spawned = spawned; mark = mark; outer = es } ∷ os
 
--- a part that is no region begins after these events, where its numbers are those of a run
+-- a part that is no region begins after these events, if the numbers are the numbers of a run
 abbrev pub Opens : (old new : Tables) → (count : ℕ) → (spawned : Bool) → Option Mark → Type 0
 Opens old new count spawned mark =
     (burden : Burden) (tags : Tags) (from : Origin) (os : List Open) (es : List Event)
@@ -49,24 +49,25 @@ OpensRegion old new count tag =
     → IsCounted burden from count (opened false (Some (Execution (tags.name tag))) es os) []
     → TellOf old new count burden tags from os (opened false (Some (Execution (tags.name tag))) es os) es []
 
--- the block that runs joins, which has spawned
+-- the current block, which has spawned, joins
 abbrev pub JoinsSpawned : (old new : Tables) → (count : ℕ) → Type 0
 JoinsSpawned old new count =
     (burden : Burden) (tags : Tags) (from : Origin) (os : List Open) (es : List Event) → old.spawned ≡ true
     → TellOf old new count burden tags from os os es (es ++ Join ∷ [])
 
--- the innermost part ends, whose block has joined, and of which this is kept
+-- the innermost part, which has this record and whose block has joined, ends
 abbrev pub Closes : (old new : Tables) → (count : ℕ) → Part → Type 0
 Closes old new count part =
     (burden : Burden) (tags : Tags) (from : Origin) (o : Open) (os : List Open) (es : List Event)
     → IsPart from tags o os part → old.spawned ≡ false
     → TellOf old new count burden tags from (o ∷ os) os es (closed o es)
 
--- the tables of a rest that begins in an invocation of this site
+-- the tables of a continuation that begins in an invocation of this site
 abbrev pub StartsTablesOfRest : Burden → (site : ℕ) → Tables → Type 0
 StartsTablesOfRest burden site t = (tags : Tags) → TablesTell burden tags (Rest site) 0 [] [] t
 
--- the tables of the rest of the block that runs are taken in, which ran apart up to its join: all is told to both
+-- the tables of the continuation of the current block, which was executed separately up to its join, are appended;
+-- both include all events
 abbrev pub TakesIn : (old rest new : Tables) → Type 0
 TakesIn old rest new =
     (burden : Burden) (tags : Tags) (from : Origin) (count cost : ℕ) (os : List Open) (es fs : List Event)
@@ -75,5 +76,6 @@ TakesIn old rest new =
     → AreTold burden tags (Rest (here_in (base_of from) os)) cost [] fs rest
     → AreTold burden tags from (count + cost) os (es ++ fs) new
 
+-- the record of an open part
 abbrev pub part_of : PartKind → (site : ℕ) → (spawned : Bool) → Part
 part_of kind site spawned = record { kind = kind; site = site; spawned = spawned }

@@ -1,23 +1,23 @@
-//! How much is kept of a run.
+//! How much is recorded of a run.
 
 ghost use Rattle.std.specs.Prelude.{◌≡◌};
 ghost use Rattle.cw_meter.specs.Details.{burden_of};
 
 use cw_model::burden::{Burden, Edges};
 
-/// How much is kept of a run: chosen where the run begins, and the same for each rest of it.
+/// How much is recorded of a run. It is chosen when the run begins, and is the same for each of its continuations.
 #[derive(Clone, Copy, Debug, PartialEq, Eq)]
 pub enum Detail {
-    /// What it gives: its values, its lines and what its reducers come to. Nothing is counted.
+    /// Only its results: its value, its lines and the totals of its reducers. Nothing is counted.
     Values,
-    /// The record of its strands, too.
+    /// Its results and the record of its strands.
     Strands,
-    /// All measures, too, with this charge for a spawn.
+    /// Its results and all measures, with this charge for a spawn.
     Measures(Burden),
 }
 
 impl Detail {
-    // What is charged for a spawn; nothing where nothing is counted.
+    // Returns the charge for a spawn, or no charge if not all measures are counted.
     pub(crate) fn burden(self) -> Burden
         ensures { result ≡ burden_of self }
     {

@@ -1,8 +1,8 @@
-//! The laws of a meter: each function has one as its contract, and does nothing.
+//! The laws of a meter. The contract of each function states a law; the function does nothing.
 
 ghost use Rattle.cw_meter.specs.Meters.{InstructionsNeedNoCall};
 
-/// An instruction that begins, ends and joins nothing needs no call of the meter.
+/// States that an instruction that begins, ends and joins nothing needs no call of the meter.
 pub fn instructions_need_no_call()
     ensures { InstructionsNeedNoCall }
 {

@@ -1,4 +1,4 @@
-//! A meter of a run.
+//! The meter of a run.
 
 ghost use Rattle.std.specs.Prelude.{◌≡◌, ◌<◌, Some, None, true, false, IfOk, OnOk};
 ghost use Rattle.std.specs.Vec.{vec_len, vec_capacity};
@@ -24,29 +24,30 @@ pub struct Readings {
     pub work: u64,
     /// The weight of a heaviest path, in instructions.
     pub span: u64,
-    /// The weight of a heaviest path with what it is charged at each fork that it runs through, in instructions.
+    /// The weight of a heaviest path including the burden that is charged at each of its forks, in instructions.
     pub burdened: u128,
 }
 
-/// What was counted over a whole run.
+/// The measures of a whole run.
 #[derive(Debug, Drop)]
 pub struct Measures {
-    /// Of the whole run.
+    /// The measures of the run.
     pub measure: Readings,
-    /// Of each call site, by its number: 0 is the call of `main` by the run itself.
+    /// The row of each call site, by its number. Site 0 is the call of `main` by the run itself.
     pub sites: Vec<SiteRow>,
-    /// Of each region tag, by its number.
+    /// The row of each region tag, by its number.
     pub regions: Vec<RegionRow>,
 }
 
-/// What is counted of a run so far.
+/// The measures of a run so far.
 #[derive(Debug, Drop)]
 pub struct Meter {
-    /// How much is kept of the run.
+    /// How much is recorded of the run.
     pub(crate) detail: Detail,
-    /// How many parts are open, where not all is counted. Tables and parts are told nothing then.
+    /// The number of open parts, if not all measures are counted. In that case the meter does not use its tables and
+    /// `parts`.
     pub(crate) open_parts: u64,
-    /// The strands so far, where they are kept.
+    /// The strands so far, if they are recorded.
     pub(crate) recorder: Recorder,
     pub(crate) tables: Tables,
     /// The open parts, the innermost last.
@@ -54,8 +55,12 @@ pub struct Meter {
 }
 
 impl Meter {
-    /// The meter of a run that begins, in the call of `main` by the run itself, of which so much is kept. An error where
-    /// memory runs out.
+    /// Creates the meter of a run that begins, in the call of `main` by the run itself. `detail` says how much is
+    /// recorded.
+    ///
+    /// # Errors
+    ///
+    /// `AllocError` if memory runs out.
     pub fn new(alloc: Global, detail: Detail) -> Result<Meter, AllocError>
         ensures { IfOk result (λ m. Starts detail m) }
     {
@@ -75,8 +80,9 @@ impl Meter {
         })
     }
 
-    /// The meter of a rest that was handed out at a spawn, with the site that its spawner was in (`site`), of which as much
-    /// is kept as of its run; of the parts that are open round it nothing else is known. Takes no memory.
+    /// Creates the meter of a continuation that was handed out at a spawn. `site` is the site of the spawner's
+    /// innermost invocation, and `detail` says how much the run records. The meter knows nothing else of the
+    /// enclosing open parts. Allocates nothing.
     pub fn apart(alloc: Global, site: u32, detail: Detail) -> Meter
         ensures { StartsRest detail site result }
     {
@@ -89,7 +95,8 @@ impl Meter {
         }
     }
 
-    /// The site of the innermost invocation, where anything is counted: all that a rest of its block must be told.
+    /// Returns the site of the innermost invocation, if all measures are counted. This is all that the meter of a
+    /// continuation of its block needs.
     #[inline(always)]
     pub fn site(&self) -> u32
         ensures { IsHere self.now result }
@@ -97,7 +104,7 @@ impl Meter {
         self.tables.sites.here
     }
 
-    /// Whether no part is open, as in a rest outside of each call and sync block that it has begun.
+    /// Returns whether no part is open, as in a continuation outside of each call and sync block that it has begun.
     #[inline(always)]
     pub fn is_outside(&self) -> bool
         ensures { IsOutside self.now result }
@@ -108,7 +115,7 @@ impl Meter {
         self.parts.len() == 0
     }
 
-    /// Whether the values alone are kept.
+    /// Returns whether only values are computed.
     #[inline(always)]
     pub fn keeps_values(&self) -> bool
         ensures { result ≡ details.keeps_values self.now.detail }
@@ -120,7 +127,7 @@ impl Meter {
         }
     }
 
-    /// Whether all is counted.
+    /// Returns whether all measures are counted.
     #[inline(always)]
     pub fn is_counted(&self) -> bool
         ensures { result ≡ details.is_counted self.now.detail }
@@ -132,7 +139,7 @@ impl Meter {
         }
     }
 
-    // One part more is open.
+    // Counts one more open part.
     #[inline(always)]
     pub(crate) fn count_part(&mut self)
         ensures { IsOpened self.old self.new }
@@ -140,7 +147,7 @@ impl Meter {
         self.open_parts = self.open_parts.wrapping_add(1);
     }
 
-    // The innermost part ends.
+    // Ends the innermost part.
     #[inline(always)]
     pub(crate) fn leave_part(&mut self)
         ensures { LeavesOne self.old self.new }
@@ -148,7 +155,7 @@ impl Meter {
         self.open_parts = self.open_parts.wrapping_sub(1);
     }
 
-    /// Where the values alone are kept: a part begins, whichever, by the instruction after however many.
+    /// Begins a part of any kind, after any number of instructions. Call it only in a run that records only values.
     #[inline(always)]
     pub fn open_any(&mut self)
         requires { details.keeps_values self.old.detail ≡ true }
@@ -157,7 +164,7 @@ impl Meter {
         self.count_part();
     }
 
-    /// The same: the innermost part, whichever, joins and ends.
+    /// Joins the innermost part, of any kind, and ends it. Call it only in a run that records only values.
     #[inline(always)]
     pub fn leave_any(&mut self)
         requires { details.keeps_values self.old.detail ≡ true }
@@ -166,15 +173,20 @@ impl Meter {
         self.leave_part();
     }
 
-    /// The same: the block that runs joins, of which nothing is to be told.
+    /// Joins the current block, which changes nothing in the meter. Call it only in a run that records only values.
     #[inline(always)]
     pub fn sync_any(&self)
         requires { details.keeps_values self.now.detail ≡ true }
         ensures { SyncsAny self.now }
     {}
 
-    /// Takes in, after `count` instructions, what the meter of the rest of the block that runs has counted in `cost`
-    /// instructions, up to the block's join, while the spawned call beside it ran. The count goes on from that of both.
+    /// Appends, after `count` instructions, the measures of the continuation of the current block: `cost`
+    /// instructions up to the block's join, which another meter counted while the spawned call was executed. Later
+    /// counts include the instructions of both.
+    ///
+    /// # Errors
+    ///
+    /// `AllocError` if memory runs out.
     pub fn rest(&mut self, count: u64, rest: Meter, cost: u64) -> Result<(), AllocError>
         ensures { OnOk result (Rests self.old rest self.new count cost) }
     {
@@ -188,7 +200,11 @@ impl Meter {
         Ok(())
     }
 
-    /// A call in place begins by the instruction after `count` ones, at the site of this number.
+    /// Begins a plain call of this site by the instruction after `count` instructions.
+    ///
+    /// # Errors
+    ///
+    /// `AllocError` if memory runs out.
     #[inline(always)]
     pub fn call(&mut self, count: u64, site: u32) -> Result<(), AllocError>
         ensures { OnOk result (Begins self.old self.new count false (Some (Invocation site))) }
@@ -199,7 +215,12 @@ impl Meter {
         self.call_counted(count, site)
     }
 
-    /// The same where all is counted: what it is told knows that, so that it is not asked.
+    /// Begins a plain call of this site, like `call`, if all measures are counted. The caller knows this, so the
+    /// meter does not test it.
+    ///
+    /// # Errors
+    ///
+    /// `AllocError` if memory runs out.
     #[inline(always)]
     pub fn call_counted(&mut self, count: u64, site: u32) -> Result<(), AllocError>
         requires { details.is_counted self.old.detail ≡ true }
@@ -212,8 +233,8 @@ impl Meter {
         self.tables.call(count.wrapping_add(1), site)
     }
 
-    // The same in any case where all is counted. Apart, so that nothing is kept over the call of a function where there is
-    // room.
+    // Begins a plain call of this site in every case, if all measures are counted. A separate function, so that
+    // `call_counted` keeps no register across a function call if there is room.
     #[cold]
     #[inline(never)]
     fn call_apart(&mut self, count: u64, site: u32) -> Result<(), AllocError>
@@ -225,7 +246,11 @@ impl Meter {
         Ok(())
     }
 
-    /// A spawned call begins by the instruction after `count` ones, at the site of this number, in this strand.
+    /// Begins a spawned call of this site, in this strand, by the instruction after `count` instructions.
+    ///
+    /// # Errors
+    ///
+    /// `AllocError` if memory runs out.
     #[inline(always)]
     pub fn spawn(&mut self, count: u64, site: u32) -> Result<(), AllocError>
         ensures { OnOk result (Begins self.old self.new count true (Some (Invocation site))) }
@@ -236,7 +261,11 @@ impl Meter {
         self.spawn_counted(count, site)
     }
 
-    /// The same where all is counted.
+    /// Begins a spawned call of this site, like `spawn`, if all measures are counted.
+    ///
+    /// # Errors
+    ///
+    /// `AllocError` if memory runs out.
     #[inline(never)]
     pub fn spawn_counted(&mut self, count: u64, site: u32) -> Result<(), AllocError>
         requires { details.is_counted self.old.detail ≡ true }
@@ -249,7 +278,7 @@ impl Meter {
         self.tables.spawn(count.wrapping_add(1), site)
     }
 
-    // The same in any case.
+    // Begins a spawned call of this site in every case, if all measures are counted.
     #[inline(never)]
     fn spawn_apart(&mut self, count: u64, site: u32) -> Result<(), AllocError>
         requires { details.is_counted self.old.detail ≡ true }
@@ -260,8 +289,12 @@ impl Meter {
         Ok(())
     }
 
-    /// A scope, a cut or a loop's first function begins by the instruction after `count` ones, or a loop's function
-    /// that it calls in place.
+    /// Begins a scope, a cut, the first function of a loop, or a plain call of a loop's function, by the instruction
+    /// after `count` instructions.
+    ///
+    /// # Errors
+    ///
+    /// `AllocError` if memory runs out.
     #[inline(never)]
     pub fn begin(&mut self, count: u64) -> Result<(), AllocError>
         ensures { OnOk result (Begins self.old self.new count false None) }
@@ -274,7 +307,11 @@ impl Meter {
         Ok(())
     }
 
-    /// Half of a loop, that is spawned, begins by the instruction after `count` ones, in this strand.
+    /// Begins the spawned half of a loop, in this strand, by the instruction after `count` instructions.
+    ///
+    /// # Errors
+    ///
+    /// `AllocError` if memory runs out.
     #[inline(never)]
     pub fn spawn_half(&mut self, count: u64) -> Result<(), AllocError>
         ensures { OnOk result (Begins self.old self.new count true None) }
@@ -287,7 +324,11 @@ impl Meter {
         Ok(())
     }
 
-    /// A region of the tag of this number begins by the instruction after `count` ones.
+    /// Begins a region of the tag with this number by the instruction after `count` instructions.
+    ///
+    /// # Errors
+    ///
+    /// `AllocError` if memory runs out.
     #[inline(never)]
     pub fn begin_region(&mut self, count: u64, tag: u32) -> Result<(), AllocError>
         ensures { OnOk result (BeginsRegion self.old self.new count tag) }
@@ -300,7 +341,11 @@ impl Meter {
         Ok(())
     }
 
-    /// The innermost scope, cut or region joins after `count` instructions and ends by the next one.
+    /// Joins the innermost scope, cut or region after `count` instructions, and ends it by the next one.
+    ///
+    /// # Errors
+    ///
+    /// `AllocError` if memory runs out.
     #[inline(always)]
     pub fn end(&mut self, count: u64) -> Result<(), AllocError>
         ensures { OnOk result (Ends self.old self.new count) }
@@ -313,7 +358,11 @@ impl Meter {
         Ok(())
     }
 
-    /// The innermost call, or function of a loop, joins after `count` instructions and ends by the next one.
+    /// Joins the innermost call, or function of a loop, after `count` instructions, and ends it by the next one.
+    ///
+    /// # Errors
+    ///
+    /// `AllocError` if memory runs out.
     #[inline(always)]
     pub fn give_back(&mut self, count: u64) -> Result<(), AllocError>
         ensures { OnOk result (Returns self.old self.new count) }
@@ -324,7 +373,11 @@ impl Meter {
         self.give_back_counted(count)
     }
 
-    /// The same where all is counted.
+    /// Joins and ends the innermost call, or function of a loop, like `give_back`, if all measures are counted.
+    ///
+    /// # Errors
+    ///
+    /// `AllocError` if memory runs out.
     #[inline(always)]
     pub fn give_back_counted(&mut self, count: u64) -> Result<(), AllocError>
         requires { details.is_counted self.old.detail ≡ true }
@@ -335,7 +388,11 @@ impl Meter {
         Ok(())
     }
 
-    /// The block that runs joins after `count` instructions, by the next one.
+    /// Joins the current block after `count` instructions, by the next one.
+    ///
+    /// # Errors
+    ///
+    /// `AllocError` if memory runs out.
     #[inline(always)]
     pub fn sync(&mut self, count: u64) -> Result<(), AllocError>
         ensures { OnOk result (Syncs self.old self.new count) }
@@ -346,7 +403,11 @@ impl Meter {
         self.sync_counted(count)
     }
 
-    /// The same where all is counted.
+    /// Joins the current block, like `sync`, if all measures are counted.
+    ///
+    /// # Errors
+    ///
+    /// `AllocError` if memory runs out.
     #[inline(always)]
     pub fn sync_counted(&mut self, count: u64) -> Result<(), AllocError>
         requires { details.is_counted self.old.detail ≡ true }
@@ -356,7 +417,7 @@ impl Meter {
         Ok(())
     }
 
-    // A part of this kind begins in the block that runs.
+    // Records that a part of this kind begins in the current block.
     #[inline(always)]
     fn stack(&mut self, kind: PartKind) -> Result<(), AllocError>
         ensures { OnOk result (Stacks self.old self.new kind) }
@@ -369,7 +430,7 @@ impl Meter {
         Ok(())
     }
 
-    // Whether there is room for a part.
+    // Whether there is room for another part.
     #[inline(always)]
     fn has_room(&self) -> bool
         ensures { result ≡ true → vec_len self.now.parts < vec_capacity self.now.parts }
@@ -377,7 +438,7 @@ impl Meter {
         self.parts.len() < self.parts.capacity()
     }
 
-    // A part of this kind begins in the block that runs, where there is room for it.
+    // Records that a part of this kind begins in the current block, if there is room for it.
     #[inline(always)]
     fn stack_within(&mut self, kind: PartKind)
         requires { vec_len self.old.parts < vec_capacity self.old.parts }
@@ -390,7 +451,7 @@ impl Meter {
         });
     }
 
-    // The block that runs joins: where it has spawned nothing, there is nothing to do.
+    // Joins the current block. If the block has spawned nothing, there is nothing to do.
     #[inline(always)]
     fn join(&mut self, count: u64) -> Result<(), AllocError>
         ensures told { OnOk result (JoinsBlock self.old self.new count) }
@@ -404,7 +465,7 @@ impl Meter {
         Ok(())
     }
 
-    // The innermost part, whose block has joined, ends at this count.
+    // Ends the innermost part, whose block has joined, at this count.
     #[inline(always)]
     fn close(&mut self, count: u64) -> Result<(), AllocError>
         ensures closes { OnOk result (ClosesPart self.old self.new count) }
@@ -416,7 +477,8 @@ impl Meter {
         }
     }
 
-    // The same apart, for a scope, a cut or a region: the loop of a run has room for the ends of calls alone.
+    // Ends the innermost part, like `close`, for a scope, a cut or a region. A separate function, so that the loop of
+    // a run inlines only the code for ends of calls.
     #[inline(never)]
     fn close_apart(&mut self, count: u64) -> Result<(), AllocError>
         ensures closes { OnOk result (ClosesPart self.old self.new count) }
@@ -426,8 +488,13 @@ impl Meter {
         Ok(())
     }
 
-    /// What was counted over a run, of which all is counted, that has ended after `count` instructions, of so many call sites, the run's own call
-    /// of `main` among them, and of so many tags.
+    /// Returns the measures of a run that has ended after `count` instructions and of which all measures are counted.
+    /// `sites` is the number of call sites, including the call of `main` by the run itself, and `tags` is the number
+    /// of tags.
+    ///
+    /// # Errors
+    ///
+    /// `AllocError` if memory runs out.
     pub fn finish(
         self,
         alloc: Global,

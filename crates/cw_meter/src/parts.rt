@@ -1,27 +1,27 @@
 //! The open parts of a run.
 
-/// What an open part of a run is.
+/// The kind of an open part of a run.
 #[derive(Clone, Copy, Debug, PartialEq, Eq)]
 pub enum PartKind {
-    /// A call in place.
+    /// A plain call.
     Call,
     /// A spawned call.
     SpawnedCall,
-    /// Half of a loop, that is spawned.
+    /// The spawned half of a loop.
     Half,
-    /// A scope, a cut, or a function of a loop that is called in place.
+    /// A scope, a cut, or a plain call of a loop's function.
     Quiet,
-    /// A region of the tag of this number.
+    /// A region of the tag with this number.
     Region(u32),
 }
 
-/// An open part of a run, and what is known of the block round it.
+/// An open part of a run, and the state of its enclosing block.
 #[derive(Clone, Copy, Debug, PartialEq, Eq)]
 pub struct Part {
-    /// What it is.
+    /// Its kind.
     pub kind: PartKind,
-    /// The number of the site of the invocation round it.
+    /// The number of the site of the enclosing invocation.
     pub site: u32,
-    /// Whether the block round it has spawned since its last join.
+    /// Whether the enclosing block has spawned since its last join.
     pub spawned: bool,
 }

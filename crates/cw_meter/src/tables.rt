@@ -1,4 +1,4 @@
-//! The tables of a run, told of one run together.
+//! The tables of a run, which record its events together.
 
 ghost use Rattle.std.specs.Prelude.{◌≡◌, true, false, IfOk, OnOk, Some, None};
 ghost use Rattle.cw_measure.specs.StrandWeights as weights;
@@ -17,24 +17,28 @@ use cw_regions::{RegionRow, RegionTable};
 use cw_sites::table::{SiteRow, SiteTable, sum_of};
 use std::alloc::{AllocError, Global};
 
-/// The rows of call sites with the chosen path, the heaviest path with burdens, and the rows of tags, of one run so far.
-/// The heaviest path is not told of calls in place, and is noted before anything else is told to it.
+/// The rows of call sites with the chosen path, the heaviest path with burdens, and the rows of tags, of one run so
+/// far. The heaviest path is not updated at plain calls; it is brought up to date before any other event.
 ///
-/// Instructions, and joins of a block that has spawned nothing since its last join, need no call; each method is told
-/// the count of instructions at which it is called.
+/// Instructions, and joins of a block that has spawned nothing since its last join, need no call. Each method takes
+/// the number of instructions at which it is called.
 #[derive(Debug, Drop)]
 pub struct Tables {
     pub sites: SiteTable,
     pub path: BurdenedPath,
     pub regions: RegionTable,
-    /// What is charged for a spawn.
+    /// The charge for a spawn.
     pub burden: Burden,
-    /// Whether the block that runs has spawned since its last join.
+    /// Whether the current block has spawned since its last join.
     pub spawned: bool,
 }
 
 impl Tables {
-    /// The tables of a run that begins, in the call of `main` by the run itself. An error where memory runs out.
+    /// Creates the tables of a run that begins, in the call of `main` by the run itself.
+    ///
+    /// # Errors
+    ///
+    /// `AllocError` if memory runs out.
     pub fn new(alloc: Global, burden: Burden) -> Result<Tables, AllocError>
         ensures { IfOk result (λ t. StartsTables burden t) }
     {
@@ -49,7 +53,7 @@ impl Tables {
         })
     }
 
-    /// The tables of a rest that begins in an invocation of this site. Takes no memory.
+    /// Creates the tables of a continuation that begins in an invocation of this site. Allocates nothing.
     pub fn apart(alloc: Global, site: u32, burden: Burden) -> Tables
         ensures { StartsTablesOfRest burden site result }
     {
@@ -62,7 +66,12 @@ impl Tables {
         }
     }
 
-    /// Takes in the tables of the rest of the block that runs, which ran apart up to its join. All is told to both.
+    /// Appends the tables of the continuation of the current block, which was executed separately up to its join.
+    /// Both tables must include all events.
+    ///
+    /// # Errors
+    ///
+    /// `AllocError` if memory runs out.
     pub fn take_in(&mut self, rest: Tables) -> Result<(), AllocError>
         ensures { OnOk result (TakesIn self.old rest self.new) }
     {
@@ -75,7 +84,11 @@ impl Tables {
         Ok(())
     }
 
-    /// All that has run up to this count is told.
+    /// Includes all events up to this count.
+    ///
+    /// # Errors
+    ///
+    /// `AllocError` if memory runs out.
     #[inline(always)]
     pub fn settle(&mut self, count: u64) -> Result<(), AllocError>
         ensures { OnOk result (Settles self.old self.new count) }
@@ -85,7 +98,11 @@ impl Tables {
         Ok(())
     }
 
-    /// A call in place begins by the instruction before `next`.
+    /// Begins a plain call of this site by the instruction before `next`.
+    ///
+    /// # Errors
+    ///
+    /// `AllocError` if memory runs out.
     #[inline(always)]
     pub fn call(&mut self, next: u64, site: u32) -> Result<(), AllocError>
         ensures { OnOk result (Opens self.old self.new next false (Some (Invocation site))) }
@@ -96,8 +113,8 @@ impl Tables {
         self.call_apart(next, site)
     }
 
-    // The same, where that takes no memory. Tells whether this is so; where it is not, nothing is changed. So do all that
-    // end in `_ready`.
+    // Begins a plain call, like `call`, if this needs no memory. Returns whether this is so; if not, nothing is
+    // changed. The functions whose names end in `_ready` all have this result.
     #[inline(always)]
     fn call_ready(&mut self, next: u64, site: u32) -> bool
         ensures opens { result ≡ true → Opens self.old self.new next false (Some (Invocation site)) }
@@ -111,7 +128,8 @@ impl Tables {
         false
     }
 
-    // The same in any case. Apart, as all that end so: where no function is called, nothing is kept over its call.
+    // Begins a plain call in every case. Like all functions whose names end in `_apart`, it is not inlined, so that a
+    // caller that needs no function call keeps no register across it.
     #[cold]
     #[inline(never)]
     fn call_apart(&mut self, next: u64, site: u32) -> Result<(), AllocError>
@@ -123,7 +141,11 @@ impl Tables {
         Ok(())
     }
 
-    /// A spawned call begins by the instruction before `next`, in this strand.
+    /// Begins a spawned call of this site, in this strand, by the instruction before `next`.
+    ///
+    /// # Errors
+    ///
+    /// `AllocError` if memory runs out.
     #[inline(always)]
     pub fn spawn(&mut self, next: u64, site: u32) -> Result<(), AllocError>
         ensures { OnOk result (Opens self.old self.new next true (Some (Invocation site))) }
@@ -134,7 +156,7 @@ impl Tables {
         self.spawn_apart(next, site)
     }
 
-    // The same for the first one of its block since the last join.
+    // Begins the first spawned call of its block since the last join, like `spawn`, if this needs no memory.
     #[inline(always)]
     fn spawn_ready(&mut self, next: u64, site: u32) -> bool
         ensures opens { result ≡ true → Opens self.old self.new next true (Some (Invocation site)) }
@@ -151,7 +173,7 @@ impl Tables {
         false
     }
 
-    // Whether the block that runs has not spawned since its last join, and the heaviest path has room for it.
+    // Whether the current block has not spawned since its last join, and the heaviest path has room for it.
     #[inline(always)]
     fn can_spawn(&self) -> bool
         ensures first { result ≡ true → self.now.spawned ≡ false }
@@ -163,7 +185,7 @@ impl Tables {
         self.path.has_room()
     }
 
-    // The same in any case.
+    // Begins a spawned call in every case.
     #[inline(never)]
     fn spawn_apart(&mut self, next: u64, site: u32) -> Result<(), AllocError>
         ensures { OnOk result (Opens self.old self.new next true (Some (Invocation site))) }
@@ -176,7 +198,11 @@ impl Tables {
         Ok(())
     }
 
-    /// A part in series that is neither a call nor a region begins by the instruction before `next`.
+    /// Begins a plain part that is neither a call nor a region by the instruction before `next`.
+    ///
+    /// # Errors
+    ///
+    /// `AllocError` if memory runs out.
     #[inline(always)]
     pub fn begin(&mut self, next: u64) -> Result<(), AllocError>
         ensures { OnOk result (Opens self.old self.new next false None) }
@@ -186,7 +212,11 @@ impl Tables {
         Ok(())
     }
 
-    /// Half of a loop, that is spawned, begins by the instruction before `next`, in this strand.
+    /// Begins the spawned half of a loop, in this strand, by the instruction before `next`.
+    ///
+    /// # Errors
+    ///
+    /// `AllocError` if memory runs out.
     #[inline(always)]
     pub fn spawn_half(&mut self, next: u64) -> Result<(), AllocError>
         ensures { OnOk result (Opens self.old self.new next true None) }
@@ -199,7 +229,11 @@ impl Tables {
         Ok(())
     }
 
-    /// A region of the tag of this number begins by the instruction before `next`.
+    /// Begins a region of the tag with this number by the instruction before `next`.
+    ///
+    /// # Errors
+    ///
+    /// `AllocError` if memory runs out.
     #[inline(always)]
     pub fn begin_region(&mut self, next: u64, tag: u32) -> Result<(), AllocError>
         ensures { OnOk result (OpensRegion self.old self.new next tag) }
@@ -212,14 +246,18 @@ impl Tables {
         Ok(())
     }
 
-    /// The block that runs, which has spawned since its last join, joins at this count.
+    /// Joins the current block, which has spawned since its last join, at this count.
+    ///
+    /// # Errors
+    ///
+    /// `AllocError` if memory runs out.
     #[inline(never)]
     pub fn join(&mut self, count: u64) -> Result<(), AllocError>
         ensures told { OnOk result (JoinsSpawned self.old self.new count) }
         ensures joined { OnOk result (self.new.spawned ≡ false) }
     {
         if self.sites.note_ready(count) {
-            // The sites last, so that nothing is kept over a call that takes a child's steps out.
+            // The sites come last, so that no register is kept across the call that takes out a child's steps.
             self.path.note(count);
             self.path.join(count);
             self.spawned = false;
@@ -229,7 +267,7 @@ impl Tables {
         self.join_apart(count)
     }
 
-    // The same in any case.
+    // Joins the current block, which has spawned since its last join, in every case.
     #[cold]
     #[inline(never)]
     fn join_apart(&mut self, count: u64) -> Result<(), AllocError>
@@ -243,7 +281,11 @@ impl Tables {
         Ok(())
     }
 
-    /// The innermost part, whose block has joined, ends at this count.
+    /// Ends the innermost part, whose block has joined, at this count.
+    ///
+    /// # Errors
+    ///
+    /// `AllocError` if memory runs out.
     #[inline(always)]
     pub fn close(&mut self, count: u64, part: Part) -> Result<(), AllocError>
         ensures { OnOk result (Closes self.old self.new count part) }
@@ -254,7 +296,7 @@ impl Tables {
         }
     }
 
-    // The same for a call in place, and what is kept of it.
+    // Ends a plain call, whose record has this site and this flag.
     #[inline(always)]
     fn close_call(&mut self, count: u64, site: u32, spawned: bool) -> Result<(), AllocError>
         ensures { OnOk result (Closes self.old self.new count (part_of Call site spawned)) }
@@ -265,7 +307,7 @@ impl Tables {
         self.close_apart(count, PartKind::Call, site, spawned)
     }
 
-    // The same for any other part. What it is is asked last, so that a call in place is asked one thing only.
+    // Ends any other part. It tests the kind last, so that only one test is made for a plain call.
     #[inline(always)]
     fn close_other(&mut self, count: u64, part: Part) -> Result<(), AllocError>
         ensures { OnOk result (Closes self.old self.new count part) }
@@ -276,7 +318,7 @@ impl Tables {
         self.close_apart(count, part.kind, part.site, part.spawned)
     }
 
-    // The same for a spawned call, where no step lies between the block's base and the child.
+    // Ends a spawned call, if no step is between the block's base and the child.
     #[inline(always)]
     fn close_child_ready(&mut self, count: u64, part: Part) -> bool
         ensures closes { result ≡ true → Closes self.old self.new count part }
@@ -291,7 +333,7 @@ impl Tables {
         }
     }
 
-    // As `end_call`.
+    // Ends a plain call, like `end_call`, if this needs no memory.
     #[inline(always)]
     fn end_call_ready(&mut self, count: u64, site: u32, spawned: bool) -> bool
         ensures closes { result ≡ true → Closes self.old self.new count (part_of Call site spawned) }
@@ -305,7 +347,7 @@ impl Tables {
         false
     }
 
-    // As `end_spawned_call`.
+    // Ends a spawned call, like `end_spawned_call`, if this needs no memory.
     #[inline(always)]
     fn end_child_ready(&mut self, count: u64, part: Part) -> bool
         requires { HasFirstChild self.old.sites.paths }
@@ -321,7 +363,7 @@ impl Tables {
         false
     }
 
-    // A part that is this ends, in any case.
+    // Ends a part of this kind in every case.
     #[inline(never)]
     fn close_apart(
         &mut self,
@@ -399,11 +441,16 @@ impl Tables {
         Ok(())
     }
 
-    /// The rows of so many sites, by their numbers, once no part is open and all is told. An error where memory runs out.
+    /// Returns the rows of the sites with numbers below `count`, by their numbers. No part may be open, and all
+    /// events must be included.
+    ///
+    /// # Errors
+    ///
+    /// `AllocError` if memory runs out.
     pub fn site_rows(&self, alloc: Global, count: usize) -> Result<Vec<SiteRow>, AllocError>
         ensures { IfOk result (λ rows. ListsSites self.now count rows.items) }
     {
-        // So many rows as a number of 32 bits cannot count are more than memory holds.
+        // Memory cannot hold 2^32 rows or more.
         let Ok(end) = u32::try_from(count) else {
             return Err(AllocError);
         };
@@ -416,11 +463,15 @@ impl Tables {
         Ok(rows)
     }
 
-    /// The rows of so many tags, by their numbers, once no part is open. An error where memory runs out.
+    /// Returns the rows of the tags with numbers below `count`, by their numbers. No part may be open.
+    ///
+    /// # Errors
+    ///
+    /// `AllocError` if memory runs out.
     pub fn region_rows(&self, alloc: Global, count: usize) -> Result<Vec<RegionRow>, AllocError>
         ensures { IfOk result (λ rows. ListsRegions self.now count rows.items) }
     {
-        // As for the rows of sites.
+        // Memory cannot hold 2^32 rows or more.
         let Ok(end) = u32::try_from(count) else {
             return Err(AllocError);
         };

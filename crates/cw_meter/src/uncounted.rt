@@ -1,5 +1,5 @@
-//! What a meter is told of a run of which not all is counted: how many parts are open, and the record of its strands where
-//! that is kept.
+//! The notifications of a meter in a run of which not all measures are counted. The meter counts the open parts, and
+//! records the strands if the run does.
 
 ghost use Rattle.std.specs.Prelude.{◌≡◌, Some, false, IfOk, OnOk};
 ghost use Rattle.cw_model.specs.Trees.{Invocation};
@@ -13,7 +13,7 @@ use cw_greedy::strands::Strands;
 use std::alloc::AllocError;
 
 impl Meter {
-    // A spawned part begins, by the instruction after `count` ones.
+    // Begins a spawned part by the instruction after `count` instructions.
     #[inline(always)]
     pub(crate) fn open_spawned(&mut self, count: u64) -> Result<(), AllocError>
         requires { details.is_counted self.old.detail ≡ false }
@@ -26,7 +26,7 @@ impl Meter {
         Ok(())
     }
 
-    // A call in place begins.
+    // Begins a plain call.
     #[inline(always)]
     pub(crate) fn open_call(&mut self, count: u64, _site: u32) -> Result<(), AllocError>
         requires { details.is_counted self.old.detail ≡ false }
@@ -39,7 +39,7 @@ impl Meter {
         Ok(())
     }
 
-    // Any other part begins in place.
+    // Begins any other plain part.
     #[inline(always)]
     pub(crate) fn open_quiet(&mut self, count: u64) -> Result<(), AllocError>
         requires { details.is_counted self.old.detail ≡ false }
@@ -53,7 +53,7 @@ impl Meter {
         Ok(())
     }
 
-    // The innermost scope, cut or region joins after `count` instructions and ends by the next one.
+    // Joins the innermost scope, cut or region after `count` instructions, and ends it by the next one.
     #[inline(always)]
     pub(crate) fn leave_block(&mut self, count: u64) -> Result<(), AllocError>
         requires { details.is_counted self.old.detail ≡ false }
@@ -66,7 +66,7 @@ impl Meter {
         Ok(())
     }
 
-    // The innermost call, or function of a loop, joins and ends.
+    // Joins and ends the innermost call, or function of a loop.
     #[inline(always)]
     pub(crate) fn leave_call(&mut self, count: u64) -> Result<(), AllocError>
         requires { details.is_counted self.old.detail ≡ false }
@@ -79,7 +79,7 @@ impl Meter {
         Ok(())
     }
 
-    // The block that runs joins.
+    // Joins the current block.
     #[inline(always)]
     pub(crate) fn join_uncounted(&mut self, count: u64) -> Result<(), AllocError>
         requires { details.is_counted self.old.detail ≡ false }
@@ -91,7 +91,8 @@ impl Meter {
         Ok(())
     }
 
-    // The rest of the block that runs was run apart, as `cost` instructions, with a meter of its own.
+    // Appends the continuation of the current block, which was executed separately, as `cost` instructions, with a
+    // meter of its own.
     pub(crate) fn rest_uncounted(
         &mut self,
         count: u64,
@@ -107,7 +108,11 @@ impl Meter {
         Ok(())
     }
 
-    /// The strands of a run, of which they were kept, that has ended after `count` instructions. The error is want of memory.
+    /// Returns the strands of a run that recorded them and has ended after `count` instructions.
+    ///
+    /// # Errors
+    ///
+    /// `AllocError` if memory runs out.
     pub fn strands(self, count: u64) -> Result<Strands, AllocError>
         ensures { IfOk result (λ kept. ReadsStrands self count kept) }
     {

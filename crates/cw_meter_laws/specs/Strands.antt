@@ -168,8 +168,8 @@ RestsAreOut =
     (code : Code) (from : Origin) (s s' : State) → step code s ≡ On s'
     → SitesAfter from (turn code s) s.around s'.around
 
--- at the end of the strand of a whole run with all measures and with no continuation out, the answer of the run is
--- the answer of the code, and the meter, with the last instruction, returns the measures of the run's tree
+-- the strand of a whole run with all measures has ended, with no continuation out: the answer of the run is the answer
+-- of the code, and the meter, with the last instruction, returns the measures of the run's tree
 pub record IsMeasured (code : Code) (burden : Burden) (args : List ℤ) (limit sites : ℕ) (v : Option ℤ) (t : Trace)
     (all : Measures) : Type 0 where
   pub answer : code_serial code args limit ≡ Some (answer_of (reducers_of code) (Done (v, no_frame) 0 t))

@@ -1,4 +1,4 @@
--- Worked examples of arrays that are read together: parameters that are const, and what spawns freeze.
+-- Worked examples of arrays that several calls read: const parameters, and the arrays that spawns freeze.
 use Rattle.std.specs.Prelude.{◌≡◌, ℕ, List, [], ◌∷◌, ◌++◌, codes}
 use Rattle.cw_model.specs.declared.limits.TheConstants.{USUAL_LIMIT}
 use Rattle.cw_model.specs.Syntax.{Variable, Element, Length, Stmt, Declare, DeclareArray, Assign, AssignElement, Sync}
@@ -25,7 +25,7 @@ with_readers body = of_functions (
     ∷ void_function s (array_param a ∷ array_param b ∷ const_param i ∷ const_param j ∷ []) End
     ∷ int_function main 1 [] body ∷ [])
 
--- a statement on line 2 of int n(const int a[], int x), behind the others
+-- a statement on line 2 of int n(const int a[], int x), after two other functions
 abbrev pub amid : Stmt → Program
 amid st = of_functions (
     int_function f 1 (const_param a ∷ []) (block (give (Length a) ∷ []))
@@ -33,7 +33,7 @@ amid st = of_functions (
     ∷ int_function n 1 (const_param a ∷ int_param x ∷ []) (Then 2 st (Then 3 (give (number 0)) End))
     ∷ main_of (give (number 0) ∷ []) ∷ [])
 
--- its types are refused
+-- its types are rejected
 abbrev pub IsMistyped : Stmt → Type 0
 IsMistyped st = BreaksTypes (amid st) (2 ∷ [])
 
@@ -41,7 +41,7 @@ IsMistyped st = BreaksTypes (amid st) (2 ∷ [])
 abbrev pub IsTyped : Stmt → Type 0
 IsTyped st = IsAccepted (amid st)
 
--- a const parameter stands in a[e], in len(a) and as the argument of a const parameter
+-- a const parameter may be used in a[e], in len(a) and as the argument for a const parameter
 pub record ConstTypeExamples : Type 0 where
   pub element_read : IsTyped (Print (Element a (Variable x)))
   pub length : IsTyped (Print (Length a))
@@ -82,7 +82,7 @@ abbrev pub beside_reader : Stmt → Program
 beside_reader st =
     with_names (Then 1 (spawn 1 f (Variable a ∷ [])) (Then 1 (spawn 2 g (Variable b ∷ [])) (Then 2 st (joined_at 3))))
 
--- its ownership is refused
+-- its ownership is rejected
 abbrev pub IsRefused : Stmt → Type 0
 IsRefused st = BreaksOwnership (beside_reader st) (2 ∷ [])
 
@@ -110,7 +110,7 @@ takes_a = on_line 2 (spawn 2 g (Variable a ∷ []) ∷ [])
 abbrev pub reads_its_own : Block
 reads_its_own = on_line 2 (DeclareArray z (number 1) ∷ spawn 1 f (Variable z ∷ []) ∷ [])
 
--- a loop over a on line 2, in whose body stands this statement on line 3
+-- a loop over a on line 2, with this statement on line 3 in its body
 abbrev pub in_loop : Stmt → Program
 in_loop st = with_names (Then 2 (For i i i (number 0) (number 2) 64 (a ∷ []) (Then 3 st End)) (joined_at 4))
 
@@ -124,7 +124,7 @@ given_two first second =
     with_names (Then 2 (Scope (on_line 2 (DeclareArray z (number 1)
     ∷ call 1 s (Variable a ∷ Variable b ∷ Variable first ∷ Variable second ∷ []) ∷ []))) (joined_at 3))
 
--- what is frozen is read by all, and changed by nobody
+-- a frozen array may be read, and may not be changed
 pub record FrozenExamples : Type 0 where
   pub element_read : IsFine (Print (Element a (number 1)))
   pub length : IsFine (Print (Length a))
@@ -152,7 +152,7 @@ pub record FrozenExamples : Type 0 where
   pub second_argument_read : IsAccepted (before_read (spawn 1 q (Variable b ∷ Variable a ∷ [])))
   pub given_away_beside_one_to_be_read : IsAccepted (before_read (spawn 1 h (Variable b ∷ Variable a ∷ [])))
   pub read_beside_one_given_away : BreaksOwnership (before_read (spawn 1 h (Variable a ∷ Variable b ∷ []))) (3 ∷ [])
-  -- one array stands for several where all of them are const, else once
+  -- one array may be the argument for several parameters only if all of them are const
   pub twice_the_first_given_away :
       BreaksOwnership (with_names (Then 2 (call 1 h (Variable a ∷ Variable a ∷ [])) (joined_at 3))) (2 ∷ [])
   pub twice_the_second_given_away :
@@ -165,7 +165,7 @@ pub record FrozenExamples : Type 0 where
   pub integer_argument_written :
       IsAccepted (with_names (Then 2 (spawn 1 n (Variable a ∷ Variable x ∷ []))
       (Then 3 (Assign x (number 1)) (joined_at 4))))
-  -- a join of its own block frees what was frozen
+  -- a join of the block of a spawn makes the frozen arrays writable again
   pub sync :
       IsAccepted (with_names (Then 2 (spawn 1 f (Variable a ∷ []))
       (Then 2 Sync (Then 3 (AssignElement a (number 0) (number 1)) (joined_at 4)))))
@@ -221,18 +221,19 @@ between st =
     with_names (Then 2 (spawn 1 f (Variable a ∷ []))
     (Then 2 st (Then 3 (AssignElement a (number 0) (number 1)) (joined_at 4))))
 
--- it is refused
+-- it is rejected
 abbrev pub StaysFrozen : Stmt → Type 0
 StaysFrozen st = BreaksOwnership (between st) (3 ∷ [])
 
--- a sync alone, and a return alone
+-- a block with only a sync, and a block with only a return
 abbrev pub syncs : Block
 syncs = on_line 2 (Sync ∷ [])
 
 abbrev pub returns : Block
 returns = on_line 2 (give (number 0) ∷ [])
 
--- a block thaws what its own spawns froze, as it ends or returns, and nothing that was frozen around it
+-- at its end or return, a block makes the arrays that its own spawns froze writable again, but no array that was frozen
+-- outside of it
 pub record ThawedExamples : Type 0 where
   pub by_a_region : IsAccepted (before_write (Region t reads_a))
   pub by_a_cut_of_another : IsAccepted (before_write (Cut b (number 0) l r reads_a))
@@ -282,7 +283,7 @@ pub record ReadRunExamples : Type 0 where
       BreaksTypes
       (read_beside (AssignElement a (Variable v) (number 0)) (Print (Element a (number 1)) ∷ []))
       (1 ∷ [])
-  -- what is given away comes back, beside what was only read
+  -- an array that is given away comes back, in a call that also reads another array
   pub one_of_each :
       Writes (of_functions (
       void_function h (array_param a ∷ const_param b ∷ [])

@@ -38,7 +38,7 @@ beside_spawns st =
     with_names
     (Then 1 (spawn_into x 1 f (number 1 ∷ [])) (Then 1 (spawn 2 g (Variable a ∷ [])) (Then 2 st (joined_at 3))))
 
--- its ownership is refused
+-- its ownership is rejected
 abbrev pub IsRefused : Stmt → Type 0
 IsRefused st = BreaksOwnership (beside_spawns st) (2 ∷ [])
 
@@ -46,7 +46,7 @@ IsRefused st = BreaksOwnership (beside_spawns st) (2 ∷ [])
 abbrev pub IsFine : Stmt → Type 0
 IsFine st = IsAccepted (beside_spawns st)
 
--- what is taken is not touched
+-- a taken name may not be touched
 pub record TakenExamples : Type 0 where
   pub another_read : IsFine (Print (plus (Variable y) (Element b (Variable y))))
   pub another_written : IsFine (AssignElement b (Variable y) (Length b))
@@ -95,11 +95,11 @@ pub record TakenExamples : Type 0 where
       (Then 2 (Declare z (number 1))
       (Then 3 (call_into z 2 f (Variable z ∷ [])) (Then 4 (Print (Variable x)) (joined_at 5))))))
       (4 ∷ [])
-  -- what only loops are lowered to
+  -- statements that only lowering makes
   pub lowered_call : ownership_faults (alone (Start Plain h [] ∷ [])) ≡ 1 ∷ []
   pub lowered_loop : ownership_faults (alone (Begin h (number 0) (number 1) [] [] ∷ [])) ≡ 1 ∷ []
 
--- a statement on line 2, beside nothing, and a print of x on line 3
+-- a statement on line 2, after no spawn, and a print of x on line 3
 abbrev pub before_print : Stmt → Program
 before_print st = with_names (Then 2 st (Then 3 (Print (Variable x)) (joined_at 4)))
 
@@ -112,7 +112,7 @@ between st =
 abbrev pub takes_x : Block
 takes_x = on_line 2 (spawn_into x 1 f (number 1 ∷ []) ∷ [])
 
--- a sync alone
+-- a block with only a sync
 abbrev pub syncs : Block
 syncs = on_line 2 (Sync ∷ [])
 
@@ -130,7 +130,7 @@ around_print around =
     with_names (Then 1 (spawn_into x 1 f (number 1 ∷ []))
     (Then 2 (around (Then 4 Sync (Then 5 (Print (Variable x)) End))) (joined_at 6)))
 
--- what takes a name, and what frees it
+-- how names are taken and freed
 pub record FreedExamples : Type 0 where
   pub spawn_takes_its_target : BreaksOwnership (before_print (spawn_into x 1 f (Variable x ∷ []))) (3 ∷ [])
   pub spawn_takes_no_integer : IsAccepted (before_print (spawn_into y 1 f (Variable x ∷ [])))
@@ -149,7 +149,7 @@ pub record FreedExamples : Type 0 where
   pub sync_of_an_array :
       IsAccepted (with_names (on_line 2
       (spawn 1 g (Variable a ∷ []) ∷ Sync ∷ AssignElement a (number 0) (number 1) ∷ give (number 0) ∷ [])))
-  -- a sync block joins its own spawns alone
+  -- a sync block joins only its own spawns
   pub sync_in_scope : BreaksOwnership (between (Scope syncs)) (3 ∷ [])
   pub sync_in_cut : BreaksOwnership (between (Cut a (number 0) l r syncs)) (3 ∷ [])
   pub sync_in_region : BreaksOwnership (between (Region t syncs)) (3 ∷ [])
@@ -159,7 +159,7 @@ pub record FreedExamples : Type 0 where
   pub sync_before_a_print_in_region : BreaksOwnership (around_print (λ body. Region t body)) (5 ∷ [])
   pub sync_before_a_print_in_loop :
       BreaksOwnership (around_print (λ body. For i i i (number 0) (number 1) 64 [] body)) (5 ∷ [])
-  -- the block of an if or a while is none of its own
+  -- the block of an if or a while is not a sync block
   pub sync_before_a_print_in_if : IsAccepted (around_print (λ body. If (number 1) body))
   pub sync_before_a_print_in_one_branch : IsAccepted (around_print (λ body. IfElse (number 1) body End))
   pub sync_before_a_print_in_the_other_branch : IsAccepted (around_print (λ body. IfElse (number 1) End body))
@@ -190,7 +190,7 @@ pub record FreedExamples : Type 0 where
       (before_print (If (number 1) (on_line 2 (Print (number 1) ∷ spawn_into x 1 f (number 1 ∷ []) ∷ [])))) (3 ∷ [])
   pub spawn_before_a_sync_in_if :
       IsAccepted (before_print (If (number 1) (on_line 2 (spawn_into x 1 f (number 1 ∷ []) ∷ Sync ∷ []))))
-  -- the second turn writes what the first one took
+  -- the second iteration writes a name that the first iteration took
   pub spawn_in_while : BreaksOwnership (before_print (While (number 0) takes_x)) (2 ∷ 3 ∷ [])
   pub spawn_into_the_test_of_while :
       BreaksOwnership
@@ -225,7 +225,7 @@ pub record FreedExamples : Type 0 where
   pub sync_in_its_cut :
       BreaksOwnership
       (with_names (Then 2 (Cut a (number 0) l r (on_line 3 (Sync ∷ Print (Length a) ∷ []))) (joined_at 4))) (3 ∷ [])
-  -- a cut holds its array for its block alone: what a spawn took before is still taken
+  -- a cut holds its array only for its block: an array that a spawn took before is still taken
   pub after_a_cut_of_a_taken_array :
       BreaksOwnership (with_names (Then 2 (spawn 1 g (Variable a ∷ []))
       (Then 3 (Cut a (number 0) l r End) (Then 4 (Print (Length a)) (joined_at 5))))) (3 ∷ 4 ∷ [])
@@ -235,7 +235,7 @@ pub record FreedExamples : Type 0 where
       (joined_at 5)))
       (4 ∷ [])
 
--- a loop over a on line 2, in whose body stands this statement on line 3; b is not among its arrays
+-- a loop over a on line 2, with this statement on line 3 in its body; b is not one of its arrays
 abbrev pub in_loop : Stmt → Program
 in_loop st = with_names (Then 2 (For i i i (number 0) (number 2) 64 (a ∷ []) (Then 3 st End)) (joined_at 4))
 

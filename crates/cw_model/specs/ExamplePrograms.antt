@@ -136,7 +136,7 @@ spawn_into x site f es = Call Spawned site (Some x) f es
 abbrev pub main_of : List Stmt → Function
 main_of ss = int_function main 1 [] (block ss)
 
--- main alone
+-- a program with only a main
 abbrev pub alone : List Stmt → Program
 alone ss = of_functions (main_of ss ∷ [])
 
@@ -187,7 +187,8 @@ fib_program = of_functions (
     (Then 13 (give (Variable r)) End)))
     ∷ [])
 
--- int bad(int z) { int q = 0; q = 1 / z; return q; }, and on the next line a main that spawns it beside a statement
+-- int bad(int z) { int q = 0; q = 1 / z; return q; }, and on the next line a main that spawns it in parallel with a
+-- statement
 abbrev pub division_beside : Stmt → Program
 division_beside beside = of_functions (
     int_function bad 1 (int_param z ∷ [])
@@ -196,11 +197,11 @@ division_beside beside = of_functions (
     (on_line 2 (spawn 1 bad (Variable z ∷ []) ∷ beside ∷ Sync ∷ give (number 0) ∷ []))
     ∷ [])
 
--- beside a print
+-- the division in parallel with a print
 abbrev pub division_program : Program
 division_program = division_beside (Print (number 7))
 
--- beside a loop without end
+-- the division in parallel with an endless loop
 abbrev pub division_beside_forever : Program
 division_beside_forever = division_beside (While (number 1) End)
 
@@ -230,11 +231,11 @@ sum_program from to =
     with_sum (main_of
     (For i i i (number from) (number to) 2 [] (block (Reduce Sum s (Variable i) ∷ [])) ∷ give (number 0) ∷ []) ∷ [])
 
--- with one reducer that keeps the greatest
+-- a program with one reducer, for the maximum
 abbrev pub with_greatest : List Function → Program
 with_greatest functions = record { reducers = record { name = s; how = Max; line = 1 } ∷ []; functions = functions }
 
--- a loop with grain 2 that tells a reducer its variable times 3 less the variable
+-- a loop over i with grain 2 that updates a reducer with i * (3 - i)
 abbrev pub greatest_program : ℕ → ℕ → Program
 greatest_program from to =
     with_greatest (main_of
@@ -242,7 +243,7 @@ greatest_program from to =
     (block (Reduce Max s (Binary Times (Variable i) (minus (number 3) (Variable i))) ∷ [])) ∷ give (number 0) ∷ [])
     ∷ [])
 
--- the greatest number is added to a sum twice
+-- the maximum number is added to a sum twice
 abbrev pub large_sum_program : Program
 large_sum_program = with_sum (
     void_function add [] (block (Reduce Sum s (number 9223372036854775807) ∷ []))
@@ -389,7 +390,7 @@ spawn_chain = of_functions (
     (block (Declare r (number 0) ∷ call_into r 2 f (Variable n ∷ []) ∷ give (Variable r) ∷ []))
     ∷ [])
 
--- so many signs before 1
+-- this number of signs before 1
 abbrev pub signs : ℕ → Expr
 signs zero = number 1
 signs (suc k) = Negative (signs k)
@@ -402,12 +403,12 @@ operation operator d e = alone (give (Binary operator d e) ∷ [])
 abbrev pub least : Expr
 least = minus (Negative (number 9223372036854775807)) (number 1)
 
--- so many statements, each on a line of its own, from a line on
+-- this number of copies of a statement, each on its own line, from a line on
 abbrev pub each_on_its_line : ℕ → ℕ → Stmt → Block
 each_on_its_line zero line s = End
 each_on_its_line (suc count) line s = Then line s (each_on_its_line count (suc line) s)
 
--- a main of so many statements from line 1 on
+-- a main with this number of copies of a statement, from line 1 on
 abbrev pub many : ℕ → Stmt → Program
 many count s = of_functions (int_function main 1 [] (each_on_its_line count 1 s) ∷ [])
 
@@ -420,7 +421,7 @@ abbrev pub followed_by : Block → Block → Block
 followed_by End rest = rest
 followed_by (Then line st more) rest = Then line st (followed_by more rest)
 
--- a block in each form of statement that has blocks, told the line that it begins in, and then the rest; there is an
+-- a block in each form of statement that has blocks, for the line in which it begins, and then `rest`; there is an
 -- array a
 abbrev pub in_every_block : (ℕ → Block) → Block → Block
 in_every_block inner rest =

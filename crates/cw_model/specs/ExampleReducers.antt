@@ -1,4 +1,4 @@
--- Worked examples of reducers of both kinds: what they come to, and the rules for what they are told.
+-- Worked examples of reducers of both kinds: their totals, and the rules for the values that update them.
 use Rattle.std.specs.Prelude.{◌≡◌, ℕ, List, [], ◌∷◌, ◌++◌, replicate, codes}
 use Rattle.cw_model.specs.declared.limits.TheConstants.{USUAL_LIMIT}
 use Rattle.cw_model.specs.declared.syntax.Reduction.{Reduction}
@@ -12,20 +12,20 @@ use Rattle.cw_model.specs.ExamplePrograms.{a, f, i, p, s, v, x, y, number, int_p
 use Rattle.cw_model.specs.ExamplePrograms.{spawn_into, int_function, main, main_of, same_function, with_sum}
 use Rattle.cw_model.specs.ExamplePrograms.{with_greatest, least}
 
--- so many values are told to one reducer, and 0 is returned
+-- these values update one reducer, and 0 is returned
 abbrev pub telling : Reduction → List Expr → List Stmt
 telling how [] = give (number 0) ∷ []
 telling how (e ∷ es) = Reduce how s e ∷ telling how es
 
--- a sum of these values
+-- a program that sums these values
 abbrev pub adding : List Expr → Program
 adding es = with_sum (main_of (telling Sum es) ∷ [])
 
--- the greatest of these values
+-- a program with the maximum of these values
 abbrev pub keeping : List Expr → Program
 keeping es = with_greatest (main_of (telling Max es) ∷ [])
 
--- what reducers come to: sums are exact past 64 bits on both sides, and each value of 64 bits can be a greatest one
+-- the totals of reducers: sums are exact beyond 64 bits in both directions, and each 64-bit value can be a maximum
 pub record TotalExamples : Type 0 where
   pub sum_below_0 : Costs (adding (Negative (number 3) ∷ [])) [] 5 (codes "sum s = -3" ∷ codes "return 0" ∷ [])
   pub less_added :
@@ -43,7 +43,7 @@ pub record TotalExamples : Type 0 where
   pub greatest_is_the_greatest_number :
       Writes (keeping (number 9223372036854775807 ∷ number 1 ∷ [])) [] USUAL_LIMIT
       (codes "max s = 9223372036854775807" ∷ codes "return 0" ∷ [])
-  -- a spawned call tells -7, and the rest of its block -9
+  -- a spawned call updates the reducer with -7, and the continuation of its block with -9
   pub greatest_of_a_spawned_call :
       Writes (with_greatest (
       void_function p (int_param v ∷ []) (block (Reduce Max s (Variable v) ∷ []))
@@ -52,20 +52,20 @@ pub record TotalExamples : Type 0 where
       ∷ []))
       [] USUAL_LIMIT (codes "max s = -7" ∷ codes "return 0" ∷ [])
 
--- a statement on line 2 of a main with an integer x and an array a, where s keeps the greatest
+-- a statement on line 2 of a main with an integer x and an array a; s is a reducer for the maximum
 abbrev pub amid : Stmt → Program
 amid st = with_greatest (
     int_function main 1 [] (Then 1 (Declare x (number 0)) (Then 1 (DeclareArray a (number 1))
     (Then 2 st (Then 3 (give (number 0)) End))))
     ∷ [])
 
--- a spawn into x on line 1, and then these statements, where s keeps the greatest
+-- a spawn into x on line 1, and then these statements; s is a reducer for the maximum
 abbrev pub behind_spawn : Block → Program
 behind_spawn body = with_greatest (
     same_function
     ∷ int_function main 1 [] (Then 1 (Declare x (number 0)) (Then 1 (spawn_into x 1 f (number 1 ∷ [])) body)) ∷ [])
 
--- x is told, and 0 is returned
+-- x updates the reducer, and 0 is returned
 abbrev pub tells_x : ℕ → Block
 tells_x line = Then line (Reduce Max s (Variable x)) (Then 9 (give (number 0)) End)
 
@@ -73,7 +73,7 @@ tells_x line = Then line (Reduce Max s (Variable x)) (Then 9 (give (number 0)) E
 abbrev pub reducer_of : Reduction → ℕ → Reducer
 reducer_of how line = record { name = s; how = how; line = line }
 
--- what a reducer that keeps the greatest may be told, what that takes, and how many reducers there may be
+-- the values that may update a reducer with the reduction max, the size of an update, and the number of reducers
 pub record ToldExamples : Type 0 where
   pub integer : IsAccepted (amid (Reduce Max s (Variable x)))
   pub unknown_name : BreaksTypes (amid (Reduce Max s (Variable y))) (2 ∷ [])

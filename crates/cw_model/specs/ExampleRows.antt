@@ -1,4 +1,5 @@
 -- Worked examples of reports: rows of tags and sites, and whole texts byte by byte.
+-- `a || b` is a child of weight a in parallel with a continuation of weight b.
 use Rattle.std.specs.Prelude.{◌≡◌, [], ◌∷◌, ◌++◌, codes}
 use Rattle.cw_model.specs.declared.limits.TheConstants.{USUAL_LIMIT, USUAL_BURDEN}
 use Rattle.cw_model.specs.declared.syntax.Operator.TheVariants.{Less}
@@ -29,7 +30,7 @@ two_executions_program =
     idle_and (Region t (block (spawn 1 p [] ∷ Print (number 1) ∷ []))
     ∷ Region t (block (spawn 2 p [] ∷ Print (number 1) ∷ [])) ∷ give (number 0) ∷ [])
 
--- a child that spawns in two sync blocks, beside a short rest
+-- a child that spawns in two sync blocks, in parallel with a short continuation
 abbrev pub spawning_child_program : Program
 spawning_child_program = of_functions (
     void_function p [] End
@@ -42,14 +43,14 @@ abbrev pub two_tags_program : Program
 two_tags_program =
     alone (Region t (block (Region r (block (Print (number 1) ∷ [])) ∷ Print (number 2) ∷ [])) ∷ give (number 0) ∷ [])
 
--- a short child beside a longer rest
+-- a short child in parallel with a longer continuation
 abbrev pub longer_rest_program : Program
 longer_rest_program = of_functions (
     int_function f 1 [] (block (give (number 0) ∷ []))
     ∷ main_of (spawn 1 f [] ∷ Print (number 1) ∷ Print (number 2) ∷ Sync ∷ give (number 0) ∷ [])
     ∷ [])
 
--- a child of more work, most of it spawned, beside a rest of greater span
+-- a child with more work, most of it spawned, in parallel with a continuation with a larger span
 abbrev pub wide_child_program : Program
 wide_child_program = of_functions (
     void_function p [] End
@@ -57,7 +58,7 @@ wide_child_program = of_functions (
     ∷ main_of (spawn 4 f [] ∷ Print (number 1) ∷ Print (number 2) ∷ Print (number 3) ∷ Sync ∷ give (number 0) ∷ [])
     ∷ [])
 
--- a child of seven instructions beside a rest of more work, most of it spawned, and of less span
+-- a child of seven instructions in parallel with a continuation with more work, most of it spawned, and a smaller span
 abbrev pub wide_rest_program : Program
 wide_rest_program = of_functions (
     void_function p [] End
@@ -72,14 +73,14 @@ pub record RowExamples : Type 0 where
   pub nested_region :
       Scales nested_region_program (2 ∷ []) USUAL_BURDEN
       (codes ",40,40,1.000,40,1.000" ∷ codes "t,24,24,1.000,24,1.000" ∷ [])
-  -- what stands in a region belongs to the call around it
+  -- the instructions in a region belong to the call around the region
   pub nested_region_sites : Attributes nested_region_program (2 ∷ [])
       (codes "0,root,1,main,1,6,6,40,40" ∷ codes "1,call,1,f,2,20,20,20,20" ∷ codes "2,call,1,f,1,14,14,34,34" ∷ [])
   pub two_executions :
       Scales two_executions_program [] 10 (codes ",14,12,1.166,32,0.437" ∷ codes "t,8,6,1.333,26,0.307" ∷ [])
-  -- the longer side is the child, with a burden for each of its rests: 1 + (1 + 10 + 2 + 10 + 1 beside 10 + 1) + 1
+  -- the longer side is the child, with a burden for each of its continuations: 1 + (1 + 10 + 2 + 10 + 1 || 10 + 1) + 1
   pub burdens_of_a_child : Scales spawning_child_program [] 10 (codes ",9,8,1.125,26,0.346" ∷ [])
-  -- each child is charged, too, so that a path runs through each: 1 + (10 + 1 + 11 + 2 + 11 + 1 beside 10 + 1) + 1
+  -- each child is charged, too, so that a path runs through each: 1 + (10 + 1 + 11 + 2 + 11 + 1 || 10 + 1) + 1
   pub burdens_of_both_edges : ScalesBoth spawning_child_program [] 10 (codes ",9,8,1.125,38,0.236" ∷ [])
   pub return_edges_of_a_recursion : ScalesBoth fib_program (4 ∷ []) 100 (codes ",120,67,1.791,367,0.326" ∷ [])
   pub return_edges_in_a_region :
@@ -128,7 +129,7 @@ pub record TextExamples : Type 0 where
       ≡ codes "site,kind,line,callee,calls,own_work,own_span,work,span"
       ++ 10 ∷ (codes "0,root,1,main,1,7,7,9,9" ++ 10 ∷ (codes "1,spawn,1,f,1,2,2,2,2" ++ 10 ∷ []))
   pub plain_fields : csv_line (codes "a" ∷ [] ∷ codes "b_1" ∷ []) ≡ codes "a,,b_1" ++ 10 ∷ []
-  -- in quotes, in which a quote stands twice
+  -- quoted fields: a quote in a field is doubled
   pub comma : csv_field (codes "a,b") ≡ codes "\"a,b\""
   pub quote : csv_field (codes "a\"b") ≡ codes "\"a\"\"b\""
   pub ends_of_lines : csv_line ((13 ∷ []) ∷ codes "x" ∷ (97 ∷ 10 ∷ []) ∷ [])

@@ -37,18 +37,18 @@ pub record TokenSizeExamples : Type 0 where
   pub comma_ends_no_row :
       token_faults 0 0 (replicate 200 (token kind.Minus) ++ token kind.Comma ∷ replicate 56 (token kind.Minus)) ≡ 1 ∷ []
 
--- regions with so many different tags, each on a line of its own
+-- regions with this number of different tags, each on its own line
 abbrev pub tagged : ℕ → ℕ → Block → Block
 tagged zero line rest = rest
 tagged (suc k) line rest = Then line (Region (line ∷ []) End) (tagged k (suc line) rest)
 
--- a function of sixteen parameters on line 7, with so many declarations on the lines from 1 on
+-- a function with sixteen parameters on line 7, with this number of declarations on the lines from 1 on
 abbrev pub wide_function : ℕ → Program
 wide_function declared =
     of_functions
     (int_function f 7 (replicate 16 (int_param x)) (each_on_its_line declared 1 (Declare x (number 0))) ∷ [])
 
--- limits on names, functions, reducers and tags, and what of them stands in blocks
+-- limits on names, functions, reducers and tags, which also count those in inner blocks
 pub record DeclarationSizeExamples : Type 0 where
   pub integers :
       declaring_lines_in (once_in_every_block (λ line. Declare x (number 0)) End)
@@ -88,13 +88,13 @@ pub record DeclarationSizeExamples : Type 0 where
   pub tags_of_two_functions :
       limit_faults (of_functions (int_function f 1 [] (tagged 64 1 End) ∷ int_function g 1 [] (tagged 1 65 End) ∷ []))
       ≡ 65 ∷ []
-  -- a tag counts where it stands first
+  -- a tag counts at its first region
   pub first_tag_again :
       limit_faults (of_functions (int_function f 1 [] (tagged 65 1 (Then 70 (Region (1 ∷ []) End) End)) ∷ [])) ≡ 65 ∷ []
   -- a tag is counted once
   pub tags_again : limit_faults (of_functions (int_function f 1 [] (tagged 64 1 (tagged 64 1 End)) ∷ [])) ≡ []
 
--- so many instructions, each construct, branch, jump and end counted once
+-- a statement has this number of instructions, each construct, branch, jump and end counted once
 abbrev pub Takes : Stmt → ℕ → Type 0
 Takes st k =
     block_size (same_function ∷ void_function g (array_param a ∷ int_param v ∷ []) End ∷ []) (a ∷ [])
@@ -104,13 +104,13 @@ Takes st k =
 abbrev pub shifted : Expr
 shifted = Element a (Variable i)
 
--- loops of 5,038 instructions each, and then so many syncs
+-- loops of 5,038 instructions each, and then this number of syncs
 abbrev pub large_program : ℕ → Program
 large_program syncs = of_functions (
     int_function f 1 [] (each_on_its_line 208 1 (For i i i (number 0) (number 1) 64 (replicate 1000 a) End))
     ∷ main_of (replicate syncs Sync) ∷ [])
 
--- so many functions of 257 calls each, and one call more in main
+-- this number of functions with 257 calls each, and a main with these statements
 abbrev pub calling_program : (functions : ℕ) → List Stmt → Program
 calling_program functions more =
     of_functions (main_of more ∷ replicate functions (void_function f [] (each_on_its_line 257 1 (call 1 f []))))

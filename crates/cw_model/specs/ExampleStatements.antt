@@ -1,4 +1,5 @@
--- Worked examples of statements: what they do, what they cost, and what loops do by halves.
+-- Worked examples of statements: their effects, their costs, and the halves of loops.
+-- `a || b` is a child of weight a in parallel with a continuation of weight b.
 use Rattle.std.specs.Prelude.{◌≡◌, ℕ, zero, suc, pos, List, [], ◌∷◌, None, codes}
 use Rattle.cw_model.specs.declared.trap.Trap.TheVariants as trap
 use Rattle.cw_model.specs.declared.syntax.CallKind.TheVariants.{Plain, Spawned}
@@ -44,7 +45,7 @@ print_both = Print (Element a (number 0)) ∷ Print (Element b (number 0)) ∷ g
 abbrev pub array_and : Block → Program
 array_and body = of_functions (int_function main 1 [] (Then 1 (DeclareArray a (number 1)) body) ∷ [])
 
--- what statements do
+-- the effects of statements
 pub record EffectExamples : Type 0 where
   -- a name ends with its block, so that each print shows its own; a while whose test fails and the other branch print
   -- nothing
@@ -157,7 +158,7 @@ pub record EffectExamples : Type 0 where
   pub arrays_end_with_blocks :
       Costs (alone (If (number 1) (block (DeclareArray b (number 1) ∷ [])) ∷ DeclareArray b (number 2) ∷ give (Length b)
       ∷ [])) [] 8 (codes "return 2" ∷ [])
-  -- what was printed before a trap is shown in order, that of the calls around it too
+  -- the lines printed before a trap are shown in order, including the lines of the enclosing calls
   pub lines_before_a_trap :
       serial (of_functions (void_function p []
       (on_line 2 (Print (number 2) ∷ Print (Binary Divide (number 1) (number 0)) ∷ []))
@@ -173,7 +174,7 @@ turns_program = alone (
     ∷ Assign i (plus (Variable i) (number 1)) ∷ []))
     ∷ give (Variable i) ∷ [])
 
--- what statements cost
+-- the costs of statements
 pub record CostExamples : Type 0 where
   pub turns : Costs turns_program [] 39 (codes "7" ∷ codes "8" ∷ codes "return 2" ∷ [])
   pub assignment :
@@ -216,9 +217,9 @@ abbrev pub beside_a_loop : Stmt → Program
 beside_a_loop st =
     of_functions (idle_loop_function ∷ void_function f [] End ∷ main_of (spawn 1 p [] ∷ st ∷ give (number 0) ∷ []) ∷ [])
 
--- what each sync block joins, at its end and not before; the child is the longer side
+-- the spawns that each sync block joins, at its end and not before; the child is the longer side
 pub record JoinExamples : Type 0 where
-  -- a return joins after its expression and before its instruction: 1 + (3 beside 1) + 1
+  -- a return joins after its expression and before its instruction: 1 + (3 || 1) + 1
   pub return_of_a_value : Scales (with_printer (spawn 1 p [] ∷ give (number 0) ∷ [])) [] 0
       (codes ",6,5,1.200,5,1.200" ∷ [])
   pub plain_return : Scales (with_spawner (Return None ∷ [])) [] 0 (codes ",8,8,1.000,8,1.000" ∷ [])
@@ -235,7 +236,7 @@ pub record JoinExamples : Type 0 where
   pub turn :
       Scales (with_printer (For i i i (number 0) (number 1) 64 [] (block (spawn 1 p [] ∷ [])) ∷ give (number 0) ∷ []))
       [] 0 (codes ",34,34,1.000,34,1.000" ∷ [])
-  -- a block joins no spawn from before it: 1 + (3 beside 3) + 1, then 1 + (62 beside 50) + 1 and 1 + (62 beside 5) + 1
+  -- a block joins no spawn from before it: 1 + (3 || 3) + 1, then 1 + (62 || 50) + 1 and 1 + (62 || 5) + 1
   pub spawn_before_a_scope :
       Scales (with_printer (spawn 1 p [] ∷ Scope End ∷ give (number 0) ∷ [])) [] 0 (codes ",8,5,1.600,5,1.600" ∷ [])
   pub spawn_before_a_loop :
@@ -259,7 +260,7 @@ begun_program = of_functions (
     ∷ give (Element b (number 2)) ∷ [])
     ∷ [])
 
--- one statement on line 5, in a function that is called at the greatest depth
+-- one statement on line 5, in a function that is called at the maximum depth
 abbrev pub at_greatest_depth : Stmt → Outcome Returned
 at_greatest_depth st =
     meaning.call 3 9999 (void_function p [] End ∷ []) Deeper (void_function g [] (on_line 5 (st ∷ []))) no_frame 4 100
@@ -283,7 +284,7 @@ captured_by_a_loop = alone (
     DeclareArray a (number 2) ∷ Declare x (number 7)
     ∷ For i i i (number 0) (number 3) 64 (a ∷ []) (block (Print (Variable x) ∷ [])) ∷ give (number 0) ∷ [])
 
--- what the statements of lowered loops do
+-- the effects of the statements of lowered loops
 pub record LoweredExamples : Type 0 where
   -- main 14, the start 5, the function 20, and 12 after it
   pub begun : Costs begun_program [] 51
@@ -294,7 +295,8 @@ pub record LoweredExamples : Type 0 where
       ∷ main_of
       (DeclareArray a (number 2) ∷ Begin f (number 0) (number 3) [] (a ∷ []) ∷ give (number 0) ∷ [])
       ∷ [])) [] 1000 trap.OutOfBounds 1
-  -- without a turn the upper end is the lower one, so that its function's test does not trap: 1 + 4 + 1, then 7 and 2
+  -- without an iteration the upper end equals the lower end, so the test of the loop's function does not trap:
+  -- 1 + 4 + 1, then 7 and 2
   pub begun_on_the_widest_range_without_a_turn :
       Costs (of_functions (
       void_function f (int_param i ∷ int_param j ∷ [])
@@ -327,14 +329,14 @@ capture_program grain = with_sum (main_of (
     (block (Reduce Sum s (plus (Binary Times (Variable a) (Variable i)) (Variable b)) ∷ []))
     ∷ give (number 0) ∷ []) ∷ [])
 
--- a loop of one turn whose body is a loop with an outer integer as its bound
+-- a loop with one iteration whose body is a loop with an outer integer as its bound
 abbrev pub inner_bound_program : Program
 inner_bound_program = alone (
     Declare n (number 1)
     ∷ For i i i (number 0) (number 1) 64 [] (block (For j j j (number 0) (Variable n) 64 [] End ∷ []))
     ∷ give (number 0) ∷ [])
 
--- a loop over i with this statement in its body captures x alone
+-- a loop over i with this statement in its body captures only x
 abbrev pub CapturesX : Stmt → Type 0
 CapturesX st = captured i (block (st ∷ [])) ≡ x ∷ []
 
@@ -346,11 +348,11 @@ two_arrays_program = alone (
     (block (AssignElement b (Variable i) (Variable i) ∷ AssignElement a (Variable i) (Element b (Variable i)) ∷ []))
     ∷ give (Element a (number 1)) ∷ [])
 
--- the tree of a leaf with one turn, whose body is one strand
+-- the tree of a leaf with one iteration, whose body is one strand
 abbrev pub leaf_of : ℕ → Tree
 leaf_of k = Seq (Leaf 8) (Seq (Leaf 5) (Seq (Leaf k) (Seq (Leaf 6) (Leaf 6))))
 
--- loops: their costs, what they capture, and the order of their turns
+-- loops: their costs, the integers that they capture, and the order of their iterations
 pub record LoopExamples : Type 0 where
   pub captured_integers : Costs (capture_program 64) [] 59 (codes "sum s = 8" ∷ codes "return 0" ∷ [])
   pub captured_by_halves : Costs (capture_program 1) [] 98 (codes "sum s = 8" ∷ codes "return 0" ∷ [])
@@ -371,7 +373,7 @@ pub record LoopExamples : Type 0 where
       ∷ Declare y (number 5) ∷ give (Variable y) ∷ []))
       [] 1000
       (codes "0" ∷ codes "1" ∷ codes "return 5" ∷ [])
-  -- where the upper end is not above the lower one there is no turn, and no trap
+  -- if the upper end is not above the lower end, there is no iteration and no trap
   pub equal_ends : Costs
       (alone (DeclareArray a (number 2) ∷ For i i i (number 9) (number 9) 64 (a ∷ []) End ∷ give (number 0) ∷ [])) [] 21
       (codes "return 0" ∷ [])
@@ -399,17 +401,17 @@ pub record LoopExamples : Type 0 where
       ∷ For i i i (number 0) (number 2) 64 (a ∷ []) (block (AssignElement a (Variable i) (number 5) ∷ []))
       ∷ give (Element a (number 0)) ∷ []))
       [] 54 (codes "return 5" ∷ [])
-  -- the smaller half of an odd range is spawned: 3 + 17 + (3 + 47 beside 36) + 1 + 2
+  -- the smaller half of an odd range is spawned: 3 + 17 + (3 + 47 || 36) + 1 + 2
   pub odd_range : Scales (alone (For i i i (number 0) (number 5) 4 [] End ∷ give (number 0) ∷ [])) [] 0
       (codes ",109,73,1.493,73,1.493" ∷ [])
-  -- a node ends after its join, also where the child is the longer side: 3 + 17 + (35 beside 3 + 29) + 1 + 2
+  -- a node ends after its join, also where the child is the longer side: 3 + 17 + (35 || 3 + 29) + 1 + 2
   pub longer_child :
       Scales (alone (
       For i i i (number 0) (number 2) 1 []
       (block (If (Binary Less (Variable i) (number 1))
       (block (Print (number 1) ∷ Print (number 2) ∷ Print (number 3) ∷ [])) ∷ []))
       ∷ give (number 0) ∷ [])) [] 0 (codes ",90,58,1.551,58,1.551" ∷ [])
-  -- a half joins at its own end alone: 3 + 17 + (92 beside 3 + 17 + (29 beside 3 + 29) + 1) + 1 + 2
+  -- a half joins only at its own end: 3 + 17 + (92 || 3 + 17 + (29 || 3 + 29) + 1) + 1 + 2
   pub longest_first_leaf :
       Scales (of_functions (
       idle_loop_function
@@ -417,14 +419,14 @@ pub record LoopExamples : Type 0 where
       (block (If (Binary Less (Variable i) (number 1)) (block (call 1 p [] ∷ [])) ∷ [])) ∷ give (number 0)
       ∷ [])
       ∷ [])) [] 0 (codes ",197,115,1.713,115,1.713" ∷ [])
-  -- own names leave the index of a loop array as dear: 2 + 3 + 14 + 2 * (11 + 11) + 3
+  -- own names do not change the cost of an index of a loop array: 2 + 3 + 14 + 2 * (11 + 11) + 3
   pub index_beside_own_names :
       Costs (alone (DeclareArray a (number 2)
       ∷ For i i i (number 0) (number 2) 64 (a ∷ [])
       (block (Declare y (number 0) ∷ Assign y (number 1) ∷ DeclareArray b (number 1)
       ∷ AssignElement a (Variable i) (Variable y) ∷ [])) ∷ give (Element a (number 1)) ∷ []))
       [] 66 (codes "return 1" ∷ [])
-  -- and so do the blocks of a turn: 2 + 3 + 14 + 2 * (11 + 7) + 3
+  -- blocks in the body do not change the cost of an index of a loop array: 2 + 3 + 14 + 2 * (11 + 7) + 3
   pub index_after_a_block :
       Costs (alone (DeclareArray a (number 2)
       ∷ For i i i (number 0) (number 2) 64 (a ∷ [])
@@ -435,7 +437,7 @@ pub record LoopExamples : Type 0 where
   pub cost_of_five_turns : loop_cost 2 2 1 5 ≡ 157
   pub cost_of_a_leaf : loop_cost 5 2 1 5 ≡ 69
   pub nodes_of_five_turns : inner_nodes 6 2 5 ≡ 2
-  -- the whole, and each of its halves of four turns
+  -- the whole loop, and each of its halves of four iterations
   pub nodes_of_eight_turns : inner_nodes 9 2 8 ≡ 3
   -- one integer and two arrays: a node is 17 + 4 * 2 + 1 up to its spawn, 3 + 1 up to its call, and 2 + 1 after its
   -- join

@@ -26,7 +26,7 @@ amid st =
     with_callees (int_function main 1 [] (Then 1 (Declare x (number 0))
     (Then 1 (DeclareArray a (number 2)) (Then 2 st (Then 3 (give (number 0)) End)))))
 
--- its types are refused
+-- its types are rejected
 abbrev pub IsMistyped : Stmt → Type 0
 IsMistyped st = BreaksTypes (amid st) (2 ∷ [])
 
@@ -38,7 +38,7 @@ IsFine st = IsAccepted (amid st)
 abbrev pub array_and : Block → Program
 array_and body = of_functions (int_function main 1 [] (Then 1 (DeclareArray a (number 2)) body) ∷ [])
 
--- an expression names what is known, each name as what it is
+-- an expression uses only known names, each according to its kind
 pub record ExpressionTypeExamples : Type 0 where
   pub every_form : IsFine (Print (plus (Negative (Length a)) (Not (Element a (Variable x)))))
   pub unknown_name : IsMistyped (Print (Variable y))
@@ -103,7 +103,7 @@ pub record CallTypeExamples : Type 0 where
       same_function ∷ (record { name = f; line = 2; gives_int = false; params = []; body = End })
       ∷ int_function main 3 [] (Then 4 (Declare x (number 0)) (Then 5 (call_into x 1 f (number 1 ∷ []))
       (Then 6 (give (Variable x)) End))) ∷ [])) (2 ∷ [])
-  -- what only loops are lowered to
+  -- statements that only lowering makes
   pub lowered_call : IsMistyped (Start Plain h [])
   pub lowered_loop : IsMistyped (Begin h (number 0) (number 1) [] [])
 
@@ -181,7 +181,7 @@ pub record BlockTypeExamples : Type 0 where
   pub both_branches_return :
       IsAccepted (alone (IfElse (number 1) (block (give (number 0) ∷ [])) (block (give (number 1) ∷ [])) ∷ []))
 
--- a function f with this head, on line 2, beside a reducer s and a main on line 1
+-- a function f with this head, on line 2, in a program with a reducer s and a main on line 1
 abbrev pub headed : Function → Program
 headed first = with_sum (first ∷ main_of (give (number 0) ∷ []) ∷ [])
 

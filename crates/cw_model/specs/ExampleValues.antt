@@ -1,4 +1,4 @@
--- Worked examples of expressions: what they come to, at which cost, and where they trap.
+-- Worked examples of expressions: their values, their costs and their traps.
 use Rattle.std.specs.Prelude.{◌≡◌, ℕ, zero, suc, pos, negsuc, List, [], ◌∷◌, codes}
 use Rattle.cw_model.specs.declared.trap.Trap.{Trap}
 use Rattle.cw_model.specs.declared.trap.Trap.TheVariants as trap
@@ -19,11 +19,11 @@ use Rattle.cw_model.specs.ExamplePrograms.{on_line, give, call, alone, same_func
 abbrev pub below_0 : ℕ → Expr
 below_0 k = Negative (number k)
 
--- the greatest number
+-- the maximum number
 abbrev pub greatest : Expr
 greatest = number 9223372036854775807
 
--- int main() { return .. ; } costs so much and returns this
+-- int main() { return .. ; } has this cost and returns this
 abbrev pub Computes : Expr → (cost : ℕ) → (text : List ℕ) → Type 0
 Computes e cost text = Costs (alone (give e ∷ [])) [] cost (text ∷ [])
 
@@ -31,7 +31,7 @@ Computes e cost text = Costs (alone (give e ∷ [])) [] cost (text ∷ [])
 abbrev pub of_two : Operator → ℕ → ℕ → Expr
 of_two operator d e = Binary operator (number d) (number e)
 
--- what operators give; a return costs 1 beside its expression
+-- the values of operators; a return costs 1 in addition to its expression
 pub record OperatorExamples : Type 0 where
   pub number_alone : Computes (number 5) 2 (codes "return 5")
   pub equal : Computes (of_two Equal 2 2) 4 (codes "return 1")
@@ -110,7 +110,7 @@ pub record TrapExamples : Type 0 where
   pub upper_end : TrapsWithin (For i i i (number 0) (of_two Divide 1 0) 64 [] End) 6 trap.DivisionByZero 2
   pub range_past_the_end : TrapsWithin (For i i i (number 0) (number 3) 64 (a ∷ []) End) 5 trap.OutOfBounds 2
   pub range_before_the_start : TrapsWithin (For i i i (below_0 1) (number 2) 64 (a ∷ []) End) 6 trap.OutOfBounds 2
-  -- too many turns come before a range outside an array
+  -- the trap for too many iterations precedes the trap for a range outside an array
   pub too_many_turns_first :
       TrapsWithin (For i i i (number 0) (number 2147483648) 64 (a ∷ []) End) 5 trap.TooManyTurns 2
   pub cut_past_the_end : TrapsWithin (Cut a (number 3) l r End) 4 trap.OutOfBounds 2

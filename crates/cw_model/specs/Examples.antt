@@ -1,4 +1,5 @@
--- Worked examples: what the programs report, trap with, cost and are refused for. Each line was worked out by hand.
+-- Worked examples: reports, traps and costs of programs, and the lines at which programs are rejected. Each line was
+-- worked out by hand.
 use Rattle.std.specs.Prelude.{◌≡◌, ℕ, zero, suc, ◌*◌, ◌^◌, ℤ, pos, List, [], ◌∷◌, ◌++◌, Some, None, flat_map}
 use Rattle.std.specs.Prelude.{replicate, codes}
 use Rattle.cw_model.specs.declared.limits.TheConstants.{MOST_SOURCE_BYTES, MOST_NAME_BYTES, MOST_NUMBER, MOST_LIMIT}
@@ -69,17 +70,17 @@ HasWork program args k = work_in (serial program args USUAL_LIMIT) ≡ k
     work_in (Ended v printed sums t) = work t
     work_in _ = 0
 
--- no stage refuses it
+-- every stage accepts it
 abbrev pub IsAccepted : Program → Type 0
 IsAccepted program =
     (limit_faults program ≡ []) × (type_faults program ≡ []) × (ownership_faults program ≡ [])
     × (loop_faults program ≡ []) × (program_faults program ≡ [])
 
--- within the limits its types are refused in these lines
+-- it exceeds no limit, and its types are rejected in these lines
 abbrev pub BreaksTypes : Program → List ℕ → Type 0
 BreaksTypes program faults = (limit_faults program ≡ []) × (type_faults program ≡ faults)
 
--- it is well typed, and its ownership is refused in these lines
+-- it is well typed, and its ownership is rejected in these lines
 abbrev pub BreaksOwnership : Program → List ℕ → Type 0
 BreaksOwnership program faults =
     (limit_faults program ≡ []) × (type_faults program ≡ []) × (ownership_faults program ≡ faults)
@@ -107,13 +108,13 @@ pub record CallExamples : Type 0 where
       ∷ codes "3,call,12,fib,1,21,17,114,61" ∷ [])
   pub division : Writes example.division_program (1 ∷ []) USUAL_LIMIT (codes "7" ∷ codes "return 0" ∷ [])
   pub division_scale : Scales example.division_program (1 ∷ []) USUAL_BURDEN (codes ",15,13,1.153,15007,0.000" ∷ [])
-  -- what the rest prints after a child's trap is not shown
+  -- the lines that the continuation prints after a child's trap are not shown
   pub division_by_0 : TrapsAt example.division_program (0 ∷ []) USUAL_LIMIT trap.DivisionByZero 1
   pub division_by_0_shows_nothing : Writes example.division_program (0 ∷ []) USUAL_LIMIT []
   pub division_by_0_at_7 : TrapsAt example.division_program (0 ∷ []) 7 trap.DivisionByZero 1
   pub division_by_0_at_6 : IsOver example.division_program (0 ∷ []) 6
   pub division_by_0_beside_forever : TrapsAt example.division_beside_forever (0 ∷ []) 1000000 trap.DivisionByZero 1
-  -- what was printed before the trap is shown
+  -- the lines printed before the trap are shown
   pub division_by_0_after_print : serial example.division_after_print (0 ∷ []) USUAL_LIMIT
       ≡ TrappedAt trap.DivisionByZero 1 (pos 1 ∷ [])
   pub division_by_0_after_print_shows : Writes example.division_after_print (0 ∷ []) USUAL_LIMIT (codes "1" ∷ [])
@@ -184,14 +185,14 @@ pub record ArrayExamples : Type 0 where
   pub squares_printed_scale : Scales (example.square_print_program 4) [] USUAL_BURDEN
       (codes ",136,86,1.581,15086,0.009" ∷ [])
   pub squares_past_the_end : TrapsAt (example.square_print_program 5) [] USUAL_LIMIT trap.OutOfBounds 1
-  -- the instruction that starts the loop traps, before any turn
+  -- the instruction that starts the loop traps, before any iteration
   pub squares_past_the_end_at_5 : TrapsAt (example.square_print_program 5) [] 5 trap.OutOfBounds 1
   pub squares_past_the_end_at_4 : IsOver (example.square_print_program 5) [] 4
   pub squares : Costs (example.square_program 4 0 4 3) [] 134 (codes "return 9" ∷ [])
   pub squares_work : HasWork (example.square_program 4 0 4 3) [] 134
   pub cut_work : HasWork (example.cut_program 3) [] 9
   pub fifth_square : TrapsAt (example.square_program 4 0 5 3) [] USUAL_LIMIT trap.OutOfBounds 1
-  -- an odd range: leaves of 2, 1 and 2 turns
+  -- an odd range: leaves of 2, 1 and 2 iterations
   pub five_squares : Costs (example.square_program 5 0 5 4) [] 192 (codes "return 16" ∷ [])
   pub squares_from_9 : Costs (example.square_program 4 9 4 3) [] 22 (codes "return 0" ∷ [])
   pub too_many_turns : TrapsAt (example.idle_loop (example.number 0) 2147483648) [] USUAL_LIMIT trap.TooManyTurns 1
@@ -208,7 +209,7 @@ pub record DeepExamples : Type 0 where
   pub too_deep : TrapsAt example.deep_program [] USUAL_LIMIT trap.TooDeep 1
   pub too_deep_at_59998 : TrapsAt example.deep_program [] 59998 trap.TooDeep 1
   pub over_at_59997 : IsOver example.deep_program [] 59997
-  -- the cheapest way to the greatest depth: each call costs one, and the next one traps
+  -- the cheapest way to the maximum depth: each call costs 1, and the next call traps
   pub too_deep_at_once : TrapsAt example.deepest_program [] 10000 trap.TooDeep 1
   pub too_deep_at_once_at_9999 : IsOver example.deepest_program [] 9999
   pub chain_too_deep : TrapsAt example.spawn_chain (9999 ∷ []) USUAL_LIMIT trap.TooDeep 1
@@ -221,7 +222,7 @@ pub record ChainExamples : Type 0 where
   pub chain_scale_without_burden : Scales example.spawn_chain (300 ∷ []) 0 (codes ",4512,4512,1.000,4512,1.000" ∷ [])
   pub longest_chain : Costs example.spawn_chain (9998 ∷ []) 149982 (codes "return 9998" ∷ [])
 
--- what is accepted, and the lines at which other programs are refused
+-- accepted programs, and the lines at which other programs are rejected
 pub record FaultExamples : Type 0 where
   pub first : IsAccepted example.first_program
   pub echo : IsAccepted example.echo_program
@@ -245,7 +246,7 @@ pub record FaultExamples : Type 0 where
   pub tie : IsAccepted example.tie_program
   pub spawn_chain : IsAccepted example.spawn_chain
   pub signs : IsAccepted (example.alone (example.give (example.signs 254) ∷ []))
-  -- a scope joins at its end, so that the second turn finds nothing taken
+  -- a scope joins at its end, so nothing is taken in the second iteration
   pub sync_in_while :
       IsAccepted (example.while_program (Declare example.y (example.number 0) ∷ [])
       (example.spawn_into example.y 1 example.f (example.number 1 ∷ []) ∷ Sync ∷ []))
@@ -255,7 +256,7 @@ pub record FaultExamples : Type 0 where
   pub early_read : BreaksOwnership example.early_read (1 ∷ [])
   pub early_print : BreaksOwnership example.early_print (1 ∷ [])
   pub outer_assigned : BreaksOwnership example.outer_program (1 ∷ [])
-  -- the second turn reads, or writes, what the first one took
+  -- the second iteration reads, or writes, a name that the first iteration took
   pub spawn_in_while : BreaksOwnership
       (example.while_program [] (example.spawn_into example.x 1 example.f (example.number 1 ∷ []) ∷ [])) (1 ∷ 1 ∷ [])
   pub spawn_of_another_in_while :
@@ -263,11 +264,11 @@ pub record FaultExamples : Type 0 where
       (example.spawn_into example.y 1 example.f (example.number 1 ∷ []) ∷ [])) (1 ∷ [])
   pub same_array_twice : BreaksOwnership example.same_array_twice (1 ∷ [])
   pub sync_in_cut : BreaksOwnership example.sync_in_cut (1 ∷ [])
-  -- a refusal names the least line
+  -- the reported line is the least line
   pub least_line : lowest None (3 ∷ 1 ∷ 2 ∷ []) ≡ Some 1
   pub no_line : lowest None [] ≡ None
 
--- the lines at which limits are passed
+-- the lines at which programs exceed limits
 pub record LimitExamples : Type 0 where
   pub most_brackets : token_faults 0 0 (replicate 64 (token kind.LeftParen)) ≡ []
   pub brackets : token_faults 0 0 (replicate 65 (token kind.LeftParen)) ≡ 1 ∷ []
@@ -309,7 +310,7 @@ pub record TreeExamples : Type 0 where
       × (serial example.print_program [] USUAL_LIMIT ≡ Ended value printed totals
       (Marked (Invocation 0) (Seq (Leaf 2) (Seq (Par (Marked (Invocation 1) (Leaf 3))
       (Seq (Leaf 2) (Par (Marked (Invocation 2) (Leaf 3)) (Leaf 2)))) (Leaf 3)))))
-  -- a plain call stands where it was made
+  -- a plain call is in series with the instructions around it
   pub call_between : serial
       (example.with_same (example.call 1 example.f (example.number 1 ∷ []) ∷ example.give (example.number 0) ∷ [])) []
       USUAL_LIMIT

@@ -11,47 +11,47 @@ ghost use Rattle.cw_model.specs.ExampleStatements.{EffectExamples, CostExamples,
 ghost use Rattle.cw_model.specs.ExampleRows.{RowExamples, TextExamples};
 ghost use Rattle.cw_model.specs.ExampleGains.{GainExamples};
 
-/// Calls, spawns, prints, sums, operators and regions: texts, costs, traps and limits.
+/// States worked examples of calls, spawns, prints, sums, operators and regions: texts, costs, traps and limits.
 pub fn calls_and_sums()
     ensures { CallExamples }
 {}
 
-/// Arrays, cuts and loops: texts, costs, traps and limits.
+/// States worked examples of arrays, cuts and loops: texts, costs, traps and limits.
 pub fn arrays_and_loops()
     ensures { ArrayExamples }
 {}
 
-/// Calls and signs far inside one another.
+/// States worked examples of deeply nested calls and signs.
 pub fn deep_calls()
     ensures { DeepExamples }
 {}
 
-/// A chain of calls, each spawned by the one before.
+/// States worked examples of a chain of calls, each spawned by the call before it.
 pub fn long_chains()
     ensures { ChainExamples }
 {}
 
-/// What is accepted, and the lines at which other programs are refused.
+/// States worked examples of accepted programs, and of rejected programs with their lines.
 pub fn refusals()
     ensures { FaultExamples }
 {}
 
-/// The lines at which limits are passed.
+/// States worked examples of programs that exceed a limit, with their lines.
 pub fn limits()
     ensures { LimitExamples }
 {}
 
-/// The strand trees of runs.
+/// States worked examples of the strand trees of runs.
 pub fn strand_trees()
     ensures { TreeExamples }
 {}
 
-/// Static sizes and counts of call statements.
+/// States worked examples of static sizes and of numbers of call statements.
 pub fn static_sizes()
     ensures { SizeExamples }
 {}
 
-/// Rules of names and types, each broken alone.
+/// States worked examples of the rules of names and types; each rejected program breaks one rule.
 pub fn names_and_types()
     ensures expressions { ExpressionTypeExamples }
     ensures writes { WriteTypeExamples }
@@ -61,14 +61,15 @@ pub fn names_and_types()
     ensures globals { GlobalTypeExamples }
 {}
 
-/// Rules of ownership, each broken alone.
+/// States worked examples of the rules of ownership; each rejected program breaks one rule.
 pub fn ownership()
     ensures taken { TakenExamples }
     ensures freed { FreedExamples }
     ensures loops { LoopOwnerExamples }
 {}
 
-/// Arrays that are read together: the rules, each broken alone, and runs.
+/// States worked examples of arrays that several calls read: the rules, where each rejected program breaks one, and
+/// runs.
 pub fn read_together()
     ensures types { ConstTypeExamples }
     ensures frozen { FrozenExamples }
@@ -76,26 +77,26 @@ pub fn read_together()
     ensures runs { ReadRunExamples }
 {}
 
-/// Reducers of both kinds: what they come to, and what they may be told.
+/// States worked examples of reducers of both kinds: their totals, and the values that may update them.
 pub fn reducers()
     ensures totals { TotalExamples }
     ensures told { ToldExamples }
 {}
 
-/// Limits and sizes, the last place within and the first past each.
+/// States worked examples of limits and sizes: the last value within each limit, and the first value beyond it.
 pub fn sizes()
     ensures tokens { TokenSizeExamples }
     ensures declarations { DeclarationSizeExamples }
     ensures instructions { InstructionSizeExamples }
 {}
 
-/// What expressions come to, at which cost, and where they trap.
+/// States worked examples of expressions: their values, their costs and their traps.
 pub fn values()
     ensures operators { OperatorExamples }
     ensures traps { TrapExamples }
 {}
 
-/// What statements do, cost and join, and what loops capture.
+/// States worked examples of statements: their effects, costs and joins, and the names that loops capture.
 pub fn statements()
     ensures effects { EffectExamples }
     ensures costs { CostExamples }
@@ -105,13 +106,13 @@ pub fn statements()
     ensures captures { CaptureExamples }
 {}
 
-/// Rows of tags and sites, and whole texts of reports.
+/// States worked examples of rows of tags and sites, and of complete reports.
 pub fn rows_and_texts()
     ensures rows { RowExamples }
     ensures texts { TextExamples }
 {}
 
-/// What functions would bring if they were free.
+/// States worked examples of the gains of functions: the spans if their instructions took no time.
 pub fn gains()
     ensures { GainExamples }
 {}

@@ -12,8 +12,8 @@ ghost use Rattle.cw_model.specs.Trees.{Tree, burdened_span, normal, span};
 ghost use Rattle.cw_model.specs.WhileLaw.{WhilesAreLeast};
 ghost use Rattle.cw_model.specs.WorkLaw.{CallsTakeTheirWork};
 
-/// States that the burdened span of a tree is the weight of a heaviest path, for each burden, and the span without a
-/// burden.
+/// States that, for each burden, the burdened span of a tree is the weight of a heaviest path; and that the span is
+/// the weight of a heaviest path without a burden.
 pub fn span_is_heaviest()
     ensures burdened { (burden : Burden) (t : Tree)
         → IsBurdenedSpan burden t (burdened_span burden t) }
@@ -39,14 +39,14 @@ pub fn sites_add_up()
     ensures { (count : ℕ) (t : Tree) → 0 < count → sites_below count t ≡ true → SitesAddUp count t }
 {}
 
-/// States that no burdened span becomes larger if sites cost nothing, for each burden (the span is one of them), and
-/// that the span falls by at most the own span of a function's sites if these sites cost nothing.
+/// States that, for each burden, the burdened span does not grow if sites cost nothing; the span is the case without a
+/// burden. If the sites of a function cost nothing, the span falls by at most the own span of these sites.
 pub fn freed_spans_are_bounded()
     ensures above { FreedIsNeverAbove }
     ensures below { FallsByOwnSpanAtMost }
 {}
 
-/// States that the tree is unchanged if no site costs nothing, and that the span is 0 if all sites cost nothing.
+/// States that the tree is unchanged if no site is zero-cost, and that the span is 0 if all sites are zero-cost.
 pub fn nothing_and_all_freed()
     ensures nothing { NothingFreedIsTheSame }
     ensures all { AllFreedLeavesNothing }

@@ -95,7 +95,8 @@ held_by u how (Some h) = Some (Held u how h)
 abbrev pub outside : Turn → Touch → Use → Reason
 outside t how u = if t.over u.slot then OtherElement u how t.variable t.head else OuterArray u how t.head
 
--- the reason if an array is indexed; an outer array may be indexed by the loop's variable if the loop is over it
+-- the reason against indexing an array, if there is one: an outer array may be indexed only by the loop's variable, and
+-- only if the loop is over it
 abbrev pub why_index : Option Turn → Touch → Use → Expr → Option Reason
 why_index None how u e = None
 why_index (Some t) how u e =
@@ -120,11 +121,11 @@ why_int taken how u = held_by u how (int_holder taken u.slot)
 abbrev pub why_taken : Taken → Use → Option Reason
 why_taken taken u = held_by u touch.Read (array_taker taken u.slot)
 
--- the reason if an array is read as a whole
+-- the reason against reading an array as a whole, if there is one
 abbrev pub why_lend : Option Turn → Taken → Use → Option Reason
 why_lend around taken u = option_or (why_taken taken u) (why_outer_array around touch.Read u)
 
--- the reason if an expression is read
+-- the reason against reading an expression, if there is one
 abbrev pub why_read : Option Turn → Taken → Expr → Option Reason
 why_read around taken (Number n) = None
 why_read around taken (Variable u) = why_int taken touch.Read u
@@ -135,32 +136,32 @@ why_read around taken (Negative e) = why_read around taken e
 why_read around taken (Not e) = why_read around taken e
 why_read around taken (Binary operator d e) = option_or (why_read around taken d) (why_read around taken e)
 
--- the reason if an integer is written
+-- the reason against writing an integer, if there is one
 abbrev pub why_write : Option Turn → Taken → Use → Option Reason
 why_write around taken u = option_or (why_int taken touch.Written u) (why_outer_int around u)
 
--- the reason if an array is given away, cut or named in over
+-- the reason against giving away or cutting an array, or naming it in `over`, if there is one
 abbrev pub why_whole : Option Turn → Taken → Touch → Use → Option Reason
 why_whole around taken how u =
     option_or (held_by u how (array_holder taken u.slot)) (why_outer_array around how u)
 
--- the reason if the integer that receives a result, if there is one, is written
+-- the reason against the target of a call, if there is one
 abbrev pub why_target : Option Turn → Taken → Option Use → Option Reason
 why_target around taken None = None
 why_target around taken (Some u) = why_write around taken u
 
--- the reason if an argument is read, given away or lent
+-- the reason against an argument, if there is one
 abbrev pub why_argument : Option Turn → Taken → Argument → Option Reason
 why_argument around taken (Int e) = why_read around taken e
 why_argument around taken (Array u) = why_whole around taken touch.Passed u
 why_argument around taken (Shared u) = why_lend around taken u
 
--- the reason of the first argument that breaks a rule
+-- the reason against the first argument that breaks a rule
 abbrev pub why_arguments : Option Turn → Taken → List Argument → Option Reason
 why_arguments around taken [] = None
 why_arguments around taken (e ∷ es) = option_or (why_argument around taken e) (why_arguments around taken es)
 
--- the reason if the expression of a return, if there is one, is read
+-- the reason against the expression of a return, if there is one
 abbrev pub why_return : Option Turn → Taken → Option Expr → Option Reason
 why_return around taken None = None
 why_return around taken (Some e) = why_read around taken e
@@ -180,7 +181,7 @@ why_read_too f given (Int e ∷ es) = why_read_too f given es
 why_read_too f given (Array u ∷ es) = why_read_too f given es
 why_read_too f given (Shared u ∷ es) = if given u.slot then Some (GivenAndRead u f) else why_read_too f given es
 
--- the reason of a call
+-- the reason against a call, if there is one
 abbrev pub why_call : Option Turn → Taken → Option Use → (callee : Listed) → List Argument → Option Reason
 why_call around taken target f es =
     option_or
@@ -193,13 +194,13 @@ why_over_twice seen [] = None
 why_over_twice seen (u ∷ us) =
     if seen u.slot then Some (OverTwice u) else why_over_twice (with_slot u.slot seen) us
 
--- the reason of the first of these arrays that must not be named in over
+-- the reason against the first of these arrays that must not be named in `over`
 abbrev pub why_over : Option Turn → Taken → List Use → Option Reason
 why_over around taken [] = None
 why_over around taken (u ∷ us) =
     option_or (why_whole around taken touch.NamedInOver u) (why_over around taken us)
 
--- the reason of the head of a loop; `inner` is the enclosing loop as the head sees it
+-- the reason against the head of a loop, if there is one; `inner` is the enclosing loop as the head sees it
 abbrev pub why_in_head : Option Turn → Taken → Head → Option Reason
 why_in_head inner taken head =
     option_or
@@ -207,16 +208,17 @@ why_in_head inner taken head =
     (why_over inner taken head.over))
     (why_over_twice no_slot head.over)
 
--- the reason of the head of a loop
+-- the reason against the head of a loop, if there is one
 abbrev pub why_head : Option Turn → Taken → Head → Option Reason
 why_head around taken head = why_in_head (option_map head_in around) taken head
 
--- the reason of a cut
+-- the reason against a cut, if there is one
 abbrev pub why_cut : Option Turn → Taken → Parts → Option Reason
 why_cut around taken parts =
     option_or (why_read around taken parts.at) (why_whole around taken touch.Cut parts.array)
 
--- the reason of a write to an element: first for the written array, then for the expressions that are read
+-- the reason against a write to an element, if there is one: first against the written array, then against the
+-- expressions that are read
 abbrev pub why_element : Option Turn → Taken → Use → (index value : Expr) → Option Reason
 why_element around taken u i e =
     option_or
@@ -264,7 +266,8 @@ abbrev pub left_reasons : Taken → Block → List (ℕ × Reason)
 left_reasons taken End = []
 left_reasons taken (Then line s b) = reasons_at line (why_left taken s) ++ left_reasons taken b
 
--- the lines of the declarations whose names are held at the end of a block that begins with these locals
+-- the lines of the declarations whose names are held at the end of a block that begins with these locals, with the
+-- reasons
 abbrev pub ending_reasons : Closing → (known : Row) → Taken → Block → List (ℕ × Reason)
 ending_reasons closing known taken b = left_reasons (at_end closing (taken_after_all known b taken)) b
 
@@ -299,7 +302,7 @@ abbrev mutual
       ++ reasons_within around known (seen_by known taken s) line s)
       ++ reasons_in around (known_after known s) (taken_after known s taken) b
 
--- the lines of a block that break a rule, including its declarations whose names are held at its end
+-- the lines of a block that break a rule, including its declarations whose names are held at its end, with the reasons
 abbrev pub block_reasons : Option Turn → (known : Row) → Taken → Closing → Block → List (ℕ × Reason)
 block_reasons around known taken closing b =
     reasons_in around known taken b ++ ending_reasons closing known taken b

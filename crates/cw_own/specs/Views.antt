@@ -190,55 +190,56 @@ abbrev pub reasons_among : Option code_loop.Loop → (known : code_row.Row) → 
 reasons_among around known taken lines =
     reasons_in (around_of around) (row_of known) (taken_of taken) (block_of lines)
 
--- the lines that break a rule in a block that joins no spawn at its end
+-- the lines that break a rule in a block that joins no spawn at its end, with the reasons
 abbrev pub reasons_leaving : Option code_loop.Loop → (known : code_row.Row) → code_taken.Taken → List code_line.Line →
     List (ℕ × Reason)
 reasons_leaving around known taken lines =
     block_reasons (around_of around) (row_of known) (taken_of taken) Leaves (block_of lines)
 
--- the lines that break a rule in a sync block
+-- the lines that break a rule in a sync block, with the reasons
 abbrev pub reasons_joining : Option code_loop.Loop → (known : code_row.Row) → code_taken.Taken → List code_line.Line →
     List (ℕ × Reason)
 reasons_joining around known taken lines =
     block_reasons (around_of around) (row_of known) (taken_of taken) Joins (block_of lines)
 
--- the lines that break a rule in the branches of a statement; only a loop needs the line of the statement
+-- the lines that break a rule in the branches of a statement, with the reasons; only a loop needs the line of the
+-- statement
 abbrev pub reasons_of_either : Option code_loop.Loop → (known : code_row.Row) → code_taken.Taken → code_stmt.Stmt →
     List (ℕ × Reason)
 reasons_of_either around known taken stmt =
     reasons_within (around_of around) (row_of known) (taken_of taken) 0 (stmt_of stmt)
 
--- the lines that break a rule in the inner blocks of a statement in this line
+-- the lines that break a rule in the inner blocks of a statement in this line, with the reasons
 abbrev pub reasons_inside : Option code_loop.Loop → (known : code_row.Row) → code_taken.Taken → (line : ℕ) →
     code_stmt.Stmt → List (ℕ × Reason)
 reasons_inside around known taken line stmt =
     reasons_within (around_of around) (row_of known) (taken_of taken) line (stmt_of stmt)
 
--- the lines that break a rule in an inner sync block
+-- the lines that break a rule in an inner sync block, with the reasons
 abbrev pub reasons_of_scope : Option code_loop.Loop → (known : code_row.Row) → code_taken.Taken →
     List code_line.Line → List (ℕ × Reason)
 reasons_of_scope around known taken lines =
     block_reasons (around_of around) (row_of known) (inside (taken_of taken)) Joins (block_of lines)
 
--- the lines that break a rule in the block of a loop with this head in this line
+-- the lines that break a rule in the block of a loop with this head in this line, with the reasons
 abbrev pub reasons_of_for : (known : code_row.Row) → code_taken.Taken → (line : ℕ) → code_head.Head →
     List code_line.Line → List (ℕ × Reason)
 reasons_of_for known taken line head lines =
     block_reasons (Some (turn_in line (head_of head) (row_of known)))
     (with_int (head_of head).variable.slot (row_of known)) (inside (taken_of taken)) Joins (block_of lines)
 
--- the lines that break a rule in the block of a cut
+-- the lines that break a rule in the block of a cut, with the reasons
 abbrev pub reasons_of_cut : Option code_loop.Loop → (known : code_row.Row) → code_taken.Taken → code_cut.Cut →
     List code_line.Line → List (ℕ × Reason)
 reasons_of_cut around known taken cut lines =
     block_reasons (around_of around) (with_parts (parts_of cut) (row_of known))
     (inside_cut (parts_of cut).array.slot (taken_of taken)) Joins (block_of lines)
 
--- the lines that break a rule in a function
+-- the lines that break a rule in a function, with the reasons
 abbrev pub reasons_of : code_function.Function → List (ℕ × Reason)
 reasons_of f = function_reasons (function_of f)
 
--- the lines that break a rule in all functions
+-- the lines of these functions that break a rule, with the reasons
 abbrev pub reasons_of_all : List code_function.Function → List (ℕ × Reason)
 reasons_of_all fs = flat_map function_reasons (map function_of fs)
 

@@ -29,11 +29,12 @@ use std::alloc::{AllocError, Global};
 ///
 /// # Errors
 ///
-/// Returns `Ownership` at the least line that breaks a rule of ownership: of a statement that touches a local that a
-/// spawn or a cut has taken, that changes an array that a spawn has frozen, that passes an array twice and not only
-/// to read it, or that uses an outer local of its loop other than to read it; or of a declaration whose name is still
-/// held at the end of its block. Returns `Memory` if there is no memory for a row of 112 bytes for each `while` of
-/// one function. Drops the tree in each of these cases.
+/// - `Ownership` at the least line that breaks a rule of ownership: a statement touches a local that a spawn or a cut
+///   has taken, changes an array that a spawn has frozen, passes an array twice and not only to read it, or uses an
+///   outer local of its loop other than to read it; or the name of a declaration is still held at the end of its block;
+/// - `Memory` if there is no memory for a row of 112 bytes for each `while` of one function.
+///
+/// Drops the tree in each of these cases.
 pub fn own(alloc: Global, typed: Typed) -> Result<Owned, Fault>
     ensures { MatchResult result (λ owned. owned.typed.tree ≡ typed.tree)
         (BreaksOwnership (program_of typed.tree)) }

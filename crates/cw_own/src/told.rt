@@ -93,7 +93,7 @@ pub struct Told<'a> {
 }
 
 impl<'a> Told<'a> {
-    /// Returns a value without lines that watches this local.
+    /// Returns a `Told` that holds no line and watches this local.
     pub fn new(local: Option<Local>) -> Told<'a>
         ensures { places_told result ≡ no_place }
     {

@@ -181,13 +181,13 @@ is_call [] = false
 is_call (t ∷ []) = false
 is_call (t ∷ u ∷ ts) = if is_mark mark.Name t.kind then is_mark mark.LeftParen u.kind else false
 
--- reads a statement after a name and "="
+-- reads the rest of a statement after a name and "="
 unfoldable pub assigned : List ℕ → ℕ → ℕ → Name → Reader (Stmt × ℕ)
 assigned text n site x ts =
     if_next (is_mark mark.Spawn) (λ _ us. call text n Spawned site (Some x) us)
     (λ us. if is_call us then call text n Plain site (Some x) us else ended text n site (λ e. tree.Assign x e) us) ts
 
--- reads a statement after a name and "["
+-- reads the rest of a statement after a name and "["
 unfoldable pub element_assigned : List ℕ → ℕ → ℕ → Name → Reader (Stmt × ℕ)
 element_assigned text n site x ts =
     expr text n ts >>= λ i. marked mark.RightBracket i.1 >>= λ u. marked mark.Assign u.1 >>= λ v. ended text n site
@@ -215,17 +215,17 @@ declared_as text n site x u kind.LeftBracket ts =
     ((tree.DeclareArray x e.0, site), w.1)
 declared_as text n site x u _ ts = Err (length (u ∷ ts))
 
--- reads a statement after "int"
+-- reads the rest of a statement after "int"
 unfoldable pub declared : List ℕ → ℕ → ℕ → Reader (Stmt × ℕ)
 declared text n site ts = marked mark.Name ts >>= λ x. by_first (declared_as text n site (name_of text x.0)) x.1
 
--- reads a statement after "return"
+-- reads the rest of a statement after "return"
 unfoldable pub returned : List ℕ → ℕ → ℕ → Reader (Stmt × ℕ)
 returned text n site ts =
     if_next (is_mark mark.Semicolon) (λ _ us. Ok ((tree.Return None, site), us))
     (ended text n site (λ e. tree.Return (Some e))) ts
 
--- reads a statement after "print"
+-- reads the rest of a statement after "print"
 unfoldable pub printed : List ℕ → ℕ → ℕ → Reader (Stmt × ℕ)
 printed text n site ts =
     marked mark.LeftParen ts >>= λ u. expr text n u.1 >>= λ e. marked mark.RightParen e.1 >>= λ v. marked mark.Semicolon

@@ -70,7 +70,7 @@ fn is_call(tokens: &[Token]) -> bool
     }
 }
 
-// Parses a statement after a name and `=`.
+// Parses the rest of a statement after a name and `=`.
 #[tactic(auto, unfolding(crate::specs::Parts::assigned))]
 fn assigned<'a>(
     reading: Reading<'_>,
@@ -94,7 +94,7 @@ fn assigned<'a>(
     Ok(((Stmt::Assign(target, value), site), rest))
 }
 
-// Parses a statement after a name and `[`.
+// Parses the rest of a statement after a name and `[`.
 #[tactic(auto, unfolding(crate::specs::Parts::element_assigned))]
 fn element_assigned<'a>(
     reading: Reading<'_>,
@@ -223,7 +223,7 @@ fn declared_after<'a>(
     }
 }
 
-// Parses a statement after `int`.
+// Parses the rest of a statement after `int`.
 #[tactic(auto, unfolding(crate::specs::Parts::declared))]
 fn declared<'a>(
     reading: Reading<'_>,
@@ -242,7 +242,7 @@ fn declared<'a>(
     }
 }
 
-// Parses a statement after `return`.
+// Parses the rest of a statement after `return`.
 #[tactic(auto, unfolding(crate::specs::Parts::returned))]
 fn returned<'a>(
     reading: Reading<'_>,
@@ -261,7 +261,7 @@ fn returned<'a>(
     Ok(((Stmt::Return(Some(value)), site), rest))
 }
 
-// Parses a statement after `print`.
+// Parses the rest of a statement after `print`.
 #[tactic(auto, unfolding(crate::specs::Parts::printed))]
 fn printed<'a>(
     reading: Reading<'_>,

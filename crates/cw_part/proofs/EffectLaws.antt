@@ -11,7 +11,8 @@ use Rattle.cw_model.specs.declared.total.Total.{Total}
 use Rattle.cw_model.specs.declared.trap.Trap.{Trap}
 use Rattle.cw_model.specs.Syntax.{Name}
 use Rattle.cw_model.specs.Names.{same_name}
-use Rattle.cw_model.specs.Trees.{tree_of}
+use Rattle.cw_model.specs.declared.burden.Burden.{Burden}
+use Rattle.cw_model.specs.Trees.{Event, tree_of}
 use Rattle.cw_model.specs.Answers.{or_greater, sum_to, greatest_to, total_to}
 use Rattle.cw_model.specs.Outcome.{Trace}
 use Rattle.cw_code.specs.declared.code.Reducer.{Reducer}
@@ -19,6 +20,7 @@ use Rattle.cw_code.specs.Code.{Code}
 use Rattle.cw_code.specs.Run.{State}
 use Rattle.cw_measure.specs.Measured.{Measured, measure_of, most, most_burdened, MeasuresReadTrees, ReadsTree}
 use Rattle.cw_measure.specs.Measured as measured
+use Rattle.cw_measure.specs.Counters.{up_to, onward, heaviest}
 use Rattle.cw_reduce.specs.Words.{Word, plus, word_of}
 use Rattle.cw_reduce.specs.Held.{Held, Summed, Raised, held, held_joined}
 use Rattle.cw_reduce.specs.Greatest.{greater}
@@ -33,7 +35,7 @@ use Rattle.cw_jobs.specs.lemmas.Totals.{sum_append}
 use Rattle.cw_part.specs.declared.read.Read.{Read}
 use Rattle.cw_part.specs.Parts.{Came, Completed, Trapped, Over, Memory, followed}
 use Rattle.cw_part.specs.Read.{read_joined, readings}
-use Rattle.cw_part.specs.Effects.{EffectsShowViews, RunsReadAsMeasures, HasRead, IsOutcome, EffectsFollow}
+use Rattle.cw_part.specs.Effects.{EffectsShowViews, RunsReadAsMeasures, totals_after, HasRead, HasSpans, IsOutcome, EffectsFollow}
 use Rattle.cw_part.proofs.ElisionLaws.{NormalsReadTheSame, reads_normal}
 
 greater_after : (v : ℤ) (x y : Option ℤ) → greater (Some (or_greater v x)) y ≡ Some (or_greater v (greater x y))
@@ -123,52 +125,85 @@ lines_both a b xs ys e f = ap (λ (l : List ℤ). l ++ b.views.lines) e ∙ ap (
 work_both : (a b : Read) (m n : ℕ) → a.measure.work ≡ min most m → b.measure.work ≡ min most n → (read_joined a b).measure.work ≡ min most (m + n)
 work_both a b m n e f = omega arith
 
-read_both : (s : State) (count : ℕ) (frame : Standing) (t : Trace) (cost : ℕ) (a b : Read) → HasRead a s.trace count
-    → HasRead b t cost → HasRead (read_joined a b) (resumed s frame t).trace (count + cost)
-read_both s count frame t cost a b h i = record { lines = lines_both a b s.trace.lines t.lines h.lines i.lines; work = work_both a b count cost h.work i.work }
+module _ (held_law : SumsHoldIntegers) (law : MeasuresReadTrees) (code : Code) (burden : Burden) where
+  totals_both : (t u : List (Name × ℤ)) → totals_after code (t ++ u) ≡ totals_joined (totals_after code t) (totals_after code u)
+  totals_both t u = all_both held_law code.reducers t u
 
-stops_so : (s : State) (count : ℕ) (e : Effect) (a : Read) (c : Came Read) → HasStopped e → HasRead a s.trace count
-    → IsOutcome e c → IsOutcome (stopped_after s count e) (followed readings (Completed a) c)
-stops_so s count (Ended value arrays t cost) a c stopped h i = absurd stopped
-stops_so s count (Joined frame t cost) a c stopped h i = absurd stopped
-stops_so s count (TrapIn trap line lines cost) a (Trapped trap' line' b) stopped h i =
-    (i.0, i.1, lines_both a b s.trace.lines lines h.lines i.2, work_both a b count cost h.work i.3)
-stops_so s count OverLimit a Over stopped h i = tt
-stops_so s count jobs.Memory a Memory stopped h i = tt
-stops_so s count _ a _ stopped h i = absurd i
+  measured_both : (es fs : List Event) → measured.joined (measure_of burden es) (measure_of burden fs) ≡ measure_of burden (es ++ fs)
+  measured_both es fs = sym (law.pieces burden es fs)
 
-behind_trap : (e rest : Effect) (trap : Trap) (line : ℕ) (a : Read) (d : Came Read) → IsOutcome e (Trapped trap line a)
-    → IsOutcome rest d → IsOutcome (dropped e rest) (followed readings (Trapped trap line a) d)
-behind_trap e (Ended value arrays t cost) trap line a (Completed b) h i = h
-behind_trap e (Joined frame t cost) trap line a (Completed b) h i = h
-behind_trap e (TrapIn trap' line' lines cost) trap line a (Trapped trap'' line'' b) h i = h
-behind_trap e OverLimit trap line a Over h i = h
-behind_trap e jobs.Memory trap line a Memory h i = tt
-behind_trap e _ trap line a _ h i = absurd i
+  plain_both : (m n : Measured) (es fs : List Event) → m.plain ≡ (measure_of burden es).plain → n.plain ≡ (measure_of burden fs).plain
+      → (measured.joined m n).plain ≡ (measure_of burden (es ++ fs)).plain
+  plain_both m n es fs h i =
+      ap (λ c. onward (up_to most) c n.plain) h ∙ ap (onward (up_to most) (measure_of burden es).plain) i ∙ ap (λ x. x.plain) (measured_both es fs)
 
-behind_limit : (rest : Effect) (d : Came Read) → IsOutcome rest d → IsOutcome (dropped OverLimit rest) (followed readings Over d)
-behind_limit (Ended value arrays t cost) (Completed b) i = tt
-behind_limit (Joined frame t cost) (Completed b) i = tt
-behind_limit (TrapIn trap line lines cost) (Trapped trap' line' b) i = tt
-behind_limit OverLimit Over i = tt
-behind_limit jobs.Memory Memory i = tt
-behind_limit _ _ i = absurd i
+  burdened_both : (m n : Measured) (es fs : List Event) → m.burdened ≡ (measure_of burden es).burdened → n.burdened ≡ (measure_of burden fs).burdened
+      → (measured.joined m n).burdened ≡ (measure_of burden (es ++ fs)).burdened
+  burdened_both m n es fs h i =
+      ap (λ c. onward (up_to most_burdened) c n.burdened) h ∙ ap (onward (up_to most_burdened) (measure_of burden es).burdened) i ∙ ap (λ x. x.burdened) (measured_both es fs)
 
-behind_memory : (rest : Effect) → IsOutcome (dropped jobs.Memory rest) Memory
-behind_memory (Ended value arrays t cost) = tt
-behind_memory (Joined frame t cost) = tt
-behind_memory (TrapIn trap line lines cost) = tt
-behind_memory OverLimit = tt
-behind_memory jobs.Memory = tt
+  read_both : (s : State) (count : ℕ) (frame : Standing) (t : Trace) (cost : ℕ) (a b : Read) → HasRead code burden a s.trace count
+      → HasRead code burden b t cost → HasRead code burden (read_joined a b) (resumed s frame t).trace (count + cost)
+  read_both s count frame t cost a b h i = record {
+    lines = lines_both a b s.trace.lines t.lines h.lines i.lines;
+    totals = ap (λ x. totals_joined x b.views.totals) h.totals ∙ ap (totals_joined (totals_after code s.trace.updates)) i.totals
+        ∙ sym (totals_both s.trace.updates t.updates);
+    work = work_both a b count cost h.work i.work;
+    plain = plain_both a.measure b.measure s.trace.events t.events h.plain i.plain;
+    burdened = burdened_both a.measure b.measure s.trace.events t.events h.burdened i.burdened;
+  }
 
-drops_so : (e rest : Effect) (c d : Came Read) → HasStopped e → IsOutcome e c → IsOutcome rest d
-    → IsOutcome (dropped e rest) (followed readings c d)
-drops_so (Ended value arrays t cost) rest c d stopped h i = absurd stopped
-drops_so (Joined frame t cost) rest c d stopped h i = absurd stopped
-drops_so (TrapIn trap line lines cost) rest (Trapped trap' line' a) d stopped h i = behind_trap (TrapIn trap line lines cost) rest trap' line' a d h i
-drops_so OverLimit rest Over d stopped h i = behind_limit rest d i
-drops_so jobs.Memory rest Memory d stopped h i = behind_memory rest
-drops_so _ rest _ d stopped h i = absurd h
+  read_spans : (a : Read) (t : Trace) (cost : ℕ) → HasRead code burden a t cost → HasSpans burden a.measure (tree_of t.events)
+  read_spans a t cost h =
+      let reads = law.reads burden t.events in
+      record {
+        span = ap (heaviest (up_to most)) h.plain ∙ reads.span_is;
+        burdened = ap (heaviest (up_to most_burdened)) h.burdened ∙ reads.burdened_is;
+      }
 
-pub effects_follow : EffectsFollow
-effects_follow = record { goes_on = read_both; stops = stops_so; drops = drops_so }
+module _ (code : Code) (burden : Burden) where
+  stops_so : (s : State) (count : ℕ) (e : Effect) (a : Read) (c : Came Read) → HasStopped e → HasRead code burden a s.trace count
+      → IsOutcome code burden e c → IsOutcome code burden (stopped_after s count e) (followed readings (Completed a) c)
+  stops_so s count (Ended value arrays t cost) a c stopped h i = absurd stopped
+  stops_so s count (Joined frame t cost) a c stopped h i = absurd stopped
+  stops_so s count (TrapIn trap line lines cost) a (Trapped trap' line' b) stopped h i =
+      (i.0, i.1, lines_both a b s.trace.lines lines h.lines i.2, work_both a b count cost h.work i.3)
+  stops_so s count OverLimit a Over stopped h i = tt
+  stops_so s count jobs.Memory a Memory stopped h i = tt
+  stops_so s count _ a _ stopped h i = absurd i
+
+  behind_trap : (e rest : Effect) (trap : Trap) (line : ℕ) (a : Read) (d : Came Read) → IsOutcome code burden e (Trapped trap line a)
+      → IsOutcome code burden rest d → IsOutcome code burden (dropped e rest) (followed readings (Trapped trap line a) d)
+  behind_trap e (Ended value arrays t cost) trap line a (Completed b) h i = h
+  behind_trap e (Joined frame t cost) trap line a (Completed b) h i = h
+  behind_trap e (TrapIn trap' line' lines cost) trap line a (Trapped trap'' line'' b) h i = h
+  behind_trap e OverLimit trap line a Over h i = h
+  behind_trap e jobs.Memory trap line a Memory h i = tt
+  behind_trap e _ trap line a _ h i = absurd i
+
+  behind_limit : (rest : Effect) (d : Came Read) → IsOutcome code burden rest d → IsOutcome code burden (dropped OverLimit rest) (followed readings Over d)
+  behind_limit (Ended value arrays t cost) (Completed b) i = tt
+  behind_limit (Joined frame t cost) (Completed b) i = tt
+  behind_limit (TrapIn trap line lines cost) (Trapped trap' line' b) i = tt
+  behind_limit OverLimit Over i = tt
+  behind_limit jobs.Memory Memory i = tt
+  behind_limit _ _ i = absurd i
+
+  behind_memory : (rest : Effect) → IsOutcome code burden (dropped jobs.Memory rest) Memory
+  behind_memory (Ended value arrays t cost) = tt
+  behind_memory (Joined frame t cost) = tt
+  behind_memory (TrapIn trap line lines cost) = tt
+  behind_memory OverLimit = tt
+  behind_memory jobs.Memory = tt
+
+  drops_so : (e rest : Effect) (c d : Came Read) → HasStopped e → IsOutcome code burden e c → IsOutcome code burden rest d
+      → IsOutcome code burden (dropped e rest) (followed readings c d)
+  drops_so (Ended value arrays t cost) rest c d stopped h i = absurd stopped
+  drops_so (Joined frame t cost) rest c d stopped h i = absurd stopped
+  drops_so (TrapIn trap line lines cost) rest (Trapped trap' line' a) d stopped h i = behind_trap (TrapIn trap line lines cost) rest trap' line' a d h i
+  drops_so OverLimit rest Over d stopped h i = behind_limit rest d i
+  drops_so jobs.Memory rest Memory d stopped h i = behind_memory rest
+  drops_so _ rest _ d stopped h i = absurd h
+
+pub effects_follow : SumsHoldIntegers → MeasuresReadTrees → EffectsFollow
+effects_follow held_law law = record { goes_on = read_both held_law law; stops = stops_so; drops = drops_so; spans = read_spans held_law law }

@@ -1,4 +1,4 @@
--- The part of a child, or of a call, is above a limit where the child or the call is.
+-- The part of a child, or of a call, is above a limit if the child or the call is.
 use Rattle.std.specs.Prelude.{◌≡◌, ℕ, nat_lt, refl}
 use Rattle.std.proofs.Common.{ap, arith}
 use Rattle.cw_model.specs.declared.burden.Burden.{Burden}

@@ -1,4 +1,4 @@
--- The serial elision of a program as a run of a frame, and what its joined parts tell of the serial answer.
+-- The serial elision of a program as a run of a frame, and the serial answer by its joined parts.
 use Rattle.std.specs.Prelude.{◌≡◌, ℕ, suc, ℤ, ◌<◌, ◌≤◌, ◌^◌, ◌==◌, nat_lt, min, if◌then◌else◌, List, [], ◌∷◌, map, ◌⊎◌}
 use Rattle.std.specs.Int.{int_wrap, w128}
 use Rattle.std.specs.Int.RustNames.{FitsSigned}
@@ -24,14 +24,13 @@ use Rattle.cw_part.specs.RunParts.{RunPart}
 use Rattle.cw_part.specs.Runs.{Run, Numbering, serial, told, IsJoinedOf}
 use Rattle.cw_part.specs.PieceRuns.{OfCall, Exit, IsRunOf, HasRun, outcome_with}
 
--- main on its arguments, at depth 1, with no more calls inside one another than the limit allows
+-- main on its arguments, at depth 1, with no more nested calls than the limit allows
 abbrev pub elision : Program → (args : List ℤ) → (limit : ℕ) → Piece Returned
 elision program args limit =
     let main = function_named main_name program.functions in
     call (suc limit) 0 program.functions Deeper main (main_frame main.params args no_frame) main.line
 
--- what is read of a part tells an end: the printed lines, the totals of what each reducer was told, and the readings
--- of the tree
+-- a part represents an end: the printed lines, the totals of the reducers, and the readings of the tree
 pub record TellsEnd (burden : Burden) (numbering : Numbering) (program : Program) (args : List ℤ) (limit : ℕ)
     (lines : List ℤ) (totals : List Total) (tree : Tree) (a : Read) : Type 0 where
   pub returned : Returned
@@ -43,7 +42,7 @@ pub record TellsEnd (burden : Burden) (numbering : Numbering) (program : Program
   pub kept : (reducer : ℕ) → held_of a.views.totals reducer ≡ told numbering reducer trace.updates
   pub measured : ReadsTree burden a.measure tree
 
--- and a trap: the lines printed before it, and its cost, which is the least limit that it comes within
+-- and a trap: the lines printed before it, and its cost, which is the least limit within which it occurs
 pub record TellsStop (program : Program) (args : List ℤ) (limit : ℕ) (trap : Trap) (line : ℕ) (lines : List ℤ)
     (a : Read) : Type 0 where
   pub printed : a.views.lines ≡ lines
@@ -52,7 +51,7 @@ pub record TellsStop (program : Program) (args : List ℤ) (limit : ℕ) (trap :
   pub comes : (left : ℕ) → left ≤ limit
       → serial_answer program args left ≡ (if nat_lt left cost then OverLimit else TrappedAt trap line lines)
 
--- how a part came out tells an answer of a program within a limit
+-- the outcome of a part represents an answer of a program within a limit
 pub data TellsAnswer (burden : Burden) (numbering : Numbering) (program : Program) (args : List ℤ) (limit : ℕ) : Answer
     → Came Read → Type 0 where
   EndedSo : (value : ℤ) (lines : List ℤ) (totals : List Total) (tree : Tree) (a : Read)
@@ -73,9 +72,8 @@ RunGivesTheAnswers =
     → IsRunOf OfCall limit (elision program args limit) run exit → left ≤ limit
     → serial_answer program args left ≡ answer_of program.reducers (outcome_with OfCall left (serial left run) exit)
 
--- however that run is cut at its spawns, and whatever each piece met: the joined part tells the serial answer within
--- the limit, or
--- memory was refused
+-- cut that run at its spawns in any way, with any outcome of each piece: the joined part represents the serial answer
+-- within the limit, or memory was refused
 abbrev pub PiecesAreTheElision : Type 0
 PiecesAreTheElision =
     (burden : Burden) (numbering : Numbering) (program : Program) (args : List ℤ) (limit : ℕ)
@@ -86,17 +84,17 @@ PiecesAreTheElision =
     × ((p.came ≡ Memory)
     ⊎ TellsAnswer burden numbering program args limit (serial_answer program args limit) p.came)
 
--- each value that a reducer was told fits 128 bits
+-- each value of a reducer fits 128 bits
 abbrev pub AllFit : List (Name × ℤ) → Type 0
 AllFit [] = Unit {0}
 AllFit (update ∷ more) = FitsSigned w128 update.1 × AllFit more
 
--- a total as far as it fits 128 bits
+-- a total, wrapped to 128 bits
 abbrev pub wrapped : Total → Total
 wrapped (total.Sum v) = total.Sum (int_wrap w128 v)
 wrapped (total.Max v) = total.Max v
 
--- where the number of a reducer is that of no other name, what is held of it reads as its total, as far as a sum fits
+-- if no other name has the number of a reducer, what is held of the reducer reads as its total, as far as a sum fits
 -- 128 bits
 abbrev pub UpdatesAreTotals : Type 0
 UpdatesAreTotals =

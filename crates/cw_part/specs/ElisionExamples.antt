@@ -34,6 +34,6 @@ pub record ElisionExamples : Type 0 where
   -- a print, and then a spawned child that divides by 0: nothing comes after it
   pub trap : Elides example.division_after_print (pos 0 ∷ []) 100
       (one (one (print (pos 1) (one (one (child 1 (one (one (Traps trap.DivisionByZero 1 (shows (works 3))))) Ends))))))
-  -- the same within a limit that the child's second instruction passes
+  -- the same program within a limit that the child's second instruction exceeds
   pub limit : Elides example.division_after_print (pos 0 ∷ []) 5
       (one (one (print (pos 1) (one (one (child 1 (one (one Ends)) Ends))))))

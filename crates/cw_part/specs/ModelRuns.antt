@@ -1,4 +1,4 @@
--- The run of a frame as a piece of the model, which tells what any piece of a run comes to within a budget.
+-- The run of a frame as a piece of the model, which gives the outcome of any piece of a run within a budget.
 use Rattle.std.specs.Prelude.{◌≡◌, ℕ, ◌-◌, nat_lt, if◌then◌else◌}
 use Rattle.cw_model.specs.Outcome.{Trace, Outcome, Piece, ◌>>=◌, gives, as_one}
 use Rattle.cw_model.specs.Outcome as model
@@ -20,7 +20,7 @@ piece_of (Inside spawned mark inner rest) = do
   _ ← as_one (λ tree. part_of spawned (marked mark tree)) (piece_of inner)
   piece_of rest
 
--- how a run came out, as the model has it: with what is left of the budget, and of a trap the lines alone
+-- the outcome of a run as the model has it: with what is left of the budget, and of a trap only the lines
 abbrev pub outcome_of : (left : ℕ) → Came Trace → Outcome (Unit {0})
 outcome_of left (Completed t) = model.Done tt (left - cost t) t
 outcome_of left (Trapped trap line t) = model.Trapped trap line t.lines

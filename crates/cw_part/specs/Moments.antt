@@ -1,4 +1,4 @@
--- What the tables of a run so far say of it while parts are open, as if these ended there.
+-- The tables of a run so far, while parts are open, as if these ended now.
 use Rattle.std.specs.Prelude.{◌≡◌, ℕ, ◌+◌, ◌-◌, ◌==◌, ◌<◌, if◌then◌else◌, List, [], ◌∷◌, ◌++◌}
 use Rattle.cw_model.specs.declared.burden.Burden.{Burden}
 use Rattle.cw_model.specs.Trees.{Tree, Event, Join, tree_of}
@@ -13,7 +13,7 @@ use Rattle.cw_regions.specs.declared.table.RegionTable.{RegionTable}
 use Rattle.cw_regions.specs.Regions.{Readings, Tags, TellsRegions}
 use Rattle.cw_regions.specs.RegionRows as regions
 
--- the events of the outermost block, if each open part joined and ended where it stands, the innermost first
+-- the events of the outermost block, if each open part joined and ended now, the innermost first
 abbrev pub ended_here : List Open → List Event → List Event
 ended_here [] es = es
 ended_here (o ∷ os) es = ended_here os (closed o (es ++ Join ∷ []))
@@ -22,24 +22,24 @@ ended_here (o ∷ os) es = ended_here os (closed o (es ++ Join ∷ []))
 abbrev pub tree_here : List Open → List Event → Tree
 tree_here os es = tree_of (ended_here os es)
 
--- what is summed over outermost parts, with what the outermost open one has come to, at this reading
+-- the sum over outermost parts, including the outermost open one, at this reading
 abbrev pub summed_here : (reading : ℕ) → Tally → ℕ
 summed_here reading t = if t.active == 0 then t.sum else t.sum + (reading - t.began)
 
--- the calls, the own work and the work of a site, as its row has them while parts are open
+-- the calls, the own work and the work of a site, by its row, while parts are open
 pub record IsRowHere (now : ℕ) (row : Row) (of : SiteRow) : Type 0 where
   pub calls : row.calls ≡ of.calls
   pub own_work : row.own ≡ of.own_work
   pub work : summed_here now (sites.work_tally row) ≡ of.work
 
--- at each moment at which a table tells of a run so far, it has these of the run as if its open parts ended there
+-- whenever a table represents a run so far, its rows are those of the run as if its open parts ended now
 abbrev pub SitesAreRead : Type 0
 SitesAreRead =
     (busy : ℕ → ℕ) (os : List Open) (es : List Event) (table : SiteTable) (site : ℕ) → busy site ≡ 0
     → Tells 0 busy os es table
     → IsRowHere table.noted (sites.row_of table.rows site) (site_row site (tree_here os es))
 
--- and so with the work of a tag
+-- and so is the work of a tag
 abbrev pub RegionsAreRead : Type 0
 RegionsAreRead =
     (burden : Burden) (along : Readings burden) (tags : Tags) (busy : ℕ → ℕ) (os : List Open) (es : List Event)

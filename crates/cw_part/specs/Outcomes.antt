@@ -1,4 +1,4 @@
--- How a part of a run came out, as it is stored.
+-- The outcome of a part of a run, as it is stored.
 use Rattle.cw_part.specs.declared.read.Read.{Read}
 use Rattle.cw_part.specs.declared.outcome.Outcome.{Outcome}
 use Rattle.cw_part.specs.declared.outcome.Outcome.TheVariants as stored
@@ -11,6 +11,6 @@ came_of (stored.Trapped trap line read) = Trapped trap line read
 came_of stored.Over = Over
 came_of stored.Memory = Memory
 
--- how a part came out, and then what came of the next one
+-- the outcome of a part, and then that of the next one
 abbrev pub came_with : Came Read → (next : Outcome) → Came Read
 came_with first next = followed readings first (came_of next)

@@ -1,4 +1,4 @@
--- What is tested against a limit is not above it.
+-- What passed a test against a limit is not above it.
 use Rattle.std.specs.Prelude.{◌≡◌, ℕ, nat_lt, min, Bool, true, false, refl}
 use Rattle.std.proofs.Common.{arith}
 use Rattle.std.proofs.lemmas.Bool.Decides.{nat_tests}

@@ -1,4 +1,4 @@
--- Parts make a monoid, whatever their readings are.
+-- Parts form a monoid, for any readings.
 use Rattle.std.specs.Prelude.{◌≡◌, ℕ, ◌≤◌, ◌<◌, nat_lt, min, Bool, true, false, refl}
 use Rattle.std.proofs.Common.{sym, ◌∙◌, ap, arith}
 use Rattle.cw_facts.specs.Tests.{below, lt_of, not_below}
@@ -54,7 +54,7 @@ followed-assoc R L Over Over Memory = refl
 followed-assoc R L Over Memory z = refl
 followed-assoc R L Memory y z = refl
 
--- a test of the first, or of the second, before both are tested changes nothing
+-- testing the first, or the second, before both are tested changes nothing
 over_first : {M : Type 0} (R : Readings M) (L : IsLawful M R) (n : ℕ) (a : M) (y : Came M) → n < R.work a
     → within R n (followed R Over y) ≡ within R n (followed R (Completed a) y)
 over_first R L n a (Completed b) h =

@@ -1,15 +1,15 @@
--- How a part of a run came out, and parts that are joined in serial order.
+-- The outcome of a part of a run, and parts that are joined in serial order.
 use Rattle.std.specs.Prelude.{◌≡◌, ℕ, ◌≤◌, nat_lt, min, Bool, true, false}
 use Rattle.cw_model.specs.declared.limits.TheConstants.{MOST_LIMIT}
 use Rattle.cw_model.specs.declared.trap.Trap.{Trap}
 
--- what is read of a part: of nothing, of a part and the next one, and the work of it
+-- the readings of a part: of nothing, of a part and the next one, and the work of a part
 pub record Readings (M : Type 0) : Type 0 where
   pub none : M
   pub joined : M → M → M
   pub work : M → ℕ
 
--- readings make a monoid, and the work of a whole is at least that of each part
+-- readings form a monoid, and the work of a whole is at least that of each part
 pub record IsLawful (M : Type 0) (R : Readings M) : Type 0 where
   pub none_first : (a : M) → R.joined R.none a ≡ a
   pub none_last : (a : M) → R.joined a R.none ≡ a
@@ -18,16 +18,16 @@ pub record IsLawful (M : Type 0) (R : Readings M) : Type 0 where
   pub above_first : (a b : M) → R.work a ≤ R.work (R.joined a b)
   pub above_second : (a b : M) → R.work b ≤ R.work (R.joined a b)
 
--- a part ran to its end; or it trapped, in a line, and this is what was read up to and with the trapping instruction;
--- or its work passed the limit, or memory was refused: then nothing of it is left
+-- a part ran to its end; or it trapped, in a line, with readings that include the trapping instruction; or its work
+-- exceeded the limit, or memory was refused, and nothing of it is left
 pub data Came (M : Type 0) : Type 0 where
   Completed : M → Came M
   Trapped : (trap : Trap) (line : ℕ) → M → Came M
   Over : Came M
   Memory : Came M
 
--- a part and the next one: what follows a trap or an end at the limit is dropped; memory that was refused on either
--- side is so for both
+-- a part and the next one: after a trap or an end at the limit nothing counts; memory that was refused to one is
+-- refused to both together
 abbrev pub followed : {M : Type 0} → Readings M → Came M → Came M → Came M
 followed R (Completed a) (Completed b) = Completed (R.joined a b)
 followed R (Completed a) (Trapped trap line b) = Trapped trap line (R.joined a b)
@@ -43,14 +43,14 @@ followed R Over Over = Over
 followed R Over Memory = Memory
 followed R Memory y = Memory
 
--- something else is read of a part
+-- the outcome with other readings
 abbrev pub seen : {M N : Type 0} → (M → N) → Came M → Came N
 seen f (Completed a) = Completed (f a)
 seen f (Trapped trap line a) = Trapped trap line (f a)
 seen f Over = Over
 seen f Memory = Memory
 
--- whether it ran to its end, so that what follows it counts
+-- whether it ran to its end, so that the next part counts
 abbrev pub has_run : {M : Type 0} → Came M → Bool
 has_run (Completed a) = true
 has_run (Trapped trap line a) = false
@@ -84,7 +84,7 @@ pub record Part (M : Type 0) : Type 0 where
   pub limit : ℕ
   pub came : Came M
 
--- the lesser limit is that of both, also where one of them is dropped
+-- the smaller limit is the limit of both, also if one of them is dropped
 abbrev pub part_joined : {M : Type 0} → Readings M → Part M → Part M → Part M
 part_joined R p q =
     record { limit = min p.limit q.limit; came = within R (min p.limit q.limit) (followed R p.came q.came) }
@@ -97,7 +97,7 @@ pub record IsPart (M : Type 0) (R : Readings M) (p : Part M) : Type 0 where
   pub limited : p.limit ≤ MOST_LIMIT
   pub tested : within R p.limit p.came ≡ p.came
 
--- parts make a monoid: whatever the readings, in any grouping
+-- parts form a monoid, for any readings and in any grouping
 pub record PartsJoin (M : Type 0) (R : Readings M) : Type 0 where
   pub first : (p : Part M) → IsPart M R p → part_joined R (nothing_ran R) p ≡ p
   pub last : (p : Part M) → IsPart M R p → part_joined R p (nothing_ran R) ≡ p

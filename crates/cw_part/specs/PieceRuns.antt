@@ -1,4 +1,4 @@
--- Which run of a frame a piece of the model is, step by step, within a limit.
+-- The run of a frame that a piece of the model is, step by step, within a limit.
 use Rattle.std.specs.Prelude.{◌≡◌, ℕ, zero, suc, ℤ, ◌-◌, ◌≤◌, nat_lt, if◌then◌else◌, Bool, List, [], ◌∷◌, Option}
 use Rattle.std.specs.Prelude.{Some, None}
 use Rattle.cw_model.specs.declared.trap.Trap.{Trap}
@@ -14,7 +14,7 @@ use Rattle.cw_measure.specs.OpenParts.{marked, part_of}
 use Rattle.cw_part.specs.Parts.{Came, Completed, Trapped, Over, Memory}
 use Rattle.cw_part.specs.Runs.{Run, Ends, Shows, Traps, Inside, then_run, cost, serial}
 
--- what a piece of the model gives
+-- what a piece of the model returns
 pub data Kind : Type 0 where
   OfNothing : Kind
   OfInt : Kind
@@ -29,32 +29,32 @@ Given OfFrame = Frame
 Given OfStatement = Completion
 Given OfCall = Returned
 
--- how a piece comes out within a limit: with a value, and so much left of the limit; or it stops, at a trap or at the
+-- how a piece exits within a limit: with a value, and what is left of the limit; or it stops, at a trap or at the
 -- limit
 abbrev pub Exit : Kind → Type 0
 Exit kind = Option (Given kind × ℕ)
 
--- instructions with this value come out so
+-- the exit of instructions with this value
 abbrev pub exit_of : (kind : Kind) (limit cost : ℕ) → Given kind → Exit kind
 exit_of kind limit k a = if nat_lt limit k then None else Some (a, limit - k)
 
--- so many instructions, one by one
+-- this many instructions, one by one
 abbrev pub instructions : ℕ → Run
 instructions zero = Ends
 instructions (suc k) = Shows (shows (Work 1 ∷ [])) (instructions k)
 
--- an instruction that passes a limit
+-- an instruction that exceeds a limit
 abbrev pub past : (limit : ℕ) → Run
 past limit = Shows (shows (Work (suc limit) ∷ [])) Ends
 
--- this piece of the model is this run of a frame within the limit, and comes out so
+-- this piece of the model is this run of a frame within the limit, with this exit
 pub data IsRunOf : (kind : Kind) (limit : ℕ) → Piece (Given kind) → Run → Exit kind → Type 0 where
   Nothing : (kind : Kind) (limit : ℕ) (a : Given kind) → IsRunOf kind limit (gives a) Ends (Some (a, limit))
   Free : (limit : ℕ) (t : Trace) → cost t ≡ 0 → IsRunOf OfNothing limit (show t) (Shows t Ends) (Some (tt, limit))
   Paid : (limit k : ℕ) → IsRunOf OfNothing limit (pay k) (instructions k) (exit_of OfNothing limit k tt)
   Valued : (limit line : ℕ) (v : ℤ) (k : ℕ)
       → IsRunOf OfInt limit (pay_for (expression.Gives v k) line) (instructions k) (exit_of OfInt limit k v)
-  -- the cost of a trap is that up to and with the instruction that traps
+  -- the cost of a trap includes the trapping instruction
   Failed : (limit line : ℕ) (trap : Trap) (k : ℕ)
       → IsRunOf OfInt limit (pay_for (expression.Traps trap k) line) (Traps trap line (shows (works k))) None
   AtOnce : (kind : Kind) (limit line : ℕ) (trap : Trap)
@@ -73,8 +73,8 @@ pub data IsRunOf : (kind : Kind) (limit : ℕ) → Piece (Given kind) → Run �
   Stopped : (kind later : Kind) (limit : ℕ) (piece : Piece (Given kind)) (next : Given kind → Piece (Given later))
       (first : Run)
       → IsRunOf kind limit piece first None → IsRunOf later limit (◌>>=◌ piece next) first None
-  -- the turns of a `while` are at most as many as the budget says: the greatest one allows no other turns than each
-  -- budget does
+  -- a `while` has at most as many iterations as the budget allows; the largest budget allows no other iterations than
+  -- each budget does
   Turns : (limit line : ℕ) (test : Frame → Evaluated) (body : Frame → Piece Completion) (frame : Frame) (run : Run)
       (exit : Exit OfStatement)
       → ((left : ℕ) → left ≤ limit
@@ -88,7 +88,7 @@ pub record HasRun (kind : Kind) (limit : ℕ) (piece : Piece (Given kind)) : Typ
   pub exit : Exit kind
   pub is_run : IsRunOf kind limit piece run exit
 
--- how a run came out, as the model has it, with what the piece gives
+-- the outcome of a run as the model has it, with the value of the piece
 abbrev pub outcome_with : (kind : Kind) → (left : ℕ) → Came Trace → Exit kind → Outcome (Given kind)
 outcome_with kind left (Completed t) (Some end) = Done end.0 (left - cost t) t
 outcome_with kind left (Completed t) None = model.Over
@@ -102,7 +102,7 @@ CallsAreRuns =
     (bound depth : ℕ) (fs : List Function) (entry : Entry) (f : Function) (given : Frame) (line limit : ℕ)
     → HasRun OfCall limit (call bound depth fs entry f given line)
 
--- within each budget that the limit allows, a piece comes to what its serial run does
+-- within each budget that the limit allows, the outcome of a piece is that of its serial run
 abbrev pub RunsTellOfPieces : Type 0
 RunsTellOfPieces =
     (kind : Kind) (limit left : ℕ) (piece : Piece (Given kind)) (run : Run) (exit : Exit kind)

@@ -1,4 +1,4 @@
--- What is read of parts makes a monoid.
+-- The views and measures of parts form a monoid.
 use Rattle.std.specs.Prelude.{◌≡◌}
 use Rattle.cw_reduce.specs.Shown.{Shown}
 use Rattle.cw_reduce.specs.ShownLaws.{shown-first, shown-last, shown-assoc}

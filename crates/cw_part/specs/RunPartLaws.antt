@@ -25,7 +25,7 @@ readings_are_lawful = record {
 pub parts_of_runs_join : PartsOfRunsJoin
 parts_of_runs_join = parts_join readings readings_are_lawful
 
--- parts with the same limit that came out the same are the same
+-- parts with the same limit and the same outcome are equal
 abbrev part_with : (n : ℕ) (x : Came Read) → nat_lt MOST_LIMIT n ≡ false → is_above readings n x ≡ false → RunPart
 part_with n x l t = record { limit = n; came = x; limited = l; tested = t }
 

@@ -1,4 +1,4 @@
--- The run of a frame, step by step, and the parts of pieces that it may be cut into.
+-- The run of a frame, step by step, and the parts of the pieces into which it may be cut.
 use Rattle.std.specs.Prelude.{◌≡◌, ℕ, ℤ, ◌+◌, ◌-◌, ◌<◌, ◌≤◌, ◌==◌, ◌^◌, nat_lt, min, Bool, true, false, if◌then◌else◌}
 use Rattle.std.specs.Prelude.{List, [], ◌∷◌, Option, ◌⊎◌}
 use Rattle.cw_model.specs.declared.burden.Burden.{Burden}
@@ -15,16 +15,15 @@ use Rattle.cw_part.specs.declared.read.Read.{Read}
 use Rattle.cw_part.specs.Parts.{Readings, Came, Completed, Trapped, Over, Memory, followed, seen, over_if}
 use Rattle.cw_part.specs.RunParts.{RunPart, run_joined, as_child, as_call}
 
--- the work of a trace, and traces as what is read of parts
+-- the work of a trace, and traces as readings of parts
 abbrev pub cost : Trace → ℕ
 cost t = work (tree_of t.events)
 
 abbrev pub traces : Readings Trace
 traces = record { none = quiet; joined = joined; work = cost }
 
--- the run of a frame: instructions and joins, with what they show; one that traps in a line; and a part inside, a call,
--- a region or a
--- spawned child, which may be marked
+-- the run of a frame: instructions and joins, with what they show; an instruction that traps in a line; and a nested
+-- part, a call, a region or a spawned child, which may be marked
 pub data Run : Type 0 where
   Ends : Run
   Shows : Trace → Run → Run
@@ -38,19 +37,19 @@ then_run (Shows t rest) later = Shows t (then_run rest later)
 then_run (Traps trap line t) later = Traps trap line t
 then_run (Inside spawned mark inner rest) later = Inside spawned mark inner (then_run rest later)
 
--- the events of a part inside stand as one event, made of their tree
+-- the events of a nested part are one event, made of their tree
 abbrev pub as_event : (spawned : Bool) → Option Mark → Trace → Trace
 as_event spawned mark t =
     record { lines = t.lines; updates = t.updates; events = part_of spawned (marked mark (tree_of t.events)) ∷ [] }
 
--- what goes on where a part inside ran to its end
+-- the rest of a run, if a nested part ran to its end
 abbrev pub goes_on : Came Trace → (Trace → Came Trace) → Came Trace
 goes_on (Completed t) go = followed traces (Completed t) (go t)
 goes_on (Trapped trap line t) go = Trapped trap line t
 goes_on Over go = Over
 goes_on Memory go = Memory
 
--- the serial run, within what is left of a limit: it stops before the instruction that passes it
+-- the serial run, within what is left of a limit: it stops before the instruction that exceeds it
 abbrev pub serial : (left : ℕ) → Run → Came Trace
 serial left Ends = Completed quiet
 serial left (Shows t rest) =
@@ -64,7 +63,7 @@ pub record Numbering : Type 0 where
   pub number : Name → ℕ
   pub how : ℕ → Reduction
 
--- what is held of one reducer that reduces so, by the number of its name, of these updates
+-- what is held of one reducer with this reduction, after these updates, by the number of its name
 abbrev pub told_so : Reduction → (number : Name → ℕ) → (reducer : ℕ) → List (Name × ℤ) → Held
 told_so how number reducer [] = none_held
 told_so how number reducer (update ∷ more) =
@@ -74,18 +73,18 @@ told_so how number reducer (update ∷ more) =
 abbrev pub told : Numbering → (reducer : ℕ) → List (Name × ℤ) → Held
 told numbering reducer updates = told_so (numbering.how reducer) numbering.number reducer updates
 
--- what is read tells of a trace: its lines, what is held of each reducer, and the measure of its events
+-- a part represents a trace: its lines, what is held of each reducer, and the measure of its events
 pub record TellsTrace (burden : Burden) (numbering : Numbering) (t : Trace) (a : Read) : Type 0 where
   pub lines : a.views.lines ≡ t.lines
   pub totals : (reducer : ℕ) → held_of a.views.totals reducer ≡ told numbering reducer t.updates
   pub measure : Measures burden a.measure t.events
 
--- what is read of a trap tells the lines before it, and the work
+-- a part represents a trap: the lines printed before it, and the work
 pub record TellsTrap (t : Trace) (a : Read) : Type 0 where
   pub lines : a.views.lines ≡ t.lines
   pub work : a.measure.work ≡ min most (cost t)
 
--- how a part came out tells how a run did
+-- the outcome of a part represents the outcome of a run
 pub data TellsCame (burden : Burden) (numbering : Numbering) : Came Trace → Came Read → Type 0 where
   RanAlike : (t : Trace) (a : Read) → TellsTrace burden numbering t a
       → TellsCame burden numbering (Completed t) (Completed a)
@@ -93,19 +92,18 @@ pub data TellsCame (burden : Burden) (numbering : Numbering) : Came Trace → Ca
       → TellsCame burden numbering (Trapped trap line t) (Trapped trap line a)
   OverAlike : TellsCame burden numbering Over Over
 
--- what is counted before a later piece is no more than what was before the first one and what that spent, where it ran
--- to its end
+-- the cost counted before a later piece is at most the cost before the first one and what that one spent, if it ran to
+-- its end
 abbrev pub IsCountedAfter : (before : ℕ) → Came Trace → (between : ℕ) → Type 0
 IsCountedAfter before (Completed t) between = between ≤ before + cost t
 IsCountedAfter before (Trapped trap line t) between = Unit {0}
 IsCountedAfter before Over between = Unit {0}
 IsCountedAfter before Memory between = Unit {0}
 
--- the part of a run, joined of pieces, each of which counts a cost before it: one strand ran it all, and stopped no
--- earlier than the
--- limit with that cost before it, or memory was refused to it; it was cut, and the pieces of what came first and of
--- what came later
--- were joined; or a part at its beginning, a spawned child or a call, was joined of pieces of its own
+-- the part of a run, joined from pieces, each of which counts a cost before it: one strand executed all of it, and
+-- stopped no earlier than the limit with that cost before it, or memory was refused to it; or the run was cut, and the
+-- pieces of its two parts were joined; or a part at its beginning, a spawned child or a call, was joined from pieces
+-- of its own
 pub data IsJoinedOf (burden : Burden) (numbering : Numbering) (limit : ℕ) : (before : ℕ) → Run → RunPart → Type 0 where
   Alone : (before left : ℕ) (run : Run) (p : RunPart) → p.limit ≡ limit → left ≤ limit → limit ≤ before + left
       → TellsCame burden numbering (serial left run) p.came → IsJoinedOf burden numbering limit before run p
@@ -123,9 +121,8 @@ pub data IsJoinedOf (burden : Burden) (numbering : Numbering) (limit : ℕ) : (b
       → IsJoinedOf burden numbering limit before call p → IsJoinedOf burden numbering limit between rest q
       → IsJoinedOf burden numbering limit before (Inside false mark call rest) (run_joined (as_call p) q)
 
--- however a run is cut at its spawns, and whatever each piece met: the joined part tells of the serial run within the
--- limit, or
--- memory was refused
+-- cut a run at its spawns in any way, with any outcome of each piece: the joined part represents the serial run within
+-- the limit, or memory was refused
 abbrev pub PiecesAreTheRun : Type 0
 PiecesAreTheRun =
     (burden : Burden) (numbering : Numbering) (limit : ℕ) (run : Run) (p : RunPart) → burden.charge < 2 ^ 64

@@ -1,16 +1,16 @@
-//! How a part of a run came out: what it shows and what is counted of it, or a trap, the limit, or want of memory.
+//! The outcome of a part of a run: its views and its measure, or a trap, the limit, or lack of memory.
 //!
 //! [`Part`] is the outcome of a part of a run, with its views and its measure, and the limit of its work. It is a
-//! `Monoid`: parts join in serial order, in any grouping. What follows a trap or an end at the limit is dropped, work
-//! above the lesser limit is over, and memory that was refused on either side was refused to both. The tables of call
-//! sites and of region tags are no part of it: two that tell the same of a run need not be equal, so a strand's meter
-//! joins them, told by what they tell of (`cw_meter`).
+//! `Monoid`: parts join in serial order, in any grouping. After a trap or an end at the limit nothing counts, work
+//! above the smaller limit is over, and memory that was refused to one part is refused to both together. The tables of
+//! call sites and of region tags are not part of it, because two tables that represent the same run may differ; the
+//! meter of a strand joins them (`cw_meter`).
 //!
-//! A part inside of a block is made a piece of that block before it is joined, a spawned child by `into_child` and a call
-//! by `into_call`; the next piece of the same block is joined as it is. `laws::pieces_are_the_run` says what comes of it:
-//! however the run of a frame is cut, and wherever its pieces stopped, the joined part tells of the serial run within the
+//! Make a part inside a block a piece of that block before you join it: a spawned child by `into_child`, a call by
+//! `into_call`. Join the next piece of the same block as it is. `laws::pieces_are_the_run` states the result: however
+//! the run of a frame is cut, and wherever its pieces stopped, the joined part represents the serial run within the
 //! limit, or memory was refused. `laws::elision_is_a_run` finds such a run in the meaning of each program, and
-//! `laws::pieces_are_the_elision` says that its joined pieces tell the serial answer.
+//! `laws::pieces_are_the_elision` states that its joined pieces have the serial answer.
 #![tactic(auto)]
 
 pub mod laws;

@@ -1,4 +1,4 @@
-//! How a part of a run came out.
+//! The outcome of a part of a run.
 
 ghost use Rattle.std.specs.Prelude.{◌≡◌, IfOk};
 ghost use Rattle.cw_part.specs.Outcomes.{came_of, came_with};
@@ -11,22 +11,26 @@ use cw_model::monoid::Monoid;
 use cw_model::trap::Trap;
 use std::alloc::AllocError;
 
-/// How a part of a run came out, and what was read of it.
+/// The outcome of a part of a run, with its views and its measure.
 #[derive(Debug, Drop)]
 pub enum Outcome {
     /// It ran to its end.
     Completed(Read),
-    /// It trapped, in a line; what was read is that up to and with the trapping instruction.
+    /// It trapped, in a line; the views and the measure include the trapping instruction.
     Trapped { trap: Trap, line: u32, read: Read },
-    /// Its work passed the limit: nothing of it is left.
+    /// Its work exceeded the limit: nothing of it is left.
     Over,
     /// Memory was refused to it: nothing of it is left.
     Memory,
 }
 
 impl Outcome {
-    /// This, and then what came of the next part. What follows a trap or an end at the limit is dropped, but where memory
-    /// was refused on either side it was refused to both. An error only where memory was refused to the join itself.
+    /// Joins this outcome and the outcome of the next part. After a trap or an end at the limit the next part is
+    /// dropped, but memory that was refused to either part is refused to both together.
+    ///
+    /// # Errors
+    ///
+    /// `AllocError` if memory is refused to the join itself.
     pub fn then(self, next: Outcome) -> Result<Outcome, AllocError>
         ensures { IfOk result (λ both. came_of both ≡ came_with (came_of self) next) }
     {
@@ -53,7 +57,7 @@ impl Outcome {
         }
     }
 
-    // This, after a part that ran to its end.
+    // This outcome, after a part that ran to its end.
     fn after(self, first: Read) -> Result<Outcome, AllocError>
         ensures { IfOk result (λ both. came_of both ≡ came_with (Completed first) self) }
     {
@@ -75,7 +79,7 @@ impl Outcome {
         }
     }
 
-    /// The same, or over where its work is above the limit.
+    /// Returns this outcome, or `Over` if its work is above `limit`.
     pub fn within(self, limit: u64) -> Outcome
         ensures { came_of result ≡ within readings limit (came_of self) }
     {
@@ -98,7 +102,7 @@ impl Outcome {
         }
     }
 
-    /// That of a spawned child, as that of a piece of the block that spawned it.
+    /// Returns the outcome of a spawned child as that of a piece of the block that spawned it.
     pub fn into_child(self, burden: Burden) -> Outcome
         ensures { came_of result ≡ seen (child_read burden) (came_of self) }
     {
@@ -114,7 +118,7 @@ impl Outcome {
         }
     }
 
-    /// That of a call, or of another part in series, as that of a piece of the block that made it.
+    /// Returns the outcome of a call, or of another part in series, as that of a piece of the block that made it.
     pub fn into_call(self) -> Outcome
         ensures { came_of result ≡ seen call_read (came_of self) }
     {
@@ -130,7 +134,7 @@ impl Outcome {
         }
     }
 
-    /// Whether it ran to its end, so that what follows counts.
+    /// Returns whether it ran to its end, so that the next part counts.
     pub fn has_run(&self) -> bool
         ensures { result ≡ has_run (came_of self.now) }
     {
@@ -140,7 +144,7 @@ impl Outcome {
         }
     }
 
-    /// Whether memory was refused.
+    /// Returns whether memory was refused.
     pub fn is_memory(&self) -> bool
         ensures { result ≡ is_memory (came_of self.now) }
     {

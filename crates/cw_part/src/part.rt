@@ -15,8 +15,8 @@ use cw_model::monoid::Monoid;
 use std::alloc::{AllocError, Global};
 use std::marker::Model;
 
-/// How a part of a run came out, and the limit of its work in instructions. Work above the limit is over, and work of
-/// just the limit is not.
+/// The outcome of a part of a run, and the limit of its work in instructions. Work above the limit is over; work that
+/// equals the limit is not.
 #[derive(Debug, Drop)]
 pub struct Part {
     limit: u64,
@@ -35,7 +35,7 @@ impl Model for Part {
 }
 
 impl Part {
-    /// A part that came out so, within this limit of its work.
+    /// Makes the part with this outcome and this limit of its work.
     pub fn new(limit: u64, outcome: Outcome) -> Part
         requires { limit ≤ MOST_LIMIT }
         ensures { IsMade limit (came_of outcome) result }
@@ -44,28 +44,29 @@ impl Part {
         Part { limit, outcome }
     }
 
-    /// The limit of its work, in instructions.
+    /// Returns the limit of its work, in instructions.
     pub fn limit(&self) -> u64
         ensures { result ≡ self.now.limit }
     {
         self.limit
     }
 
-    /// How it came out.
+    /// Returns its outcome.
     pub fn outcome(&self) -> &Outcome
         ensures { came_of result.now ≡ self.now.came }
     {
         &self.outcome
     }
 
-    /// Whether it ran to its end, so that what follows counts.
+    /// Returns whether it ran to its end, so that the next part counts.
     pub fn has_run(&self) -> bool
         ensures { result ≡ has_run self.now.came }
     {
         self.outcome.has_run()
     }
 
-    /// A spawned child's part, as a piece of the block that spawned it: a child's measure is never joined as it is.
+    /// Returns the part of a spawned child as a piece of the block that spawned it. Never join the measure of a child
+    /// as it is.
     pub fn into_child(self, burden: Burden) -> Part
         ensures { result ≡ as_child burden self }
     {
@@ -76,7 +77,7 @@ impl Part {
         }
     }
 
-    /// The part of a call, or of another part in series, as a piece of the block that made it.
+    /// Returns the part of a call, or of another part in series, as a piece of the block that made it.
     pub fn into_call(self) -> Part
         ensures { result ≡ as_call self }
     {
@@ -87,7 +88,7 @@ impl Part {
         }
     }
 
-    /// How it came out, without the limit.
+    /// Returns its outcome, without the limit.
     pub fn into_outcome(self) -> Outcome
         ensures { came_of result ≡ self.came }
     {

@@ -1,4 +1,4 @@
-//! What is read of a part of a run.
+//! The views and the measure of a part of a run.
 
 ghost use Rattle.std.specs.Prelude.{◌≡◌, IfOk};
 
@@ -8,7 +8,7 @@ use cw_model::monoid::Monoid;
 use cw_reduce::Views;
 use std::alloc::{AllocError, Global};
 
-/// What a part of a run gives beside its value, and what is counted of it.
+/// What a part of a run shows besides its value, and its measure.
 #[derive(Debug, Drop)]
 pub struct Read {
     pub views: Views,
@@ -18,8 +18,8 @@ pub struct Read {
 impl Read {
     ghost use Rattle.cw_part.specs.Read.{call_read, child_read};
 
-    /// What is read of a spawned child, as a piece of the block that spawned it: its views as they are, and its measure
-    /// as that of one child, with what is charged at the fork.
+    /// Returns the views and the measure of a spawned child as a piece of the block that spawned it: the views as they
+    /// are, and the measure of one child, with the burden at the fork.
     pub fn into_child(self, burden: Burden) -> Read
         ensures { result ≡ child_read burden self }
     {
@@ -31,8 +31,8 @@ impl Read {
         }
     }
 
-    /// What is read of a call, or of another part in series, as a piece of the block that made it: its views as they are,
-    /// and its measure as that of one part in series.
+    /// Returns the views and the measure of a call, or of another part in series, as a piece of the block that made
+    /// it: the views as they are, and the measure of one part in series.
     pub fn into_call(self) -> Read
         ensures { result ≡ call_read self }
     {

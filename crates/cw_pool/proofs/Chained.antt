@@ -1,4 +1,4 @@
--- The posts of a worker as jobs are stolen and settled.
+-- The posts of a worker when jobs are stolen and settled.
 use Rattle.std.proofs.Common.{◌≡◌, ◌++◌, List, [], ◌∷◌, Some, sym, ap, subst, reverse}
 use Rattle.std.specs.declared.snapshot.Snapshot.{Snapshot}
 use Rattle.cw_jobs.specs.declared.job.Job.{Job}

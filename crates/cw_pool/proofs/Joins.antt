@@ -1,4 +1,4 @@
--- A post's jobs as its newest one comes and goes.
+-- The jobs of a post when its newest job is added or removed.
 use Rattle.std.proofs.Common.{◌≡◌, ◌∙◌, ◌++◌, List, [], ◌∷◌, Option, Some, refl, sym, ap, subst, reverse, Vec, Global}
 use Rattle.std.specs.Prelude.{map}
 use Rattle.std.proofs.lemmas.List.{reverse-append, reverse-reverse}
@@ -45,13 +45,13 @@ newest o l (j ∷ js) e = record { job = j; others = js; is = refl; named_is = a
 abbrev pub post : Strand → Vec Kept Global → Post
 post s ks = record { strand = s; kept = ks }
 
--- the job that a post lacks is the newest one of its strand
+-- the job that a post lacks is the newest job of its strand
 pub lacks_newest : (y : Yard) (p : Post) (job : Job) → Lacks y p (Some job) → IsNewest p.strand job
 lacks_newest y p job lacks =
     let n = newest (Some job) (kept_jobs p.kept.items) (outs p.strand) lacks.1 in
     (n.others, n.is ∙ ap (λ j. j ∷ n.others) (same_job job n.job n.named_is))
 
--- the newest job out is done with
+-- the newest job out is finished
 pub after : (y : Yard) (p : Post) (o : Option Job) (new : Strand) (ks : Vec Kept Global) → Lacks y p o → ks.items ≡ p.kept.items
     → ((j : Job) (others : List Job) → outs p.strand ≡ j ∷ others → o ≡ Some j → IsRunning new × (outs new ≡ others)) → Works y (post new ks)
 after y p o new ks lacks same f =
@@ -59,7 +59,7 @@ after y p o new ks lacks same f =
     let r = f n.job n.others n.is n.named_is in
     (r.0, ap kept_jobs same ∙ (n.rest_is ∙ ap named (sym r.1)), subst (λ l. Each (IsKeptOf y) l) (sym same) lacks.2)
 
--- it is back
+-- the newest job out has returned
 pub after_back : (y : Yard) (p : Post) (o : Option Job) (new : Strand) (ks : Vec Kept Global) (rest : Job) → Lacks y p o → ks.items ≡ p.kept.items
     → IsRunning new → rest ∷ outs new ≡ outs p.strand → Works y (post new ks)
 after_back y p o new ks rest lacks same running is = after y p o new ks lacks same (λ j others e _. (running, ap tail_of (is ∙ e)))

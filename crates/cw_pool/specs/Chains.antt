@@ -9,16 +9,16 @@ use Rattle.cw_pool.specs.declared.post.Post.{Post}
 use Rattle.cw_pool.specs.declared.work.Below.{Below}
 use Rattle.cw_pool.specs.Posts.{Works}
 
--- THE JOB ABOVE EACH WAITING POST IS THAT OF THE DUTY BESIDE IT, and the lowest one's is the root
+-- THE JOB ABOVE EACH WAITING POST IS THE JOB OF THE DUTY NEXT TO IT, and the job of the lowest post is the root
 abbrev pub Chain : Yard → (root above : Job) → List Below → Type 0
 Chain y root above [] = above ≡ root
 Chain y root above (b ∷ bs) =
     (duty_job b.duty ≡ Some above) × IsDutyOf y b.duty × Works y b.post × Chain y root (its_job b.post.strand) bs
 
--- the same of a post and of those below it, the uppermost last
+-- the jobs of a post and of the posts below it form a chain; the uppermost waiting post is last in the list
 abbrev pub StandsOn : Yard → (root : Job) → Post → List Below → Type 0
 StandsOn y root p below = Works y p × Chain y root (its_job p.strand) (reverse below)
 
--- whatever the root is
+-- if a post and those below it form a chain, the new post and those below it do, for every root
 abbrev pub KeepsStanding : Yard → (p : Post) → List Below → (p' : Post) → List Below → Type 0
 KeepsStanding y p below p' below' = (root : Job) → StandsOn y root p below → StandsOn y root p' below'

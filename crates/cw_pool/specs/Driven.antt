@@ -1,4 +1,4 @@
--- What a run of a job by a crew comes to.
+-- The result of the execution of a job by a crew.
 use Rattle.std.specs.Prelude.{◌≡◌, ◌≤◌, ◌<◌, ℕ, List, length}
 use Rattle.cw_text.specs.declared.fault.Fault.{Fault}
 use Rattle.cw_text.specs.declared.fault.Fault.TheVariants as fault
@@ -15,11 +15,11 @@ use Rattle.cw_pool.specs.declared.run.TheConstants.{MOST_BODIES}
 abbrev pub AreSeatsFor : Yard → (bodies : ℕ) → List Seat → Type 0
 AreSeatsFor y bodies seats = (length seats ≡ bodies) × Each (IsSeatOf y) seats
 
--- an effect that means the job, of a crew of so many bodies
+-- the crew is not too large, and the effect means the job
 abbrev pub IsDriven : (bodies : ℕ) → Job → Effect → Type 0
 IsDriven bodies root e = (bodies ≤ MOST_BODIES) × IsMeaningOf root e
 
--- why there is none: the crew is too large, or memory ran out before its first thread was started
+-- the reason why there is no effect: the crew is too large, or memory ran out before its first thread was started
 abbrev pub IsNotDriven : (bodies : ℕ) → Fault → Type 0
 IsNotDriven bodies fault.Arguments = MOST_BODIES < bodies
 IsNotDriven bodies fault.Memory = bodies ≤ MOST_BODIES

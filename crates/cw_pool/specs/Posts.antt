@@ -1,4 +1,4 @@
--- What a post knows of its strand and of the jobs that it has out.
+-- A post: its strand, and the jobs that the strand has out.
 use Rattle.std.specs.Prelude.{◌≡◌, List, ◌∷◌, map, reverse, Option, Some}
 use Rattle.cw_jobs.specs.declared.effect.Effect.{Effect}
 use Rattle.cw_jobs.specs.declared.job.Job.{Job}
@@ -22,40 +22,41 @@ use Rattle.cw_pool.specs.declared.post.Turn.TheVariants as turn
 abbrev pub IsNewest : Strand → Job → Type 0
 IsNewest self job = (others : List Job) × (outs self ≡ job ∷ others)
 
--- the job that is kept, or that a ticket stands for
+-- the job that is kept, or the job of the ticket
 abbrev pub kept_job : Kept → Option Job
 kept_job (kept.Own job) = Some job
 kept_job (kept.Out t) = ticket_job t
 
--- the jobs kept or offered, the newest first
+-- the jobs that are kept or offered, the newest first
 abbrev pub kept_jobs : List Kept → List (Option Job)
 kept_jobs ks = map kept_job (reverse ks)
 
+-- a ticket that is kept is a ticket of the yard
 abbrev pub IsKeptOf : Yard → Kept → Type 0
 IsKeptOf y (kept.Own job) = Unit {0}
 IsKeptOf y (kept.Out t) = IsTicketOf y t
 
--- A STRAND BESIDE EXACTLY THE JOBS THAT IT HAS OUT
+-- THE POST HAS EXACTLY THE JOBS THAT ITS STRAND HAS OUT
 abbrev pub Works : Yard → Post → Type 0
 Works y p =
     IsRunning p.strand × (kept_jobs p.kept.items ≡ map (λ j. Some j) (outs p.strand))
     × Each (IsKeptOf y) p.kept.items
 
--- the same, but that the newest job out is neither kept nor offered
+-- the post has exactly the jobs that its strand has out, except for the newest, which is neither kept nor offered
 abbrev pub Lacks : Yard → Post → Option Job → Type 0
 Lacks y p newest =
     IsRunning p.strand × (newest ∷ kept_jobs p.kept.items ≡ map (λ j. Some j) (outs p.strand))
     × Each (IsKeptOf y) p.kept.items
 
--- a post that begins a job, whatever the yard
+-- a post that begins a job, for every yard
 abbrev pub Begins : Job → Post → Type 0
 Begins job p = (its_job p.strand ≡ job) × ((y : Yard) → Works y p)
 
--- its strand has come to this end, with exactly the jobs out that are kept: there is none
+-- the strand of the post has reached this end, and the post has exactly the jobs that are out; there is no such job
 abbrev pub Ends : Post → End → Type 0
 Ends p e = EndsAt e p.strand × (kept_jobs p.kept.items ≡ map (λ j. Some j) (outs p.strand))
 
--- what a turn keeps
+-- the state of the post after a turn
 abbrev pub TurnsTo : Yard → Post → Turn → Type 0
 TurnsTo y p turn.Went = Works y p
 TurnsTo y p turn.Waits = Works y p

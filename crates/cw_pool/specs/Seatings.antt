@@ -1,4 +1,4 @@
--- That a seat is of a yard is a fact, which a type may keep.
+-- Being a seat of a yard is a proposition, so a type may hold it as a fact.
 use Rattle.std.proofs.Props.{props}
 use Rattle.cw_yard.specs.contracts.task.Item as item
 use Rattle.cw_yard.specs.declared.seat.Yard.{Yard}

@@ -1,4 +1,4 @@
-//! The bodies of workers, and what each is given.
+//! The bodies of workers, and the helper that each of them gets.
 
 ghost use Rattle.std.specs.Arc.{arc_value};
 ghost use Rattle.cw_yard.specs.Seated.{IsSeated};
@@ -23,8 +23,8 @@ pub struct Helper<G> {
 }
 
 impl<G: Gate + Drop> Helper<G> {
-    /// Steals, runs and settles jobs, until the run that it helps has ended. It sleeps where there is nothing to steal
-    /// for long.
+    /// Steals, executes and settles jobs until the run that it helps has ended. Sleeps if there has been nothing to
+    /// steal for long.
     pub fn serve<R: Wait>(self, rt: &R) {
         let Helper {
             yard,
@@ -37,14 +37,14 @@ impl<G: Gate + Drop> Helper<G> {
     }
 }
 
-/// What a worker's thread does with its helper. Whatever it does changes no answer: where it returns at once the others
-/// do its work.
+/// The work of a worker's thread with its helper. It never changes the result of a run: if a body returns at once,
+/// the other workers do its work.
 pub trait Body<G> {
-    /// The thread ends when this returns.
+    /// Does the work of the thread, which ends when this function returns.
     fn begin(self, helper: Helper<G>);
 }
 
-/// The body that serves.
+/// The body that calls `serve`.
 #[derive(Drop)]
 pub struct Serving<R>(pub R);
 

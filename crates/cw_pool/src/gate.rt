@@ -1,22 +1,22 @@
-//! What is told of the steps of workers.
+//! The observer of the workers' steps.
 
 /// A step of a worker.
 #[derive(Clone, Copy, Debug)]
 pub enum Moment {
-    /// It offered a job.
+    /// The worker offered a job.
     Offered,
-    /// It stole a job.
+    /// The worker stole a job.
     Stolen,
-    /// It left the effect of a stolen job for who offered it.
+    /// The worker left the effect of a stolen job for the worker that offered the job.
     Settled,
-    /// It is at a join, and looks next for what became of the newest job out there. Told at each such look.
+    /// The worker is at a join, and checks next what became of the newest job out there. Reported at each such check.
     AtJoin,
 }
 
-/// It is told of each such step right after it, by the worker's own thread, which goes on when it returns. What it does
-/// changes no answer.
+/// An observer: it is called right after each step that `Moment` lists, by the worker's own thread, which continues
+/// when the call returns. It never changes the result of a run.
 pub trait Gate {
-    /// Worker 0 is the caller of a run, the others are its bodies in turn.
+    /// Observes a step. Worker 0 is the caller of a run, and the other workers are its bodies, in order.
     fn turn(&self, worker: usize, what: Moment);
 }
 

@@ -1,4 +1,4 @@
-//! Runs with many workers, each with a thread and a seat of the yard: they run jobs, and steal while they wait.
+//! Runs with many workers. Each has a thread and a seat of the yard, executes jobs, and steals while it waits.
 #![tactic(auto)]
 
 pub mod crew;

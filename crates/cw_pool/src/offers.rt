@@ -1,22 +1,22 @@
-//! What a worker's offers bring.
+//! The record of how a worker's offers paid off.
 
-/// A job of fewer instructions was not worth its theft.
+/// A job was worth its theft if at least this number of its instructions was executed by others.
 const WORTH: u64 = 16_000;
 
-/// So many offers in vain, one after another, are enough.
+/// The number of consecutive offers in vain after which a worker pauses.
 const ENOUGH: u32 = 8;
 
-/// After a while so many more are made, to see whether they still are.
+/// The number of offers after a pause that test whether offers are still in vain.
 const MORE: u32 = 2;
 
-/// So many whiles at most go by without an offer.
+/// The maximum length of a pause, in calls of `are_enough`.
 const LONGEST: u32 = 256;
 
-/// How many jobs of a worker came back for nothing, one after another.
+/// The number of a worker's consecutive jobs that returned without having paid off.
 #[derive(Drop)]
 pub(crate) struct Offers {
     in_vain: u32,
-    // The whiles without an offer that are still to go by, and how many go by where offers are in vain again.
+    // The remaining length of this pause, and the length of the next one if offers are in vain again.
     left: u32,
     next: u32,
     // Whether any job was worth its theft.
@@ -24,7 +24,7 @@ pub(crate) struct Offers {
 }
 
 impl Offers {
-    /// None was made yet.
+    /// Creates the record of a worker that has made no offer.
     pub(crate) fn new() -> Offers {
         Offers {
             in_vain: 0,
@@ -34,7 +34,7 @@ impl Offers {
         }
     }
 
-    /// A job that was handed out is back, and others did so many instructions of it.
+    /// Records that a job that was handed out has returned, and that others executed `done` of its instructions.
     #[inline(always)]
     pub(crate) fn judge(&mut self, done: u64) {
         if done < WORTH {
@@ -46,8 +46,8 @@ impl Offers {
         }
     }
 
-    /// Whether no more are to be made for a while. As long as no job was ever worth its theft, each pause is twice as long as
-    /// the one before.
+    /// Returns whether the worker is to make no offer now. As long as no job was ever worth its theft, each pause is
+    /// twice as long as the one before, up to `LONGEST`.
     #[inline(always)]
     pub(crate) fn are_enough(&mut self) -> bool {
         if self.left > 0 {

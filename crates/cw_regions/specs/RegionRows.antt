@@ -63,7 +63,7 @@ left_at false count span burdened r =
       at_burdened = r.at_burdened;
     }
 
--- an execution ends; the last open one is added to the sums
+-- an execution ends; if no other execution of its tag is open, its measures are added to the sums
 abbrev pub left : (count span burdened : ℕ) → Row → Row
 left count span burdened r = left_at (r.active == 1) count span burdened r
 

@@ -1,4 +1,4 @@
--- How rows come to a table: a row of the crate `csv` is that of the definitions, and lines follow one another.
+-- Rows are added to a table: a row of the crate `csv` is a row of the definitions, and lines follow one another.
 use Rattle.std.proofs.Common.{◌≡◌, ◌≢◌, ◌∙◌, ◌++◌, ◌≤◌, ◌==◌, ◌||◌, ◌∷◌, [], ℕ, List, Bool, true, false, length, inl, inr}
 use Rattle.std.proofs.Common.{Option, Some, None, Result, Ok, Err, OnOk, refl, sym, ap, subst, append_assoc, arith}
 use Rattle.std.proofs.lemmas.Bool.{cases_Bool}
@@ -17,7 +17,7 @@ use Rattle.cw_model.specs.Report.{asks_for_quotes, between_quotes, csv_field, cs
 use Rattle.cw_report.specs.declared.table.Table.{Table}
 use Rattle.cw_report.specs.Tables.{Adds, Holds, contents}
 
--- ---- a row
+-- ---- one row
 
 regrouped : (a b x y : Bool) → (a || b || (x || y) || false || false) ≡ (a || b || x || y)
 regrouped true b x y = refl
@@ -52,7 +52,7 @@ rest_is (next ∷ fields) first =
     let regrouped = sym (append_assoc (csv_field next) (fields_text default_writer fields) end_of_line) in
     rw (rest_is fields next, field_is next) (ap (λ l. csv_field first ++ (44 ∷ l)) regrouped)
 
--- of two fields or more
+-- a row of two fields or more
 pub row_is : (fields : List (List ℕ)) → 2 ≤ length fields → row_text default_writer fields ≡ csv_line fields
 unfolding is_blank
 row_is [] two = absurd (omega (arith, two))
@@ -61,12 +61,12 @@ row_is (first ∷ next ∷ rest) two =
     rw (rest_is (next ∷ rest) first, field_is first)
     (append_assoc (csv_field first) (fields_text default_writer (next ∷ rest)) end_of_line)
 
--- known bytes that grew are known
+-- known bytes to which bytes were appended are known
 appended : (new : Option (List ℕ)) (all more : List ℕ) → Appends (Some all) new more → new ≡ Some (all ++ more)
 appended None all more h = absurd h
 appended (Some y) all more h = ap Some h
 
--- a row that was written came to the table
+-- a row that was written is in the table
 pub pushed : {E : Type 0} (old new : Writer (Vec ℕ)) (fields : List (List ℕ)) (r : Result (Unit {0}) E)
     → is_err r ≡ false → 2 ≤ length fields
     → OnOk r ((fields_written old ≡ 0) → (has_written old ≡ false) → ((writer_setup old).style ≢ style.NonNumeric)
@@ -86,14 +86,14 @@ pushed old new fields (Ok u) good two bytes ended clean setup = λ all h.
       bytes = appended after all (csv_line fields) (subst (λ t. Appends t after (csv_line fields)) h.bytes as_defined);
     }
 
--- ---- lines one after another
+-- ---- several lines
 
--- a table that held something holds so much more now that with what is left it is the whole
+-- a table whose content was known holds more now, and with what is left it will hold the whole
 abbrev pub Towards : (old now : Table) (left whole : List ℕ) → Type 0
 Towards old now left whole =
     (all : List ℕ) → Holds old all → (so_far : List ℕ) × Holds now so_far × (so_far ++ left ≡ all ++ whole)
 
--- one line more
+-- one more line
 pub onward : (old now new : Table) (line left whole : List ℕ) → Towards old now (line ++ left) whole
     → ((all : List ℕ) → Holds now all → Holds new (all ++ line))
     → Towards old new left whole
@@ -106,7 +106,7 @@ pub arrived : (old now : Table) (whole : List ℕ) → Towards old now [] whole
 arrived old now whole so_far =
     λ all held. let (text, holds, is) = so_far all held in subst (λ l. Holds now l) (sym (append-nil text) ∙ is) holds
 
--- a line, and then what follows it
+-- a line, and then the text that follows it
 pub after : {E : Type 0} (old between new : Table) (line more whole : List ℕ) (r : Result (Unit {0}) E)
     → ((all : List ℕ) → Holds old all → Holds between (all ++ line)) → Adds between new more r
     → line ++ more ≡ whole → Adds old new whole r

@@ -1,4 +1,4 @@
--- How a text is written part by part.
+-- A text is written part by part.
 use Rattle.std.proofs.Common.{◌≡◌, ◌==◌, false, [], ◌∷◌, ℕ, ◌+◌, ◌-◌, List, ◌++◌, length, take, drop, sym, ap, ◌∙◌, append_assoc, take-append-drop, Option, Some, None, Result, Ok, Err, IsErrAnd}
 use Rattle.std.specs.Io.KnownBytes.{Appends}
 use Rattle.std.proofs.lemmas.List.{take_rest}
@@ -8,7 +8,7 @@ use Rattle.cw_report.specs.Sinks.{AppendsBefore, AppendsPart, WritesAll, WritesP
 use Rattle.cw_text.specs.declared.fault.Fault.{Fault}
 use Rattle.cw_text.specs.declared.fault.Fault.TheVariants as fault
 
--- two parts in a row
+-- two parts, one after the other
 then-Appends : (a b c : Option (List ℕ)) (xs ys : List ℕ) → Appends a b xs → Appends b c ys → Appends a c (xs ++ ys)
 then-Appends None b c xs ys p q = tt
 then-Appends (Some x) None c xs ys p q = absurd p
@@ -25,12 +25,12 @@ more-AppendsBefore n left text a b c (done, split, wrote) more = (
   then-Appends a b c done (take n left) wrote more,
 )
 
--- what comes after a text that was written
+-- a partly written text after a text that was written
 after-AppendsPart : (a b c : Option (List ℕ)) (xs ys : List ℕ) → Appends a b xs → AppendsPart b c ys → AppendsPart a c (xs ++ ys)
 after-AppendsPart a b c xs ys p (left, (done, split, wrote)) =
     (left, (xs ++ done, ap (λ l. xs ++ l) split ∙ sym (append_assoc xs done left), then-Appends a b c xs done p wrote))
 
--- a beginning of a text is one of a longer text
+-- a prefix of a text is a prefix of a longer text
 longer-AppendsPart : (a b : Option (List ℕ)) (xs ys : List ℕ) → AppendsPart a b xs → AppendsPart a b (xs ++ ys)
 longer-AppendsPart a b xs ys (left, (done, split, wrote)) = (left ++ ys, (done, ap (λ l. l ++ ys) split ∙ append_assoc done left ys, wrote))
 
@@ -40,7 +40,7 @@ then-Writes a b c xs ys (Ok x) p q = record { bytes = then-Appends a.bytes b.byt
 then-Writes a b c xs ys (Err e) p q =
     (q.0, record { bytes = after-AppendsPart a.bytes b.bytes c.bytes xs ys p.bytes q.1.bytes; failed = q.1.failed ∙ ap (λ n. n + 1) p.failed })
 
--- no text after one that was not written
+-- a text that was written only partly is a partly written start of a longer text
 longer-WritesPart : (a b : Seen) (xs ys : List ℕ) → WritesPart a b xs → WritesPart a b (xs ++ ys)
 longer-WritesPart a b xs ys p = record { bytes = longer-AppendsPart a.bytes b.bytes xs ys p.bytes; failed = p.failed }
 
@@ -48,7 +48,7 @@ pub still-Writes : {A : Type 0} (a b : Seen) (xs ys : List ℕ) (e : Fault) (r :
 still-Writes a b xs ys e (Ok x) p h = absurd h
 still-Writes a b xs ys e (Err x) p h = (h ∙ p.0, longer-WritesPart a b xs ys p.1)
 
--- while something is left there is a text
+-- if bytes are left, there is a text
 pub some_left : (left text : List ℕ) (a b : Option (List ℕ)) → AppendsBefore left a b text → text ≡ [] → false ≡ (length left == 0) → ⊥
 some_left left text a b (done, split, wrote) none some = rest done left (sym split ∙ none) some
   where
@@ -57,7 +57,7 @@ some_left left text a b (done, split, wrote) none some = rest done left (sym spl
     rest [] (y ∷ ys) e h = cc
     rest (x ∷ xs) ys e h = cc
 
--- a text that was written is the answer
+-- if a text was written, the result is as the contract states
 pub answered : {W : Type 0} (seen : W → Seen) (old new : W) (text : List ℕ) (r : Result (Unit {0}) Fault) → Writes (seen old) (seen new) text r → AnswersText seen old new text r
 answered seen old new text (Ok u) w = w
 answered seen old new text (Err e) w = rw (w.0) w.1

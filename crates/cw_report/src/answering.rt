@@ -5,9 +5,11 @@ ghost use Rattle.cw_model.specs.Report.{check_text};
 ghost use Rattle.cw_report.specs.Sinks.{Writes};
 ghost use Rattle.cw_report.specs.Texts.{Makes, gain_report, run_report, scale_report, schedule_report, sites_report};
 ghost use Rattle.cw_report.specs.Answers.{AnswersText};
+ghost use Rattle.cw_report.specs.Speedups.{speedup_report};
 
 use crate::gain_table::gain_text;
 use crate::sink::Sink;
+use crate::speedup_table::speedup_text;
 use crate::tables::{scale_text, schedule_text, sites_text};
 use crate::text::{ended_text, printed_text};
 use crate::writing::write_text;
@@ -16,6 +18,7 @@ use cw_machine::alone::Ended;
 use cw_machine::values::Values;
 use cw_runnable::verified::Verified;
 use cw_schedule::schedules::Schedule;
+use cw_speedup::speedups::Speedup;
 use cw_text::Fault;
 use std::alloc::Global;
 
@@ -138,6 +141,31 @@ pub fn gain<W: Sink>(alloc: Global, gains: &Result<Gains, Fault>, to: &mut W) ->
 {
     match gains {
         Ok(gains) => tell(gain_text(alloc, gains), to),
+        Err(_) => Ok(()),
+    }
+}
+
+/// Writes the steps and the speedup of a run by number of processors, with the bound that work and span set and the
+/// estimate that charges burdens: a line for each number of processors. If the run did not end, it writes nothing and does
+/// not use the sink.
+///
+/// Fewer than 2^64 - 1 writes to the sink failed before.
+///
+/// # Errors
+///
+/// `Memory` if memory runs out for the text: nothing was written then. `Write` if a write failed or took no byte: the sink
+/// took a beginning of the text, and counts one more failed write.
+pub fn speedup<W: Sink>(
+    alloc: Global,
+    speedup: &Result<Speedup, Fault>,
+    to: &mut W,
+) -> Result<(), Fault>
+    requires { (W.seen to.old).failures < 2 ^ 64 - 1 }
+    ensures idle { speedup_report speedup.now ≡ [] → to.new ≡ to.old }
+    ensures answers { AnswersText W.seen to.old to.new (speedup_report speedup.now) result }
+{
+    match speedup {
+        Ok(speedup) => tell(speedup_text(alloc, speedup), to),
         Err(_) => Ok(()),
     }
 }

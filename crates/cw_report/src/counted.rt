@@ -10,9 +10,9 @@ use crate::sink::Sink;
 use std::io;
 use std::io::{ErrorKind, Read, Write};
 
-/// A reader or a writer with the number of its calls that failed: an input of a reader, and a sink of
-/// a writer, with one call of it for each of theirs. A flush that fails is not counted, nor a read that fails for want
-/// of memory.
+/// A reader or a writer with the number of its calls that failed. It is an input if it wraps a reader and a sink if
+/// it wraps a writer, and makes one call for each of its own calls. A flush that fails is not counted, nor a read
+/// that fails because memory runs out.
 #[derive(Drop)]
 pub struct Counted<T> {
     inner: T,
@@ -20,7 +20,7 @@ pub struct Counted<T> {
 }
 
 impl<T> Counted<T> {
-    /// The reader or writer, none of whose calls failed so far.
+    /// Wraps a reader or writer. The count of failed calls is 0.
     pub fn new(inner: T) -> Self
         ensures inner { inner_of result ≡ inner }
         ensures none_failed { failures_of result ≡ 0 }
@@ -28,7 +28,7 @@ impl<T> Counted<T> {
         Counted { inner, failures: 0 }
     }
 
-    /// The reader or writer, as the calls left it.
+    /// Returns the reader or writer, as the calls left it.
     pub fn into_inner(self) -> T
         ensures { result ≡ inner_of self }
     {

@@ -1,7 +1,8 @@
-//! The field of a parallelism.
+//! The fields of ratios.
 
 ghost use Rattle.std.specs.Prelude.{◌≡◌, ◌<◌, IfOk};
 ghost use Rattle.cw_model.specs.Report.{parallelism, thousandths, three_digits};
+ghost use Rattle.cw_report.specs.Speedups as speedups;
 
 use itoa::Buffer;
 use std::alloc::{AllocError, Global};
@@ -11,16 +12,40 @@ pub fn parallelism_text(alloc: Global, work: u64, span: u128) -> Result<Vec<u8>,
     ensures { IfOk result (λ text. text.items ≡ parallelism work span) }
 {
     let ratio = ratio(work, span);
+    let text = thousandths_text(alloc, ratio)?;
+    Ok(text)
+}
+
+/// The smaller of the processors and work by span, to three digits, rounded down; an error where memory runs out.
+pub fn bound_text(
+    alloc: Global,
+    processors: u64,
+    work: u64,
+    span: u64,
+) -> Result<Vec<u8>, AllocError>
+    ensures { IfOk result (λ text. text.items ≡ speedups.bound_text processors work span) }
+{
+    let of_processors = 1000 * u128::from(processors);
+    let of_span = ratio(work, u128::from(span));
+    let text = thousandths_text(alloc, of_processors.min(of_span))?;
+    Ok(text)
+}
+
+// So many thousandths, with three digits; an error where memory runs out.
+fn thousandths_text(alloc: Global, number: u128) -> Result<Vec<u8>, AllocError>
+    ensures { IfOk result (λ text. text.items ≡ thousandths number) }
+{
     let mut buffer = Buffer::new();
-    let mut text = Vec::from_slice(alloc, buffer.format(ratio / 1000).as_bytes())?;
+    let mut text = Vec::from_slice(alloc, buffer.format(number / 1000).as_bytes())?;
     text.extend_from_slice(b".")?;
-    text.extend_from_slice(&digits_of(ratio % 1000))?;
+    text.extend_from_slice(&digits_of(number % 1000))?;
     Ok(text)
 }
 
 // Work by span in thousandths, rounded down, and 0 where there is no span.
 fn ratio(work: u64, span: u128) -> u128
-    ensures { thousandths result ≡ parallelism work span }
+    ensures text { thousandths result ≡ parallelism work span }
+    ensures value { result ≡ speedups.ratio work span }
 {
     if span == 0 {
         0

@@ -1,4 +1,4 @@
-//! The table of functions and of what they would bring, made whole before any byte is written.
+//! The table of functions and their gains, built completely before any byte is written.
 
 ghost use Rattle.std.specs.Prelude.{◌≡◌, IfErr};
 ghost use Rattle.cw_report.specs.Tables.{Adds};
@@ -26,8 +26,12 @@ const COLUMNS: &[&[u8]] = &[
     b"burdened_span_if_free",
 ];
 
-/// A run that ended, and what some of its functions would bring, each on a line; the error is `Memory` where there is
-/// none for the text.
+/// Returns the gain report of a run that ended: a line for the run, and a line for each of these functions with its
+/// gain.
+///
+/// # Errors
+///
+/// `Fault::Memory` if there is no memory for the text.
 pub fn gain_text(alloc: Global, gains: &Gains) -> Result<Vec<u8>, Fault>
     ensures ok { Makes (texts.gain_text gains.now) result }
     ensures why { IfErr result (λ e. e ≡ Fault.Memory) }
@@ -98,7 +102,8 @@ fn push_function(
     )
 }
 
-// Adds a line: a name and its line, what is counted of it, and the spans of a run of this work if that were free.
+// Adds a line: a name and its source line, its sums, and the spans of a run of this work if the instructions that the
+// sums count took no time.
 fn push_line(
     alloc: Global,
     table: &mut Table,

@@ -1,14 +1,14 @@
-//! Readers that tell how many of their reads failed for another reason than want of memory.
+//! Readers that count the reads that failed, unless memory ran out.
 
 ghost use Rattle.std.specs.Prelude.{◌≡◌, ℕ};
 
 use std::io::Read;
 
-/// A reader that tells how many of its reads failed for another reason than want of memory.
+/// A reader that reports the number of its failed reads. A read that fails because memory runs out is not counted.
 pub trait Input: Read {
     ghost failed: { Self → ℕ };
 
-    /// The number of reads that failed so far for another reason than want of memory.
+    /// Returns the number of reads that failed so far for another reason than that memory ran out.
     fn failed_reads(&self) -> u64
         ensures { result ≡ failed self.now };
 }

@@ -8,12 +8,13 @@ mod fields;
 mod gain_table;
 mod input;
 mod sink;
+mod speedup_table;
 mod table;
 mod tables;
 mod text;
 mod writing;
 
-pub use answering::{answer, gain, ok, scale, schedule, sites};
+pub use answering::{answer, gain, ok, scale, schedule, sites, speedup};
 pub use counted::Counted;
 pub use input::Input;
 pub use sink::Sink;

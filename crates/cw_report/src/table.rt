@@ -1,4 +1,4 @@
-//! A table as CSV in memory, row by row, as the crate `csv` writes it.
+//! A table as CSV in memory, which the crate `csv` writes row by row.
 
 ghost use Rattle.std.specs.Prelude.{◌≡◌, ◌≤◌, ℕ, List, [], IfOk, length, map};
 ghost use Rattle.cw_model.specs.Report.{csv_line};
@@ -7,14 +7,18 @@ ghost use Rattle.cw_report.specs.Tables.{Adds, Holds};
 use csv::Writer;
 use std::alloc::{AllocError, Global};
 
-/// A table in the making.
+/// A table under construction.
 #[derive(Drop)]
 pub struct Table {
     writer: Writer<Vec<u8>>,
 }
 
 impl Table {
-    /// A table with the names of its columns, two or more, and no other row; an error where memory runs out.
+    /// Creates a table with the names of its columns, two or more, and no other row.
+    ///
+    /// # Errors
+    ///
+    /// `AllocError` if memory runs out.
     pub fn titled(alloc: Global, names: &[&[u8]]) -> Result<Self, AllocError>
         requires { 2 ≤ length names.now }
         ensures { IfOk result (λ table. Holds table (csv_line (map (λ f. f.now) names.now))) }
@@ -24,7 +28,7 @@ impl Table {
         Ok(table)
     }
 
-    // A table without rows.
+    // Creates a table without rows.
     fn new(alloc: Global) -> Self
         ensures { Holds result [] }
     {
@@ -33,7 +37,11 @@ impl Table {
         }
     }
 
-    /// Adds a row of two fields or more, each in quotes where it needs them; an error where memory runs out.
+    /// Adds a row of two fields or more, each quoted if necessary.
+    ///
+    /// # Errors
+    ///
+    /// `AllocError` if memory runs out.
     pub fn push(&mut self, fields: &[&[u8]]) -> Result<(), AllocError>
         requires { 2 ≤ length fields.now }
         ensures { Adds self.old self.new (csv_line (map (λ f. f.now) fields.now)) result }
@@ -44,7 +52,11 @@ impl Table {
         Ok(())
     }
 
-    /// The text of all rows; an error where memory runs out.
+    /// Returns the text of all rows.
+    ///
+    /// # Errors
+    ///
+    /// `AllocError` if memory runs out.
     pub fn into_text(self) -> Result<Vec<u8>, AllocError>
         ensures { IfOk result (λ text. (all : List ℕ) → Holds self all → text.items ≡ all) }
     {

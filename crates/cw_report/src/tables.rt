@@ -1,4 +1,4 @@
-//! The tables of tags, of call sites and of a schedule, made whole before any byte is written.
+//! The tables of tags, of call sites and of a schedule, built completely before any byte is written.
 
 ghost use Rattle.std.specs.Prelude.{◌≡◌, [], IfErr};
 ghost use Rattle.cw_model.specs.Report.{scale_line, site_kind_text};
@@ -31,7 +31,7 @@ const SCALE: &[&[u8]] = &[
     b"burdened_parallelism",
 ];
 
-// Those of the report on call sites.
+// The columns of the report on call sites.
 const SITES: &[&[u8]] = &[
     b"site",
     b"kind",
@@ -44,11 +44,15 @@ const SITES: &[&[u8]] = &[
     b"span",
 ];
 
-// Those of the report on a schedule.
+// The columns of the report on a schedule.
 const SCHEDULE: &[&[u8]] = &[b"processors", b"work", b"span", b"greedy"];
 
-/// Work, span and parallelism of a run that ended, and of each of its tags, each on a line; the error is `Memory`
-/// where there is none for the text.
+/// Returns the scale report of a run that ended: work, span and parallelism of the run and of each of its tags, one
+/// line each.
+///
+/// # Errors
+///
+/// `Fault::Memory` if there is no memory for the text.
 pub fn scale_text(alloc: Global, ended: &Ended) -> Result<Vec<u8>, Fault>
     ensures ok { Makes (texts.scale_text ended.now) result }
     ensures why { IfErr result (λ e. e ≡ Fault.Memory) }
@@ -68,8 +72,12 @@ pub fn scale_text(alloc: Global, ended: &Ended) -> Result<Vec<u8>, Fault>
     Ok(text)
 }
 
-/// What is counted over a run that ended of the call of `main` by the run itself and of each call site of its code, each
-/// on a line; the error is `Memory` where there is none for the text.
+/// Returns the sites report of a run that ended: the measures of the call of `main` by the run itself and of each
+/// call site of its code, one line each.
+///
+/// # Errors
+///
+/// `Fault::Memory` if there is no memory for the text.
 pub fn sites_text(alloc: Global, code: &Code, ended: &Ended) -> Result<Vec<u8>, Fault>
     ensures ok { Makes (texts.sites_text (code_view code.now) ended.now) result }
     ensures why { IfErr result (λ e. e ≡ Fault.Memory) }
@@ -80,7 +88,11 @@ pub fn sites_text(alloc: Global, code: &Code, ended: &Ended) -> Result<Vec<u8>, 
     Ok(text)
 }
 
-/// The schedule of a run that ended, on a line; the error is `Memory` where there is none for the text.
+/// Returns the schedule report of a run that ended: its schedule, on one line.
+///
+/// # Errors
+///
+/// `Fault::Memory` if there is no memory for the text.
 pub fn schedule_text(alloc: Global, schedule: &Schedule) -> Result<Vec<u8>, Fault>
     ensures ok { Makes (texts.schedule_text schedule.now) result }
     ensures why { IfErr result (λ e. e ≡ Fault.Memory) }
@@ -105,7 +117,7 @@ fn push_schedule(table: &mut Table, schedule: &Schedule) -> Result<(), AllocErro
     ])
 }
 
-// Adds a line for each tag, with its row.
+// Adds a line for each tag, from its row.
 fn push_tags(
     alloc: Global,
     table: &mut Table,
@@ -150,7 +162,7 @@ fn push_scale(
     ])
 }
 
-// Adds a line for the call of `main` by the run itself and for each call site, with its row.
+// Adds a line for the call of `main` by the run itself and for each call site, from its row.
 fn push_rows(table: &mut Table, code: &Code, rows: &[SiteRow]) -> Result<(), AllocError>
     ensures { Adds table.old table.new (texts.told_rows (code_view code.now) rows.now) result }
 {
@@ -163,7 +175,7 @@ fn push_rows(table: &mut Table, code: &Code, rows: &[SiteRow]) -> Result<(), All
     }
 }
 
-// Adds a line for each call site, with its row.
+// Adds a line for each call site, from its row.
 fn push_sites(table: &mut Table, sites: &[Site], rows: &[SiteRow]) -> Result<(), AllocError>
     ensures { Adds table.old table.new (texts.site_lines sites.now rows.now) result }
 {
@@ -188,7 +200,7 @@ fn push_site(table: &mut Table, site: &Site, row: &SiteRow) -> Result<(), AllocE
     )
 }
 
-// Adds a line of the sites report: what a site tells of the source, and what is counted of it.
+// Adds a line of the sites report: the fields that come from the source, and the measures.
 fn push_told(
     table: &mut Table,
     number: u32,
@@ -215,7 +227,7 @@ fn push_told(
     ])
 }
 
-// How the kind of a call is written.
+// Returns the word for the kind of a call.
 fn kind_text(kind: CallKind) -> &'static [u8]
     ensures { result.now ≡ site_kind_text (Of kind) }
 {

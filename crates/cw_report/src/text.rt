@@ -1,4 +1,4 @@
-//! The texts of reports, made whole before any byte is written.
+//! The texts of reports, built completely before any byte is written.
 
 ghost use Rattle.std.specs.Prelude.{◌≡◌, IfErr, flat_map};
 ghost use Rattle.cw_model.specs.Report.{reduction_word, total_line, value_line};
@@ -14,7 +14,11 @@ use cw_text::Fault;
 use itoa::Buffer;
 use std::alloc::Global;
 
-/// The lines of printed values, in decimal; the error is `Memory` where there is none for the text.
+/// Returns the lines of printed values, in decimal.
+///
+/// # Errors
+///
+/// `Fault::Memory` if there is no memory for the text.
 pub fn printed_text(alloc: Global, values: &[i64]) -> Result<Vec<u8>, Fault>
     ensures ok { Makes (flat_map value_line values.now) result }
     ensures why { IfErr result (λ e. e ≡ Fault.Memory) }
@@ -26,8 +30,12 @@ pub fn printed_text(alloc: Global, values: &[i64]) -> Result<Vec<u8>, Fault>
     Ok(text)
 }
 
-/// What is reported of a run of code that ended: the values that it printed, the total of each reducer, and its value,
-/// each on a line; the error is `Memory` where there is none for the text.
+/// Returns the report of a run of code that ended: the values that it printed, the total of each reducer, and its
+/// value, one line each.
+///
+/// # Errors
+///
+/// `Fault::Memory` if there is no memory for the text.
 pub fn ended_text(alloc: Global, code: &Code, values: &Values) -> Result<Vec<u8>, Fault>
     ensures ok { Makes (texts.run_text (code_view code.now) values.now) result }
     ensures why { IfErr result (λ e. e ≡ Fault.Memory) }
@@ -43,7 +51,7 @@ pub fn ended_text(alloc: Global, code: &Code, values: &Values) -> Result<Vec<u8>
     Ok(text)
 }
 
-// Adds a line for each reducer, by how it reduces, its name and its total.
+// Adds a line for each reducer: its reduction, its name and its total.
 fn push_totals(text: &mut Vec<u8>, reducers: &[Reducer], totals: &[Total]) -> Result<(), Fault>
     ensures ok { Grows text.old text.new (texts.totals_text reducers.now totals.now) result }
     ensures why { IfErr result (λ e. e ≡ Fault.Memory) }
@@ -66,7 +74,7 @@ fn push_reducer(text: &mut Vec<u8>, reducer: &Reducer, total: Total) -> Result<(
     Ok(())
 }
 
-// How a reducer reduces, with a space behind it.
+// Returns the word for a reduction, followed by a space.
 fn word_of(how: Reduction) -> &'static [u8]
     ensures { result.now ≡ reduction_word how }
 {
@@ -76,7 +84,7 @@ fn word_of(how: Reduction) -> &'static [u8]
     }
 }
 
-// Adds a total, and the end of its line.
+// Adds a total and the end of its line.
 fn push_total(text: &mut Vec<u8>, total: Total) -> Result<(), Fault>
     ensures ok { Grows text.old text.new (total_line total) result }
     ensures why { IfErr result (λ e. e ≡ Fault.Memory) }

@@ -1,4 +1,4 @@
-//! The one loop that writes a text to a sink, and the line of a fault.
+//! The loop that writes every text to a sink, and the line of a fault.
 
 ghost use Rattle.std.specs.Prelude.{◌≡◌, [], ◌<◌, ◌-◌, ◌^◌, ◌++◌, codes, decimal};
 ghost use Rattle.cw_text.specs.Faults.{fault_text};
@@ -9,12 +9,14 @@ use crate::sink::Sink;
 use cw_text::Fault;
 use itoa::Buffer;
 
-/// Writes the whole text. With no text the sink is left alone.
+/// Writes the whole text. If the text is empty, the sink is not called.
 ///
-/// The error is `Write` where a write failed or took no byte: the sink took a beginning of the text,
-/// and counts one more failed write.
+/// Requires that fewer than 2^64 - 1 writes to the sink failed before.
 ///
-/// It asks that fewer than 2^64 - 1 writes to the sink failed before.
+/// # Errors
+///
+/// `Fault::Write` if a write failed or took no byte. The sink took a prefix of the text, and counts one more failed
+/// write.
 pub fn write_text<W: Sink>(to: &mut W, text: &[u8]) -> Result<(), Fault>
     requires { (W.seen to.old).failures < 2 ^ 64 - 1 }
     ensures idle { text.now ≡ [] → to.new ≡ to.old }
@@ -31,10 +33,13 @@ pub fn write_text<W: Sink>(to: &mut W, text: &[u8]) -> Result<(), Fault>
     Ok(())
 }
 
-/// Writes the line of a fault, with its line feed, as `write_text` writes and with its error. No
-/// memory is taken.
+/// Writes the line of a fault, with its line feed. Allocates nothing.
 ///
-/// It asks that fewer than 2^64 - 1 writes to the sink failed before.
+/// Requires that fewer than 2^64 - 1 writes to the sink failed before.
+///
+/// # Errors
+///
+/// The error of `write_text`.
 pub fn write_fault<W: Sink>(to: &mut W, fault: &Fault) -> Result<(), Fault>
     requires { (W.seen to.old).failures < 2 ^ 64 - 1 }
     ensures { Writes (W.seen to.old) (W.seen to.new) (fault_text fault.now ++ codes "\n") result }
@@ -55,7 +60,7 @@ pub fn write_fault<W: Sink>(to: &mut W, fault: &Fault) -> Result<(), Fault>
     }
 }
 
-// The line of a trap.
+// Writes the line of a trap.
 fn write_trap<W: Sink>(to: &mut W, number: u32, line: u32) -> Result<(), Fault>
     requires { (W.seen to.old).failures < 2 ^ 64 - 1 }
     ensures { Writes (W.seen to.old) (W.seen to.new) (trap_line number line) result }
@@ -64,7 +69,7 @@ fn write_trap<W: Sink>(to: &mut W, number: u32, line: u32) -> Result<(), Fault>
     write_line(to, b" line ", line)
 }
 
-// A number after some text, and a line feed.
+// Writes a text, then a number and a line feed.
 fn write_line<W: Sink>(to: &mut W, front: &[u8], number: u32) -> Result<(), Fault>
     requires { (W.seen to.old).failures < 2 ^ 64 - 1 }
     ensures { Writes (W.seen to.old) (W.seen to.new) (line_after front.now number) result }
@@ -73,7 +78,7 @@ fn write_line<W: Sink>(to: &mut W, front: &[u8], number: u32) -> Result<(), Faul
     write_text(to, b"\n")
 }
 
-// A number after some text.
+// Writes a text, then a number.
 fn write_number<W: Sink>(to: &mut W, front: &[u8], number: u32) -> Result<(), Fault>
     requires { (W.seen to.old).failures < 2 ^ 64 - 1 }
     ensures { Writes (W.seen to.old) (W.seen to.new) (front.now ++ decimal number) result }

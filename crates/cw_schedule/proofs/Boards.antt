@@ -1,4 +1,4 @@
--- What a board shows once a strand is put on it, is taken off, or waits or runs where it did not.
+-- The slots that a board represents after a strand is added, removed, stopped or started.
 use Rattle.std.proofs.Common.{◌≡◌, ℕ, zero, suc, ◌+◌, ◌-◌, ◌≤◌, ◌<◌, [], ◌∷◌, Option, Some, None, length, length-set, set, get_or-set_same, get_or-set_other, arith, refl, ap, sym, ◌∙◌, subst}
 use Rattle.std.proofs.lemmas.List.{set-set, set-get_or, ext_get_or}
 use Rattle.std.proofs.lemmas.Option.{same_Some}
@@ -15,7 +15,7 @@ use Rattle.cw_schedule.proofs.Jumps.{zero_left, zero_right}
 use Rattle.cw_schedule.proofs.Parts.{zero_second}
 use Rattle.cw_schedule.proofs.Releasing.{by_same, by_less}
 
--- one place
+-- one place of two lists
 
 pub unset_here : (xs : Slots) (p : ℕ) → left_at (set xs p None) p ≡ None
 unset_here [] p = refl
@@ -61,7 +61,7 @@ none_from_last p xs h k m = by_same k p
 pub none_before_set : (b p : ℕ) (a : Option ℕ) (xs : Slots) → NoneBefore b xs → b ≤ p → NoneBefore b (set xs p a)
 none_before_set b p a xs h l k m = get_or-set_other xs p k a None (λ s. omega (arith, s, l, m)) ∙ h k m
 
--- both lists
+-- both lists lowered
 
 long : (n : ℕ) (r w : Slots) → length r ≡ length w → length (lowered n r) ≡ length w
 long n r w e = omega (arith, length-lowered n r, e)
@@ -78,14 +78,14 @@ unset_shown n p r w e l = ap (λ zs. over zs w) (lowered-set n p None r) ∙ ove
 pub waiting_shown : (n p : ℕ) (a : Option ℕ) (r w : Slots) → length r ≡ length w → left_at r p ≡ None → over (lowered n r) (set w p a) ≡ set (over (lowered n r) w) p a
 waiting_shown n p a r w e l = over_set_second (lowered n r) w p a (long n r w e) (lowered_of_none n p r l)
 
--- what is left of one that runs
+-- the slot of a running strand
 pub running_left : (n p e : ℕ) (r w : Slots) → length r ≡ length w → left_at r p ≡ Some e → left_at (over (lowered n r) w) p ≡ Some (e - n)
 running_left n p e r w l at = over_at_first (lowered n r) w p (e - n) (long n r w l) (left_at-lowered n p r ∙ ap (λ a. minus a n) at)
 
 pub waiting_left : (n p : ℕ) (r w : Slots) → length r ≡ length w → left_at r p ≡ None → left_at (over (lowered n r) w) p ≡ left_at w p
 waiting_left n p r w l at = over_at_second (lowered n r) w p (long n r w l) (lowered_of_none n p r at)
 
--- one that ran waits
+-- a strand that ran and now waits keeps its slot
 pub stopped_shown : (n p e : ℕ) (r w : Slots) → length r ≡ length w → left_at r p ≡ Some e → left_at w p ≡ None
     → over (lowered n (set r p None)) (set w p (Some (e - n))) ≡ over (lowered n r) w
 stopped_shown n p e r w l at free =
@@ -94,7 +94,7 @@ stopped_shown n p e r w l at free =
     ∙ ap (λ ys. set ys p (Some (e - n))) (unset_shown n p r w l free) ∙ set-set zs p None (Some (e - n))
     ∙ own zs p (Some (e - n)) (running_left n p e r w l at)
 
--- one that waited is taken off, and put on again
+-- a strand that waited is removed and added again
 pub started_shown : (n p k : ℕ) (r w : Slots) → length r ≡ length w → left_at r p ≡ None → left_at w p ≡ Some k
     → set (over (lowered n r) (set w p None)) p (Some k) ≡ over (lowered n r) w
 started_shown n p k r w l at free =
@@ -102,9 +102,9 @@ started_shown n p k r w l at free =
     ap (λ ys. set ys p (Some k)) (waiting_shown n p None r w l at) ∙ set-set zs p None (Some k)
     ∙ own zs p (Some k) (waiting_left n p r w l at ∙ free)
 
--- the time
+-- changes of the time
 
--- an earlier time shows the same
+-- a board with an earlier time represents the same slots
 pub timed : (b : Board) (n : ℕ) (r : Slots) → Keeps b → EndFrom n r → lowered n r ≡ lowered b.time b.running
     → Keeps (record { running = r; count = b.count; time = n; waiting = b.waiting; border = b.border; places = b.places })
 timed b n r h ends e = record {
@@ -123,7 +123,7 @@ least_shown b h =
     (λ k l. lowered_of_none b.time k b.running (h.before k l)) h.behind
     ∙ ap (λ a. lesser a (least_slot b.waiting)) (least-lowered b.time b.running)
 
--- those before a place are lowered, and the others as they were
+-- the slots before a place are lowered, and the others are unchanged
 pub record Lowers (by place : ℕ) (was now : Slots) : Type 0 where
   pub long : length now ≡ length was
   pub first : (k : ℕ) → k < place → left_at now k ≡ left_at (lowered by was) k
@@ -144,7 +144,7 @@ pub all_lowered : (by : ℕ) (was now : Slots) → Lowers by (length was) was no
 all_lowered by was now h =
     ext_get_or None now (lowered by was) (omega (arith, h.long, length-lowered by was)) (λ k l. h.first k (omega (arith, l, h.long)))
 
--- a board as it is
+-- lemmas on the invariant of a board
 
 pub same_length : (b : Board) → Keeps b → length b.running ≡ length b.waiting
 same_length b h = h.running ∙ sym h.waiting
@@ -173,7 +173,7 @@ some_none e n = absurd (differ e n)
     differ : {a : Option ℕ} {k : ℕ} → a ≡ Some k → a ≡ None → ⊥
     differ e n = cc
 
--- what runs stands before the border, and what waits does not
+-- running strands are before the border, and waiting ones are not
 below_border : (b : Board) (p e : ℕ) → Keeps b → left_at b.running p ≡ Some e → p < b.border
 below_border b p e h at = by_less p b.border (λ l. l) (λ l. some_none at (h.before p l))
 
@@ -186,7 +186,7 @@ above_border b p k h at = by_less p b.border (λ l. some_none at (h.behind p l))
 pub none_runs : (b : Board) (p k : ℕ) → Keeps b → left_at b.waiting p ≡ Some k → left_at b.running p ≡ None
 none_runs b p k h at = h.before p (above_border b p k h at)
 
--- the least
+-- the minimum
 
 room_of_ends : (t : ℕ) (xs : Slots) (a : Option ℕ) → EndFrom t xs → least_slot xs ≡ a → HasRoom t a
 room_of_ends t xs None h e = tt
@@ -217,7 +217,7 @@ done_which b h e n =
     zero_second (minus (least_slot b.running) b.time) (least_slot b.waiting) (sym (least_shown b h) ∙ e)
     (λ z. n (ends_now b.time (least_slot b.running) (room_of_ends b.time b.running (least_slot b.running) h.ends refl) z))
 
--- a jump
+-- jumps of the running strands
 
 pub jump_some : (p : ℕ) (b : Board) → Keeps b → Full p b → 1 ≤ p → 1 ≤ ready_slots (shown b) → least_slot b.running ≡ None → ⊥
 jump_some p b h f l some e =
@@ -255,7 +255,7 @@ jumped e b h at = record {
   ends = least_ends e b.running at;
 }
 
--- a board of which no strand is ready
+-- a board without a ready strand
 
 pub new_keeps : (n : ℕ) (r w : Slots) → r ≡ nones n → w ≡ nones n → Keeps (record { running = r; count = 0; time = 0; waiting = w; border = n; places = n })
 new_keeps n r w e d = record {
@@ -272,7 +272,7 @@ pub new_shown : (n : ℕ) (r w : Slots) → r ≡ nones n → w ≡ nones n → 
 new_shown n r w e d =
     over_none (lowered 0 r) w (omega (arith, length-lowered 0 r, ap length e, ap length d)) (ready-lowered 0 r ∙ ap ready_slots e ∙ ready_nones n) ∙ d
 
--- a strand runs, ends, or waits
+-- a strand runs, ends or waits
 
 pub started : (b : Board) (p k : ℕ) (r : Slots) → Keeps b → p < b.border → r ≡ set b.running p (Some (b.time + k))
     → Keeps (record { running = r; count = b.count + one_if_none (left_at b.running p); time = b.time; waiting = b.waiting; border = b.border; places = b.places })
@@ -288,7 +288,7 @@ started b p k r h l e =
       ends = subst (EndFrom b.time) (sym e) (ends_set b.time p (b.time + k) b.running h.ends (omega arith) w);
     }
 
--- there is room to count one more
+-- there is room to count one more strand
 pub count_fits : (b : Board) (p : ℕ) → Keeps b → p < b.border → b.count + one_if_none (left_at b.running p) ≤ b.places
 count_fits b p h l =
     let w : p < length b.running = omega (arith, l, h.within, h.running) in
@@ -330,7 +330,7 @@ stopped b p e r w h at none s d =
           ∙ stopped_shown b.time p e b.running b.waiting (same_length b h) at (none_waits b p e h at);
     }
 
--- the first that waited is taken off and put on again
+-- the first waiting strand is removed and added again
 pub picked_shown : (b : Board) (p k : ℕ) (w : Slots) → Keeps b → left_at b.waiting p ≡ Some k → w ≡ set b.waiting p None
     → set (over (lowered b.time b.running) w) p (Some k) ≡ shown b
 picked_shown b p k w h at d =

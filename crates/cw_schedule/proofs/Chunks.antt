@@ -1,4 +1,4 @@
--- The codes of entries and of chunks, the next one apart.
+-- The codes of entries and of chunks, split at the next one.
 use Rattle.std.proofs.Common.{◌≡◌, ◌≤◌, ◌<◌, ◌+◌, ℕ, List, [], ◌∷◌, ◌++◌, length, arith, refl, ap, sym, ◌∙◌, drop, get_or}
 use Rattle.std.specs.Global.{Vec}
 use Rattle.std.proofs.lemmas.List.{append_assoc, drop_more}
@@ -27,7 +27,7 @@ next_chunk chunks i chunk entries l is e =
     ∙ ap (λ (v : Vec Entry). codes_of_entries v.items ++ later) (sym is)
     ∙ ap (λ (es : List Entry). codes_of_entries es ++ later) (sym e)
 
--- their instructions
+-- the instructions of a chunk
 instructions_of_cut : (c : Cut) (codes : List Code) → instructions (code_of_cut c ++ codes) ≡ instructions codes
 instructions_of_cut cut.Nothing codes = refl
 instructions_of_cut (cut.Spawned first) codes = refl
@@ -56,7 +56,7 @@ pub sum_chunk : (chunks : List (Vec Entry)) (i : ℕ) (chunk : Vec Entry) (entri
 sum_chunk chunks i chunk entries l is e =
     ap instructions (next_chunk chunks i chunk entries l is e) ∙ instructions-append (codes_of_entries entries) (codes_of_chunks (drop (i + 1) chunks))
 
--- their spawns
+-- the spawns of a chunk
 pub spawned-append : (a b : List Code) → spawned (a ++ b) ≡ spawned a + spawned b
 spawned-append [] b = omega arith
 spawned-append (Instructions n ∷ a) b = spawned-append a b

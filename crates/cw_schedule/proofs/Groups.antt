@@ -1,4 +1,4 @@
--- Groups of a row, and the row of their leasts.
+-- Groups of a row, and the row of their minima.
 use Rattle.std.proofs.Common.{◌≡◌, ◌≢◌, ℕ, zero, suc, ◌+◌, ◌-◌, ◌*◌, ◌/◌, ◌≤◌, ◌<◌, [], ◌∷◌, Option, Some, None, length, length-drop, take, drop, length-take}
 use Rattle.std.proofs.Common.{take-append-drop, set, length-set, get_or-set_same, get_or-set_other, get_or-take, get_or-drop, arith, refl, ap, sym, ◌∙◌, subst}
 use Rattle.std.specs.Prelude.{min}
@@ -13,14 +13,14 @@ use Rattle.cw_schedule.proofs.Slots.{least-append, least_of_none, length-nones, 
 use Rattle.cw_schedule.proofs.Over.{none_ready}
 use Rattle.cw_schedule.proofs.Releasing.{by_less, by_same}
 
--- a row where it is known
+-- the invariant of a row that equals a known row
 pub opened : {r s : Row} → IsRows r → r ≡ s → IsRows s
 opened h e = subst IsRows e h
 
 pub opened_numbers : {r s : Row} {v : Slots} → numbers_of r ≡ v → r ≡ s → numbers_of s ≡ v
 opened_numbers h e = ap numbers_of (sym e) ∙ h
 
--- the least number, and where it stands
+-- the minimum, and its place
 
 least-cons : (a : Option ℕ) (xs : Slots) → least_slot (a ∷ xs) ≡ lesser a (least_slot xs)
 least-cons None xs = refl
@@ -56,7 +56,7 @@ stands_somewhere (Some j ∷ xs) m e =
     (λ s. (0, (omega arith, ap Some s)))
     (λ s. has_more (Some j) xs m (stands_somewhere xs m s))
 
--- a number of the first ones is one of all
+-- a number among the first ones is in the whole list
 at_first : (n k m : ℕ) (xs : Slots) → left_at (take n xs) k ≡ Some m → left_at xs k ≡ Some m
 at_first zero k m xs e = cc
 at_first (suc n) k m [] e = cc
@@ -68,7 +68,7 @@ within [] k m e = cc
 within (x ∷ xs) zero m e = omega arith
 within (x ∷ xs) (suc k) m e = omega (arith, within xs k m e)
 
--- groups
+-- lemmas on groups
 
 pub stands_in_group : (xs : Slots) (g m : ℕ) → least_slot (group xs g) ≡ Some m → HasFrom (8 * g) m xs
 stands_in_group xs g m e =
@@ -82,7 +82,7 @@ none_in_group xs g k e l h =
     ap (left_at xs) s ∙ sym (get_or-drop (8 * g) xs i None) ∙ sym (get_or-take 8 (drop (8 * g) xs) i None (omega (arith, l, h)))
     ∙ none_at (group xs g) i e
 
--- a group that another place is in
+-- setting a place leaves every other group unchanged
 group_other : (xs : Slots) (g p : ℕ) (a : Option ℕ) → g ≢ p / 8 → group (set xs p a) g ≡ group xs g
 group_other xs g p a n =
     by_less p (8 * g)
@@ -93,7 +93,7 @@ group_other xs g p a n =
     let far : 8 ≤ i = by_less i 8 (λ l. absurd (n (omega (arith, h, l)))) (λ l. l) in
     ap (λ q. take 8 (drop (8 * g) (set xs q a))) s ∙ ap (take 8) (drop-set-add (8 * g) xs i a) ∙ take-set-le 8 (drop (8 * g) xs) i a far)
 
--- a number where there was none
+-- a number is set at a place that had none
 
 least_put : (xs : Slots) (i : ℕ) (a : Option ℕ) → i < length xs → left_at xs i ≡ None → least_slot (set xs i a) ≡ lesser (least_slot xs) a
 least_put [] i a h e = absurd (omega (arith, h))
@@ -122,7 +122,7 @@ group_put xs p a h e =
     ∙ least_put (group xs g) i a (omega (arith, length-take 8 ys, length-drop (8 * g) xs, h))
     (get_or-take 8 ys i None few ∙ get_or-drop (8 * g) xs i None ∙ ap (left_at xs) (sym s) ∙ e)
 
--- the row above is that of the leasts
+-- the row above holds the minima
 
 pub leasts_set : (xs above : Slots) (p : ℕ) (a least : Option ℕ) → Leasts xs above → p < length xs → least ≡ least_slot (group (set xs p a) (p / 8))
     → Leasts (set xs p a) (set above (p / 8) least)
@@ -166,7 +166,7 @@ ready_above xs above h some =
     (λ l. absurd (omega (arith, some, ready_none xs (sym (least_above xs above h) ∙ least_of_none above (omega (arith, l))))))
     (λ l. l)
 
--- no numbers
+-- rows without numbers
 
 few_taken : (n : ℕ) (xs : Slots) → ready_slots xs ≡ 0 → ready_slots (take n xs) ≡ 0
 few_taken n xs e = omega (arith, e, ready-append (take n xs) (drop n xs), ap ready_slots (take-append-drop n xs))
@@ -209,7 +209,7 @@ some_before xs end some h =
     (λ l. absurd (omega (arith, some, none_ready xs (λ k m. h k (omega (arith, l))))))
     (λ l. l)
 
--- where none is at a place, and none behind it
+-- no number at a place and none after it
 pub none_from : (xs : Slots) (p : ℕ) → left_at xs p ≡ None → NoneFrom (1 + p) xs → NoneFrom p xs
 none_from xs p e h k l =
     by_same k p

@@ -7,7 +7,7 @@ use Rattle.cw_schedule.specs.Boards.{lesser, least_slot, least_first, HasRoom}
 use Rattle.cw_schedule.proofs.Slots.{first-none}
 use Rattle.cw_schedule.proofs.Parts.{room_less, room_rest}
 
--- the first ones have room for the least of them
+-- the first strands have at least the minimum left
 room_within : (p n : ℕ) (xs : Slots) → HasRoom n (least_first p xs) → RoomFor p n xs
 room_within p n [] h = tt
 room_within p n (None ∷ xs) h = room_within p n xs h
@@ -34,7 +34,7 @@ by_le zero b f g = f (omega arith)
 by_le (suc a) zero f g = g (omega arith)
 by_le (suc a) (suc b) f g = by_le a b (λ h. f (omega (arith, h))) (λ h. g (omega (arith, h)))
 
--- one of them has just that left
+-- one of the first strands has exactly the minimum left
 done_here : (p n k : ℕ) (xs : Slots) (a : Option ℕ) → least_first p xs ≡ a → lesser (Some k) a ≡ Some n →
     ((m : ℕ) → least_first p xs ≡ Some m → least_slot (run_slots p m xs) ≡ Some 0) → lesser (Some (k - n)) (least_slot (run_slots p n xs)) ≡ Some 0
 done_here p n k xs None e h f =
@@ -60,14 +60,14 @@ not_none : (k : ℕ) (a : Option ℕ) → lesser (Some k) a ≡ None → ⊥
 not_none k None e = cc
 not_none k (Some m) e = cc
 
--- where a strand is ready, one of the first is
+-- if a strand is ready, one of the first strands is
 pub some_first : (p : ℕ) (xs : Slots) → 1 ≤ p → 1 ≤ ready_slots xs → least_first p xs ≡ None → ⊥
 some_first p [] h r e = omega (arith, r)
 some_first p (None ∷ xs) h r e = some_first p xs h r e
 some_first zero (Some k ∷ xs) h r e = omega (arith, h)
 some_first (suc p) (Some k ∷ xs) h r e = not_none k (least_first (suc p - 1) xs) e
 
--- where none is done, each has something left
+-- if no strand is done, each has an instruction left
 pub each_left : (xs : Slots) → (least_slot xs ≡ Some 0 → ⊥) → EachLeft xs
 each_left [] h = tt
 each_left (None ∷ xs) h = each_left xs h

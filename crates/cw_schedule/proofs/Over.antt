@@ -1,4 +1,4 @@
--- Two lists of strands, of which one is over the other.
+-- Lists of slots that are laid one over the other.
 use Rattle.std.proofs.Common.{◌≡◌, ℕ, zero, suc, ◌+◌, ◌-◌, ◌≤◌, ◌<◌, [], ◌∷◌, Option, Some, None, length, set, arith, refl, ap, sym, ◌∙◌, subst}
 use Rattle.cw_greedy.specs.Slots.{Slots, ready_slots, run_slots}
 use Rattle.cw_schedule.specs.Boards.{left_at, lowered, minus, lesser, least_slot, least_first, over, one_if_none, EndFrom, HasRoom, NoneFrom, NoneBefore}
@@ -54,7 +54,7 @@ none_ready [] h = refl
 none_ready (None ∷ xs) h = none_ready xs (λ k l. h (suc k) (omega arith))
 none_ready (Some m ∷ xs) h = let e = h 0 (omega arith) in cc
 
--- each has the least left
+-- each strand has at least the minimum left
 pub room_at : (n k m : ℕ) (xs : Slots) → HasRoom n (least_slot xs) → left_at xs k ≡ Some m → n ≤ m
 room_at n k m [] h e = cc
 room_at n zero m (None ∷ xs) h e = cc
@@ -134,7 +134,7 @@ ready_over (None ∷ xs) (Some j ∷ ys) e = omega (arith, ready_over xs ys (ome
 ready_over (Some m ∷ xs) (None ∷ ys) e = omega (arith, ready_over xs ys (omega (arith, e)))
 ready_over (Some m ∷ xs) (Some j ∷ ys) e = omega (arith, ready_over xs ys (omega (arith, e)))
 
--- where the first list has strands before a border alone, and the second from there on
+-- the first list has strands only before a border, and the second only from there on
 
 rest_from : (b : ℕ) (x : Option ℕ) (xs : Slots) → NoneFrom (suc b) (x ∷ xs) → NoneFrom b xs
 rest_from b x xs h k l = h (suc k) (omega (arith, l))
@@ -160,7 +160,7 @@ least_over (suc b) (Some k ∷ xs) (None ∷ ys) e f g =
     ap (lesser (Some k)) (least_over b xs ys (omega (arith, e)) (rest_from b (Some k) xs f) (rest_before b None ys g))
     ∙ sym (lesser-regroup (Some k) (least_slot xs) (least_slot ys))
 
--- of a list of which either none or no more run
+-- a list of which no strand runs: no processor is left for it, or no strand is ready
 first_of_few : (p : ℕ) (ys : Slots) → (0 < p → ready_slots ys ≡ 0) → least_first p ys ≡ None
 first_of_few zero ys h = first-none ys
 first_of_few (suc p) ys h = let z = h (omega arith) in first-all (suc p) ys (omega (arith, z)) ∙ least_of_none ys z

@@ -1,4 +1,4 @@
--- What two parts of a list show together.
+-- The slots of a list that has two parts.
 use Rattle.std.proofs.Common.{◌≡◌, ℕ, zero, suc, ◌+◌, ◌≤◌, [], ◌∷◌, ◌++◌, Option, Some, None, length, arith, refl, ap, ◌∙◌, set}
 use Rattle.std.specs.Prelude.{min, slice_get}
 use Rattle.std.proofs.lemmas.Option.{same_Some}
@@ -13,7 +13,7 @@ pub room_rest : (n k : ℕ) (a : Option ℕ) → HasRoom n (lesser (Some k) a) �
 room_rest n k None h = tt
 room_rest n k (Some m) h = omega (arith, h)
 
--- of which nothing is left is in the second part, if not in the first
+-- a strand that has no instruction left and is not in the first part is in the second
 pub zero_second : (a b : Option ℕ) → lesser a b ≡ Some 0 → (a ≡ Some 0 → ⊥) → b ≡ Some 0
 zero_second None b e f = e
 zero_second (Some a) None e f = absurd (f e)

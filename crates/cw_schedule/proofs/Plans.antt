@@ -1,4 +1,4 @@
--- A plan follows the block that codes are read as.
+-- A planning follows the block that codes represent.
 use Rattle.std.proofs.Common.{◌≡◌, ℕ, ◌+◌, ◌-◌, Bool, true, false, List, [], ◌∷◌, ◌++◌, Option, Some, None, length}
 use Rattle.std.proofs.Common.{length-append, append_assoc, arith, set, refl, ap, sym, ◌∙◌, subst}
 use Rattle.std.proofs.lemmas.List.{set_at, get_or_at, same_from_push}
@@ -14,7 +14,7 @@ use Rattle.cw_schedule.specs.declared.plan.Planning.{Planning}
 use Rattle.cw_schedule.specs.Reading.{Frame, InChild, InRest, add_at_end, fork_at_end, joined, after_join, read}
 use Rattle.cw_schedule.specs.Planned.{strand, first_weight, behind_first, strands_of, begins_of, strands_before, is_first, open_at, opens_of, patched, Continues, Joins, Plans, Makes}
 
--- the last strand with more instructions
+-- a strand with more instructions
 abbrev more : ℕ → Strand → Strand
 more n s = strand (s.weight + n) s.begins
 
@@ -64,7 +64,7 @@ fork_strands begins (Fork k d q a) c r =
     ∙ ap (λ (l : List Strand). strand k begins ∷ (s ++ l)) (sym (append_assoc t (strands_of Sync a) z))
     ∙ ap (λ (l : List Strand). strand k begins ∷ l) (sym (append_assoc s (t ++ strands_of Sync a) z))
 
--- the strand at the end of a list begins otherwise
+-- the strand at the end of a list begins in another way
 patched_at : (pre : List Strand) (begins begins' : Begins) (b : Block) (at : ℕ) → at ≡ length pre →
     patched (pre ++ strands_of begins b) at begins' ≡ pre ++ strands_of begins' b
 patched_at pre begins begins' b at e =
@@ -140,7 +140,7 @@ one_joined frames first b child block p p' at is h e f g =
       spawns = g;
     }
 
--- a plan that makes a block goes on making it
+-- a planning that makes a block still makes it after more instructions
 pub makes_work : (block : Block) (n : ℕ) (codes : List Code) (p p' : Planning) → Makes block (Instructions n ∷ codes) p → p'.strands.items ≡ p.strands.items →
     p'.last ≡ strand (p.last.weight + n) p.last.begins → p'.spawns.items ≡ p.spawns.items → Makes block codes p'
 makes_work block n codes p p' h e f g = record {
@@ -165,7 +165,7 @@ pub makes_end : (block : Block) (codes : List Code) (p p' : Planning) → Makes 
     ((outer : List Open) (at : ℕ) (first : Bool) → p.spawns.items ≡ outer ++ open_at at first ∷ [] → Continues p p' outer at first) → Makes block codes p'
 makes_end block codes p p' h f = end_of codes block p p' h.frames h.begun h.plans h.reads f
 
--- a plan with all codes read has the strands of its block
+-- a planning with all codes read has the strands of its block
 made : (block : Block) (p : Planning) (frames : List Frame) (begun : Block) → Plans frames begun p → read [] frames begun ≡ Some block →
     p.strands.items ++ p.last ∷ [] ≡ strands_of Start block
 made block p [] begun h e = h.strands ∙ ap (strands_of Start) (same_Some begun block e)
@@ -174,7 +174,7 @@ made block p (frame ∷ frames) begun h e = absurd (none-some block e)
 pub makes_all : (block : Block) (p : Planning) → Makes block [] p → p.strands.items ++ p.last ∷ [] ≡ strands_of Start block
 makes_all block p h = made block p h.frames h.begun h.plans h.reads
 
--- one join of several: the last one, or the others are left
+-- one join of several: it is the last one, or others are left
 abbrev pub Left : (first : Bool) → (end : List Frame × Block) → Planning → Type 0
 Left true end p = Plans end.0 end.1 p
 Left false end p = Joins end p
@@ -200,7 +200,7 @@ pub joins_step : (end : List Frame × Block) (p p' : Planning) (outer : List Ope
     p'.last ≡ strand 0 Sync → p'.spawns.items ≡ outer → Left top.first end p'
 joins_step end p p' outer top h s a b d = step end p p' outer top h.frames h.begun h.plans h.joins s a b d
 
--- a plan that joins has an open spawn
+-- a planning that joins has an open spawn
 open_spawn : (end : List Frame × Block) (p : Planning) (frames : List Frame) (begun : Block) → Plans frames begun p → joined frames begun ≡ Some end → length p.spawns.items ≡ 0 → ⊥
 open_spawn end p [] begun h e s = none-some end e
 open_spawn end p (frame ∷ frames) begun h e s =
@@ -210,7 +210,7 @@ open_spawn end p (frame ∷ frames) begun h e s =
 pub joins_some : (end : List Frame × Block) (p : Planning) → Joins end p → length p.spawns.items ≡ 0 → ⊥
 joins_some end p h s = open_spawn end p h.frames h.begun h.plans h.joins s
 
--- after a join the codes behind it are read
+-- after a join the remaining codes are read
 pub read_joined : (block : Block) (codes : List Code) (o : Option (List Frame × Block)) → after_join (λ more later. read codes more later) o ≡ Some block →
     (end : List Frame × Block) × ((o ≡ Some end) × (read codes end.0 end.1 ≡ Some block))
 read_joined block codes None e = absurd (none-some block e)

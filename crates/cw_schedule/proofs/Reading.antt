@@ -10,7 +10,7 @@ use Rattle.cw_greedy.specs.Counts.{spawns_in}
 use Rattle.cw_schedule.proofs.Chunks.{instructions-append, spawned-append}
 use Rattle.cw_schedule.specs.Reading.{Frame, InChild, InRest, add_at_end, fork_at_end, joined, after_join, read, instructions, spawned}
 
--- a tree at the end of a block
+-- a tree added at the end of a block
 abbrev at_end : Block → Tree → Block
 at_end (Last k) t = add_before k (put_before t (Last 0))
 at_end (Fork k c r a) t = Fork k c r (at_end a t)
@@ -54,7 +54,8 @@ end_marked (Fork k c r a) mark t = ap (Fork k c r) (end_marked a mark t)
 end_of_none : (t : Tree) → at_end (Last 0) t ≡ block_of t
 end_of_none t = none_before (put_before t (Last 0))
 
--- a tree is read at the end of the block that has begun; one at the end of a rest, before the join
+-- reading the codes of a tree adds the tree at the end of the block that has begun; for a tree at the end of a
+-- continuation, before the join
 abbrev Reads : Stands → Tree → Type 0
 Reads InSeries t = (codes : List Code) (frames : List Frame) (b : Block) → read (codes_of InSeries t ++ codes) frames b ≡ read codes frames (at_end b t)
 Reads AsChild t = (codes : List Code) (frames : List Frame) (b : Block) → read (codes_of AsChild t ++ codes) frames b ≡ read codes frames (at_end b t)
@@ -119,7 +120,7 @@ reads (Marked (Invocation site) t) AsRest = λ codes frames b. read_call t (Invo
 reads (Marked (Execution tag) t) AsRest = λ codes frames b.
     reads t InSeries (Joined ∷ codes) frames b ∙ ap (read (Joined ∷ codes) frames) (sym (end_marked b (Execution tag) t))
 
--- codes are read as they are merged
+-- merged codes represent the same block
 add_none : (b : Block) → add_at_end b 0 ≡ b
 add_none (Last k) = let e : k + 0 ≡ k = omega arith in ap Last e
 add_none (Fork k c r a) = ap (Fork k c r) (add_none a)
@@ -153,7 +154,7 @@ reads_merged (Joined ∷ codes) frames b =
     same_after (λ more later. read (merged codes) more later) (λ more later. read codes more later) (reads_merged codes) (joined frames b)
 reads_merged (Called ∷ codes) frames b = reads_merged codes frames b
 
--- the instructions are those of the tree
+-- the codes have the instructions of the tree
 sum_before : (n : ℕ) (codes : List Code) → instructions (instructions_before n codes) ≡ n + instructions codes
 sum_before zero codes = omega arith
 sum_before (suc n) [] = refl
@@ -191,7 +192,7 @@ sum_of InSeries (Marked (Invocation site) t) = sum_call (codes_of InSeries t) �
 sum_of AsRest (Marked (Execution tag) t) = sum_of InSeries t
 sum_of AsRest (Marked (Invocation site) t) = sum_call (codes_of InSeries t) ∙ sum_of InSeries t
 
--- what a record stands for is read, and has its work
+-- the codes of a record represent its block and have its work
 pub record_is_read : (t : Tree) (codes : List Code) → IsRecordOf t (Ok codes) → read codes [] (Last 0) ≡ Some (block_of t)
 record_is_read t codes h =
     let own = codes_of AsChild t in
@@ -202,7 +203,7 @@ record_is_read t codes h =
 pub record_has_work : (t : Tree) (codes : List Code) → IsRecordOf t (Ok codes) → instructions codes ≡ work t
 record_has_work t codes h = sym (sum_merged codes) ∙ ap instructions h ∙ sum_merged (codes_of AsChild t) ∙ sum_of AsChild t
 
--- and the children are those of the tree
+-- the codes spawn the children of the tree
 spawned_before : (n : ℕ) (codes : List Code) → spawned (instructions_before n codes) ≡ spawned codes
 spawned_before zero codes = refl
 spawned_before (suc n) [] = refl

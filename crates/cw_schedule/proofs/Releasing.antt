@@ -1,4 +1,4 @@
--- A strand of which nothing is left is taken off, and the state that follows stands on the board.
+-- Removal of a strand that has no instruction left: the board represents the next state.
 use Rattle.std.proofs.Common.{◌≡◌, ◌≢◌, ℕ, ◌+◌, ◌≤◌, ◌<◌, Bool, true, false, Option, Some, None, arith, refl, ap, sym, ◌∙◌, subst}
 use Rattle.std.specs.Prelude.{nat_lt}
 use Rattle.std.proofs.lemmas.Bool.{ltb-false, ltb-true}
@@ -19,7 +19,7 @@ S = ℕ → Option ℕ
 abbrev F : Type 0
 F = ℕ → Bool
 
--- one number is less than another, or not
+-- a case distinction: one number is less than another, or not
 pub by_less : {A : Type 0} (a b : ℕ) → (a < b → A) → (b ≤ a → A) → A
 by_less {A} a b f g = by_test (nat_lt a b) refl
   where
@@ -37,7 +37,7 @@ pub some_size : (b : Block) → 1 ≤ size b
 some_size (Last k) = omega arith
 some_size (Fork k c r a) = omega arith
 
--- what stands there is the same
+-- slots and flags are unchanged in a range
 abbrev Same : (s : S) (f : F) (s' : S) (f' : F) (o n : ℕ) → Type 0
 Same s f s' f' o n = (k : ℕ) → o ≤ k → k < o + n → (s' k ≡ s k) × (f' k ≡ f k)
 
@@ -98,7 +98,7 @@ pub plan_first : (p : ℕ → Strand) (o : ℕ) (begins : Begins) (b : Block) �
 plan_first p o begins (Last k) h = h
 plan_first p o begins (Fork k c r a) h = h.0
 
--- what is released, where it is known how the next strand begins
+-- the strands that become ready, if the start of the next strand is known
 at_fork : (p : ℕ → Strand) (s : S) (f : F) (s' : S) (f' : F) (i later : ℕ) → Releases p s f s' f' i → (p (i + 1)).begins ≡ w.Child later → Forks p s f s' f' i later
 at_fork p s f s' f' i later (v.forks n e h) d =
     let q : n ≡ later = same_later n later (sym e ∙ d) in subst (λ m. Forks p s f s' f' i m) q h
@@ -123,7 +123,7 @@ at_second p s f s' f' i join (v.forks n e h) d g = absurd (no_fork (p (i + 1)).b
 at_second p s f s' f' i join (v.arrives n e h) d g = never _ g (subst (λ m. f m ≡ false) (same_Some n join (sym e ∙ d)) h.first)
 at_second p s f s' f' i join (v.joins n e h) d g = subst (λ m. Joins p s f s' f' i m) (same_Some n join (sym e ∙ d)) h
 
--- what taking off a strand makes of a state: its end, or the next one
+-- the result of removing a strand from a state: its end, or the next state
 pub data Outcome (s : S) (f : F) (s' : S) (f' : F) (o : ℕ) (b : Block) (g : Going) (i : ℕ) : Type 0 where
   over : IsOver g → i + 1 ≡ o + size b → ((k : ℕ) → o ≤ k → k < o + size b → k ≢ i → s k ≡ None)
       → ((k : ℕ) → o ≤ k → k < o + size b → f k ≡ false) → Outcome s f s' f' o b g i
@@ -163,7 +163,7 @@ take_before p s f s' f' o n k c r a e d q pc pr z rel =
 pub by_same : {A : Type 0} (a b : ℕ) → (a ≡ b → A) → (a ≢ b → A) → A
 by_same a b f g = by_less a b (λ h. g (λ e. omega (arith, h, e))) (λ h. by_less b a (λ h'. g (λ e. omega (arith, h', e))) (λ h'. f (omega (arith, h, h'))))
 
--- a strand is gone, and beside it only one join has changed
+-- a strand is removed, and otherwise only one join has changed
 record Ended (s : S) (f : F) (s' : S) (f' : F) (i join : ℕ) : Type 0 where
   gone : s' i ≡ None
   others : (k : ℕ) → k ≢ i → k ≢ join → s' k ≡ s k
@@ -175,7 +175,7 @@ by_arrival s f s' f' i join h = record { gone = h.gone; others = λ k a b. h.oth
 by_joining : (p : ℕ → Strand) (s : S) (f : F) (s' : S) (f' : F) (i join : ℕ) → Joins p s f s' f' i join → Ended s f s' f' i join
 by_joining p s f s' f' i join h = record { gone = h.gone; others = h.others; flags = h.flags }
 
--- what is idle but for one strand, with its flags
+-- a range in which only one strand is not idle, with its flags
 record Idle (s : S) (f : F) (i o n : ℕ) : Type 0 where
   none : (k : ℕ) → o ≤ k → k < o + n → k ≢ i → s k ≡ None
   unset : (k : ℕ) → o ≤ k → k < o + n → f k ≡ false
@@ -215,7 +215,7 @@ arrived_half s f s' f' i o n h below q = record {
   others = λ k l m. h.flags k (λ u. omega (arith, u, l)) ∙ (q k (omega (arith, l)) m).1;
 }
 
--- what comes after a join begins
+-- the part after a join begins
 joined_start : (p : ℕ → Strand) (s : S) (f : F) (s' : S) (f' : F) (i o : ℕ) (a : Block) → Joins p s f s' f' i o → i < o → PlanAt p o w.Sync a →
     Half s f o (size a) → Shows s' f' o a (start a)
 joined_start p s f s' f' i o a h below pa q =
@@ -225,7 +225,7 @@ joined_start p s f s' f' i o a h below pa q =
       h.flags k (λ u. omega (arith, u, l)) ∙ q.others k l m,
     ))
 
--- which join waits behind a child, and behind a rest
+-- the join that waits after a child, and after a continuation
 join_of_rest : (p : ℕ → Strand) (i o n join : ℕ) (b : Block) → PlanAt p o (w.Continuation n) b → i + 1 ≡ o → o + n ≡ join →
     join_of (p (i + 1)).begins (i + 1) ≡ Some join
 join_of_rest p i o n join b h e d =

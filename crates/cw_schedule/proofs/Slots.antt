@@ -1,4 +1,4 @@
--- Lists of what is left, lowered, counted and run in two halves.
+-- Lists of slots, lowered, counted and run in two halves.
 use Rattle.std.proofs.Common.{◌≡◌, ℕ, zero, suc, ◌+◌, ◌-◌, ◌≤◌, [], ◌∷◌, ◌++◌, Option, Some, None, length, arith, refl, ap, sym, ◌∙◌}
 use Rattle.std.proofs.Math.ListN.{replicate}
 use Rattle.std.specs.Prelude.{min}
@@ -65,7 +65,7 @@ first-append (suc p) (Some k ∷ xs) ys =
     ap (lesser (Some k)) (first-append q xs ys ∙ ap (λ m. lesser (least_first q xs) (least_first m ys)) e)
     ∙ sym (lesser-regroup (Some k) (least_first q xs) (least_first (suc p - (1 + ready_slots xs)) ys))
 
--- where no more are ready than run
+-- the number of ready strands is at most the number of strands that run
 pub first-all : (p : ℕ) (xs : Slots) → ready_slots xs ≤ p → least_first p xs ≡ least_slot xs
 first-all p [] h = refl
 first-all p (None ∷ xs) h = first-all p xs h
@@ -85,7 +85,7 @@ run-none n (Some k ∷ xs) =
     let e : 0 - 1 ≡ 0 = omega arith in
     ap (λ q. Some k ∷ run_slots q n xs) e ∙ ap (λ (zs : Slots). Some k ∷ zs) (run-none n xs)
 
--- the second half does not run where the first has enough
+-- the second half does not run if the first half has enough strands
 pub run_first : (p n : ℕ) (xs ys : Slots) → p ≤ ready_slots xs → run_slots p n (xs ++ ys) ≡ run_slots p n xs ++ ys
 run_first p n xs ys h =
     let e : p - ready_slots xs ≡ 0 = omega (arith, h) in
@@ -107,7 +107,7 @@ least_of_none [] h = refl
 least_of_none (None ∷ xs) h = least_of_none xs h
 least_of_none (Some k ∷ xs) h = absurd (omega (arith, h))
 
--- nothing is lowered where none is ready
+-- lowering changes nothing if no strand is ready
 pub lowered-none : (by : ℕ) (xs : Slots) → least_slot xs ≡ None → lowered by xs ≡ xs
 lowered-none by [] h = refl
 lowered-none by (None ∷ xs) h = ap (λ (zs : Slots). None ∷ zs) (lowered-none by xs h)

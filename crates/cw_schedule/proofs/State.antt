@@ -1,4 +1,4 @@
--- What stands on the board while strands are taken off and steps are done.
+-- The state of the board while strands are removed and steps are executed.
 use Rattle.std.proofs.Common.{◌≡◌, ◌≢◌, ℕ, zero, suc, ◌+◌, ◌-◌, ◌≤◌, ◌<◌, Bool, true, false, List, [], ◌∷◌, ◌++◌, Option, Some, None, Ok, length}
 use Rattle.std.proofs.Common.{length-append, length-set, set, get_or, get_or-set_same, get_or-set_other, arith, refl, ap, sym, ◌∙◌, subst}
 use Rattle.std.specs.Prelude.{slice_get, replicate, ◌*◌}
@@ -29,7 +29,7 @@ use Rattle.cw_schedule.proofs.Plans.{length-strands}
 use Rattle.cw_schedule.proofs.Releasing.{Outcome, over, on, by_less, by_same, some_size, shows_start, taken, plan_first}
 use Rattle.cw_schedule.proofs.Slots.{length-nones}
 
--- a list stands in a function, from a number on
+-- a function represents a list, from an index on
 abbrev Fits : {A : Type 0} → (ℕ → A) → ℕ → List A → Type 0
 Fits f o [] = Unit {0}
 Fits f o (x ∷ xs) = (f o ≡ x) × Fits f (o + 1) xs
@@ -79,7 +79,7 @@ nones_fit f o zero h k l m = absurd (omega (arith, l, m))
 nones_fit f o (suc n) h k l m =
     by_same k o (λ e. ap f e ∙ h.0) (λ e. nones_fit f (o + 1) n h.1 k (by_less o k (λ g. omega (arith, g)) (λ g. absurd (e (omega (arith, g, l))))) (omega (arith, m)))
 
--- how long the list of a state is, also after steps
+-- the length of the list of a state, also after steps
 run_size : (l : ℕ → Option ℕ) (f : ℕ → Bool) {o : ℕ} {b : Block} {g : Going} (p n : ℕ) → Shows l f o b g → length (slots (run p n g)) ≡ size b
 run_size l f p n (v.ready o i k e d) = refl
 run_size l f p n (v.before o i k c r a e d q) = omega (arith, length-nones (size c + (size r + size a)))
@@ -128,7 +128,7 @@ shown_size l f (v.rest o i c r a y q sy ha) =
 shown_size l f (v.after o i c r a x q sx) =
     omega (arith, length-append (nones (1 + (size c + size r))) (slots x), length-nones (1 + (size c + size r)), shown_size l f sx)
 
--- the list of a state stands on the board
+-- the board represents the list of the state
 shown_fits : (l : ℕ → Option ℕ) (f : ℕ → Bool) {o : ℕ} {b : Block} {g : Going} → Shows l f o b g → Fits l o (slots g)
 shown_fits l f (v.ready o i k e d) = (e, tt)
 shown_fits l f (v.before o i k c r a e d q) = (e, fits_nones l (o + 1) (size c + (size r + size a)) (λ m h g. (q m h g).0))
@@ -169,7 +169,7 @@ shown_fits l f (v.after o i c r a x q sx) =
     let at : o + 1 + size c + size r ≡ o + length (nones t) = omega (arith, length-nones t) in
     fits_both l o (nones t) (slots x) (fits_nones l o t (λ k h g. (q k h g).0)) (fits_at l (o + 1 + size c + size r) (o + length (nones t)) (slots x) at (shown_fits l f sx))
 
--- after steps the state stands where its list does
+-- after steps the board represents the state that its list represents
 ran : (l l' : ℕ → Option ℕ) (f : ℕ → Bool) {o : ℕ} {b : Block} {g : Going} (p n : ℕ) → Shows l f o b g → Fits l' o (slots (run p n g)) → Shows l' f o b (run p n g)
 ran l l' f p n (v.ready o i k e d) h = v.ready o i _ h.0 d
 ran l l' f p n (v.before o i k c r a e d q) h =
@@ -212,7 +212,7 @@ ran l l' f p n (v.after o i c r a x q sx) h =
     (λ m u g. (nones_fit l' o t (fits_first l' o (nones t) (slots (run p n x)) h) m u g, (q m u g).1))
     (ran l l' f p n sx later)
 
--- the board shows the list of the state
+-- the board's slots are the list of the state
 stands_list : (block : Block) (g : Going) (strands : List Strand) (flags : List Bool) (xs : Slots) → Stands block g strands flags xs → xs ≡ slots g
 stands_list block g strands flags xs h =
     let n = shown_size (left_at xs) (flag_at flags) h.shows in
@@ -221,7 +221,7 @@ stands_list block g strands flags xs h =
     let e : k ≡ 0 + k = omega arith in
     ap (left_at xs) e ∙ fits_get (left_at xs) 0 (slots g) k None f (omega (arith, l, h.places, n)))
 
--- steps at once
+-- several steps at once
 pub stands_run : (block : Block) (g : Going) (strands : List Strand) (flags : List Bool) (xs xs' : Slots) (p n : ℕ) → ((g : Going) → ShowsBoard g) →
     Stands block g strands flags xs → xs' ≡ run_slots p n xs → Stands block (run p n g) strands flags xs'
 stands_run block g strands flags xs xs' p n shows h e =
@@ -235,7 +235,7 @@ stands_run block g strands flags xs xs' p n shows h e =
           (subst (λ ys. Fits (left_at ys) 0 (slots (run p n g))) (sym list) (fits_self (slots (run p n g)) None));
     }
 
--- the strands of a block stand in a function as they are planned
+-- a function represents the strands of a block as they are planned
 plan_fits : (f : ℕ → Strand) (o : ℕ) (begins : Begins) (b : Block) → Fits f o (strands_of begins b) → PlanAt f o begins b
 plan_fits f o begins (Last k) h = h.0
 plan_fits f o begins (Fork k c r a) h =
@@ -300,11 +300,11 @@ pub stands_lengths : (block : Block) (g : Going) (strands : List Strand) (flags 
 stands_lengths block g strands flags xs h =
     let n = length_planned block strands h.planned in (n, (omega (arith, n, h.flags_are), omega (arith, n, h.places)))
 
--- what is put is released
+-- the strands that are added become ready
 left_set : (xs : Slots) (i k : ℕ) (a : Option ℕ) → k ≢ i → left_at (set xs i a) k ≡ left_at xs k
 left_set xs i k a ne = get_or-set_other xs i k a None ne
 
--- a join that waits is behind the strand, and there
+-- a join that waits is after the strand, and exists
 join_in : (b : Begins) (next join count : ℕ) → Reaches b next count → join_of b next ≡ Some join → join < count
 join_in w.Start next join count r e = absurd r
 join_in (w.Child later) next join count r e = cc
@@ -391,7 +391,7 @@ over_waits (Child child ended after) h = absurd h
 over_waits (Rest ended rest after) h = absurd h
 over_waits (After ended g) h = over_waits g h
 
--- each strand that is taken off is one less
+-- each strand that is removed decreases the number of waiting strands by one
 one_waits_less : {g g' : Going} → Released g g' → waiting g' + 1 ≡ waiting g
 one_waits_less (j.forks child rest after) = omega (arith, start_waits child, start_waits rest)
 one_waits_less (j.of_child rest after r) = omega (arith, one_waits_less r)
@@ -420,7 +420,7 @@ some_on_board (Child child ended after) = some_on_board child
 some_on_board (Rest ended rest after) = some_on_board rest
 some_on_board (After ended g) = some_on_board g
 
--- a strand of which nothing is left is taken off
+-- removal of a strand that has no instruction left
 length_puts : (strands : List Strand) (next : ℕ) (flags flags' : List Bool) (ys ys' : Slots) → Puts strands next flags ys flags' ys' →
     (length ys' ≡ length ys) × (length flags' ≡ length flags)
 length_puts strands next flags flags' ys ys' (s.forks later b d q) =
@@ -457,7 +457,7 @@ takes_on block g strands flags flags' xs ys ys' i h z e l put =
     (taken (strand_at strands) (left_at xs) (flag_at flags) (left_at ys') (flag_at flags') i w.Start h.shows (plan_of block strands h.planned) (omega arith)
     (omega (arith, within, h.places)) (done_at xs i z) (λ u. rel))
 
--- the last one is taken off
+-- removal of the last strand
 last_outcome : (block : Block) (g : Going) (strands : List Strand) (flags flags' : List Bool) (xs ys' : Slots) (i : ℕ) → size block ≤ i + 1 →
     Outcome (left_at xs) (flag_at flags) (left_at ys') (flag_at flags') 0 block g i → Takes block g strands flags' ys'
 last_outcome block g strands flags flags' xs ys' i l (over o e idle unset) = s.over o
@@ -479,7 +479,7 @@ some_ready block g strands flags xs shows h =
     let e = ap ready_slots (stands_list block g strands flags xs h) in
     omega (arith, e, (shows g).counts, some_on_board g)
 
--- the loop
+-- the state of the loop
 pub data Advanced (p : ℕ) (block : Block) (taken steps : ℕ) (strands : List Strand) (flags : List Bool) (xs : Slots) : Type 0 where
   advanced : (g : Going) → Stands block g strands flags xs → waiting g + taken ≡ size block → IsAfter p steps (start block) g
       → Advanced p block taken steps strands flags xs
@@ -517,12 +517,12 @@ pub counts_all : (p : ℕ) (block : Block) (taken steps : ℕ) (strands : List S
 counts_all p block taken steps strands flags xs l (s.going g h n a) = absurd (let k = some_waits g in omega (arith, l, n, k))
 counts_all p block taken steps strands flags xs l (s.ended e d) = sym d
 
--- the steps so far are no more than all of them
+-- the steps so far are at most all steps
 pub steps_fit : (p : ℕ) (block : Block) (taken steps : ℕ) (strands : List Strand) (flags : List Bool) (xs : Slots) →
     Advanced p block taken steps strands flags xs → steps ≤ greedy_length p (to_do (start block))
 steps_fit p block taken steps strands flags xs (advanced g h n a) = omega (arith, a)
 
--- the first strand is put on an empty board
+-- the first strand is added to an empty board
 pub starts : (block : Block) (strands : List Strand) (flags : List Bool) (xs : Slots) → strands ≡ strands_of w.Start block → flags ≡ replicate (length strands) false →
     xs ≡ set (nones (length strands)) 0 (Some (strand_at strands 0).weight) → Stands block (start block) strands flags xs
 starts block strands flags xs planned e d =

@@ -1,4 +1,4 @@
--- What is told of a run by what keeps its strands.
+-- The schedule of a run that records its strands.
 use Rattle.std.proofs.Common.{◌≡◌, ◌≤◌, ◌<◌, ◌+◌, ℕ, ℤ, Bool, true, false, ◌&&◌, Ok, Err, List, ap, refl, ◌∙◌, arith}
 use Rattle.std.specs.Prelude.{IsOk, nat_le, nat_eq, length}
 use Rattle.cw_facts.specs.Tests.{first_true, second_true, le_of}
@@ -18,7 +18,7 @@ use Rattle.cw_recorded.specs.Recording.{IsKept}
 use Rattle.cw_machine.specs.Recorded.{Records}
 use Rattle.cw_schedule.specs.Schedules.{is_counted, is_asked, Ends, HasTooManyStrands, IsNotScheduled}
 
--- where a schedule is asked for the limit is in its range
+-- the limit of a valid request is in its range
 pub at_most : (code : Code) (args : List ℤ) (n processors k : ℕ) → is_asked code args n processors ≡ true → k ≤ n → k ≤ MOST_LIMIT
 at_most code args n processors k asked within =
     let low = nat_le no_burden.charge MOST_BURDEN in
@@ -27,7 +27,7 @@ at_most code args n processors k asked within =
     let most = first_true (nat_le n MOST_LIMIT) low (second_true (nat_le 1 n) (nat_le n MOST_LIMIT && low) limits) in
     omega (arith, le_of n MOST_LIMIT most, within)
 
--- why a run has no value is why it has no schedule
+-- the reason why a run has no value is the reason why it has no schedule
 pub not_scheduled : (code : Code) (args : List ℤ) (n processors : ℕ) (e : Fault) → is_asked code args n processors ≡ true → IsFailure code args n no_burden e → IsNotScheduled code args n processors e
 not_scheduled code args n processors fault.Arguments asked h = ap (λ b. is_counted processors && b) h ∙ none (is_counted processors)
   where
@@ -49,12 +49,12 @@ not_scheduled code args n processors (fault.Strands k) asked h = absurd h
 pub ends_so : (code : Code) (args : List ℤ) (n : ℕ) (kept : Recorded) (r : Records code args n kept) → Ends code args n r.tree
 ends_so code args n kept r = record { value = r.value; lines = r.lines; totals = r.totals; answer = r.answer }
 
--- what is kept of few enough strands
+-- the record of a run with few enough strands
 pub record_kept : (t : Tree) (kept : Recorded) → IsOk kept → IsKept t kept → (strand_count t ≤ MOST_STRANDS) × IsRecordOf t kept
 record_kept t (Err n) some k = cc
 record_kept t (Ok codes) some k = k
 
--- what is kept of too many
+-- the record of a run with too many strands
 many_kept : (t : Tree) (kept : Recorded) → (IsOk kept → ⊥) → IsKept t kept → (MOST_STRANDS < strand_count t) × (capped (1 + begun kept) ≡ capped (strand_count t))
 many_kept t (Err n) many k = k
 many_kept t (Ok codes) many k = absurd (many refl)

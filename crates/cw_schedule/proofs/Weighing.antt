@@ -1,4 +1,5 @@
--- The paths behind a block that codes are read as weigh what it does, and that is the span of its tree.
+-- The recorded paths have the weights of the block that codes represent. The weight of the block's path is the span of
+-- its tree.
 use Rattle.std.proofs.Common.{◌≡◌, ℕ, ◌+◌, Bool, true, false, List, [], ◌∷◌, ◌++◌, Some, length, length-append, arith, refl, ap, ap₂, sym, ◌∙◌, subst}
 use Rattle.std.specs.Prelude.{max}
 use Rattle.std.proofs.lemmas.List.{same_from_push}
@@ -14,14 +15,14 @@ use Rattle.cw_schedule.specs.Reading.{Frame, InChild, InRest, add_at_end, fork_a
 use Rattle.cw_schedule.specs.Weighed.{path_of, counted, spawn, spawn_of, spawns_of, Weighs, WillWeigh, WillJoin}
 use Rattle.cw_schedule.proofs.Plans.{read_joined}
 
--- nothing is charged at a fork
+-- no burden is charged at a fork
 span_fork : (c r : Tree) → span (Par c r) ≡ max (span c) (span r)
 span_fork c r =
     let child : 0 + span c ≡ span c = omega arith in
     let rest : 0 + span r ≡ span r = omega arith in
     ap₂ (λ (m n : ℕ). max m n) child rest
 
--- the path through a block is the span of its tree
+-- the weight of the heaviest path through a block is the span of its tree
 path_before : (k : ℕ) (b : Block) → path_of (add_before k b) ≡ k + path_of b
 path_before k (Last n) = refl
 path_before k (Fork n c r a) = omega arith
@@ -40,7 +41,7 @@ path_put (Marked mark t) b = path_put t b
 pub path_is_span : (t : Tree) → path_of (block_of t) ≡ span t
 path_is_span t = omega (arith, path_put t (Last 0))
 
--- what is added at the end of a block
+-- the path after an addition at the end of a block
 path_end : (b : Block) (n : ℕ) → path_of (add_at_end b n) ≡ path_of b + n
 path_end (Last k) n = refl
 path_end (Fork k c r a) n = omega (arith, path_end a n)
@@ -49,14 +50,14 @@ path_fork : (b c r : Block) → path_of (fork_at_end b c r) ≡ path_of b + max 
 path_fork (Last k) c r = omega arith
 path_fork (Fork k d q a) c r = omega (arith, path_fork a c r)
 
--- sums that stop at the greatest number
+-- sums that saturate at the largest number
 pub counted_sum : (a b : ℕ) → counted (counted a + b) ≡ counted (a + b)
 counted_sum a b = omega arith
 
 counted_join : (before child rest : ℕ) → counted (counted before + max (counted child) (counted rest)) ≡ counted (before + max child rest)
 counted_join before child rest = omega arith
 
--- paths that will weigh a block go on so
+-- after more instructions, the paths will still be the paths of the block
 pub weighs_work : (block : Block) (n : ℕ) (codes : List Code) (w w' : Ways) → WillWeigh block (Instructions n ∷ codes) w
     → w'.path ≡ counted (w.path + n) → w'.spawns.items ≡ w.spawns.items → WillWeigh block codes w'
 weighs_work block n codes w w' h e f = record {
@@ -103,7 +104,7 @@ pub weighs_end : (block : Block) (codes : List Code) (w w' : Ways) → WillWeigh
     → WillWeigh block codes w'
 weighs_end block codes w w' h z f = end_of block codes w w' h.frames h.begun h.weighs h.reads z f
 
--- one join of several: the last one, or the others are left
+-- one join of several: it is the last one, or others are left
 abbrev pub Left : (first : Bool) → (end : List Frame × Block) → Ways → Type 0
 Left true end w = Weighs end.0 end.1 w
 Left false end w = WillJoin end w
@@ -140,7 +141,7 @@ pub joins_step : (end : List Frame × Block) (w w' : Ways) (outer : List Spawn) 
     → Left top.first end w'
 joins_step end w w' outer top h s e f = step end w w' outer top h.frames h.begun h.weighs h.joins s e f
 
--- what will be joined has an open spawn
+-- a block that will be joined has an open spawn
 open_spawn : (end : List Frame × Block) (w : Ways) (frames : List Frame) (begun : Block) → Weighs frames begun w
     → joined frames begun ≡ Some end → length w.spawns.items ≡ 0 → ⊥
 open_spawn end w [] begun h j s = none-some end j
@@ -162,7 +163,7 @@ weighs_join block codes w w' h f =
       reads = r.1.1;
     }
 
--- with all codes read they are those of the block
+-- with all codes read, the paths are the paths of the block
 whole : (block : Block) (w : Ways) (frames : List Frame) (begun : Block) → Weighs frames begun w → read [] frames begun ≡ Some block
     → w.path ≡ counted (path_of block)
 whole block w [] begun h e = h.path ∙ ap (λ b. counted (path_of b)) (same_Some begun block e)

@@ -17,7 +17,7 @@ use Rattle.cw_strand_laws.specs.Costs.{CostsAreWork}
 use Rattle.cw_schedule.specs.Schedules as schedules
 
 module _ (code : Code) where
-  -- a run that is done comes to its end as a job
+  -- a run that is done reaches its end as a job does
   abbrev Comes : RunOutcome → Came → Type 0
   Comes (Some (Done returned left t)) c = (v : Option ℤ) × ((arrays : Slots (List ℤ)) × (c ≡ Returns v arrays t left))
   Comes (Some (Trapped trap line lines)) c = Unit {0}

@@ -1,4 +1,4 @@
--- Each row above has fewer numbers.
+-- The depth of rows is at most their length: each row above has fewer numbers.
 use Rattle.std.specs.Prelude.{◌≤◌, max, length}
 use Rattle.std.proofs.Common.{arith}
 use Rattle.cw_schedule.specs.declared.rows.Row.{Row}

@@ -1,4 +1,4 @@
--- Which run of code has a greedy schedule, what that is, and why another run has none.
+-- The greedy schedule of a run of code, and the reasons why a run has none.
 use Rattle.std.specs.Prelude.{◌≡◌, ◌≤◌, ◌<◌, ℕ, ℤ, Bool, true, false, ◌&&◌, nat_le, List, Some, Result, MatchResult}
 use Rattle.cw_model.specs.declared.total.Total.{Total}
 use Rattle.cw_model.specs.Burdens.{no_burden}
@@ -16,12 +16,12 @@ use Rattle.cw_code.specs.Run.{code_serial}
 use Rattle.cw_machine.specs.Runs.{is_request}
 use Rattle.cw_schedule.specs.declared.schedules.Schedule.{Schedule}
 
--- so many processors can be asked for
+-- the number of processors is in its range
 abbrev pub is_counted : (processors : ℕ) → Bool
 is_counted processors = nat_le 1 processors && nat_le processors MOST_PROCESSORS
 
--- the code can be asked for this schedule: as many arguments as its main takes, a limit in its range, and processors in
--- theirs
+-- the request is valid: the number of arguments is the number of `main`'s parameters, and the limit and the number of
+-- processors are in their ranges
 abbrev pub is_asked : Code → List ℤ → (n processors : ℕ) → Bool
 is_asked code args n processors = is_counted processors && is_request code args n no_burden
 
@@ -32,8 +32,8 @@ pub record Ends (code : Code) (args : List ℤ) (n : ℕ) (tree : Tree) : Type 0
   pub totals : List Total
   pub answer : code_serial code args n ≡ Some (Ended value lines totals tree)
 
--- what was asked for is in range, the run ends, and these are the work and the span of its tree, which has no more
--- strands than are kept, and the length of its greedy schedule, within its bounds
+-- the request is valid, the run ends, and its tree has no more strands than are recorded; the schedule holds the work
+-- and the span of the tree and the length of its greedy schedule, within its bounds
 pub record Schedules (code : Code) (args : List ℤ) (n p : ℕ) (s : Schedule) : Type 0 where
   pub asked : is_asked code args n p ≡ true
   pub tree : Tree
@@ -45,7 +45,7 @@ pub record Schedules (code : Code) (args : List ℤ) (n p : ℕ) (s : Schedule) 
   pub greedy : s.greedy ≡ greedy_length p tree
   pub bounds : IsWithin p s.greedy tree
 
--- what was asked for is in range, and the run ends with more strands than are kept, so many
+-- the request is valid, and the run ends with this number of strands, which are more than are recorded
 pub record HasTooManyStrands (code : Code) (args : List ℤ) (n processors k : ℕ) : Type 0 where
   pub asked : is_asked code args n processors ≡ true
   pub tree : Tree
@@ -53,8 +53,8 @@ pub record HasTooManyStrands (code : Code) (args : List ℤ) (n processors k : �
   pub many : MOST_STRANDS < strand_count tree
   pub told : k ≡ capped (strand_count tree)
 
--- why a run has no schedule: what was asked for is out of range; or the run costs more than its limit, or traps, or has
--- too many strands, or memory ran out
+-- the reason why a run has no schedule: the request is not valid, or the run exceeds its limit, traps, has too many
+-- strands, or memory ran out
 abbrev pub IsNotScheduled : Code → List ℤ → (n processors : ℕ) → Fault → Type 0
 IsNotScheduled code args n processors fault.Arguments = is_asked code args n processors ≡ false
 IsNotScheduled code args n processors fault.OverLimit =
@@ -65,7 +65,7 @@ IsNotScheduled code args n processors (fault.Strands k) = HasTooManyStrands code
 IsNotScheduled code args n processors fault.Memory = is_asked code args n processors ≡ true
 IsNotScheduled code args n processors _ = ⊥
 
--- a run of code is told by its schedule as the code's meaning gives it, or why there is none
+-- the result is the schedule of the run, as the meaning of the code defines it, or the reason why there is none
 abbrev pub SchedulesAsCode : Code → List ℤ → (n processors : ℕ) → Result Schedule Fault → Type 0
 SchedulesAsCode code args n processors result =
     MatchResult result (Schedules code args n processors) (IsNotScheduled code args n processors)

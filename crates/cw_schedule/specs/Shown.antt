@@ -1,4 +1,5 @@
--- How a state of the schedule stands on the board and in the flags of joins, and what a strand that ends releases.
+-- The representation of a state of the schedule by the board and the flags of joins, and the strands that become
+-- ready when a strand ends.
 use Rattle.std.specs.Prelude.{ℕ, ◌+◌, ◌≡◌, ◌≢◌, ◌<◌, ◌≤◌, Bool, true, false, Option, Some, None}
 use Rattle.cw_greedy.specs.Jumping.{Block, Last, Fork, size, Going, Ready, Before, Both, Child, Rest, After}
 use Rattle.cw_schedule.specs.declared.plan.Begins.{Begins}
@@ -6,18 +7,17 @@ use Rattle.cw_schedule.specs.declared.plan.Begins.TheVariants as w
 use Rattle.cw_schedule.specs.declared.plan.Strand.{Strand}
 use Rattle.cw_schedule.specs.Planned.{strand}
 
--- no strand is ready there, and of no join one side is done
+-- no strand is ready in this range, and no join has one side done
 abbrev pub Quiet : (s : ℕ → Option ℕ) (f : ℕ → Bool) (from count : ℕ) → Type 0
 Quiet s f from count = (k : ℕ) → from ≤ k → k < from + count → (s k ≡ None) × (f k ≡ false)
 
--- no strand is ready there, and of the first join one side is done
+-- no strand is ready in this range, and the first join has one side done
 pub record Half (s : ℕ → Option ℕ) (f : ℕ → Bool) (from count : ℕ) : Type 0 where
   pub flag : f from ≡ true
   pub idle : (k : ℕ) → from ≤ k → k < from + count → s k ≡ None
   pub others : (k : ℕ) → from < k → k < from + count → f k ≡ false
 
--- a state of a block whose first strand has this number: what is left at each place, and of which joins one side is
--- done
+-- the slots and the flags represent a state of a block whose first strand has this index
 pub data Shows (s : ℕ → Option ℕ) (f : ℕ → Bool) : ℕ → Block → Going → Type 0 where
   ready : (o j k : ℕ) → s o ≡ Some k → f o ≡ false → Shows s f o (Last j) (Ready k)
   before : (o j k : ℕ) (c r a : Block) → s o ≡ Some k → f o ≡ false → Quiet s f (o + 1) (size c + (size r + size a))
@@ -34,7 +34,7 @@ pub data Shows (s : ℕ → Option ℕ) (f : ℕ → Bool) : ℕ → Block → G
       Shows s f (o + 1 + size c + size r) a x
       → Shows s f o (Fork j c r a) (After (1 + (size c + size r)) x)
 
--- the strands of a block, by number
+-- the strands of a block, by index
 abbrev pub PlanAt : (ℕ → Strand) → ℕ → Begins → Block → Type 0
 PlanAt p o begins (Last k) = p o ≡ strand k begins
 PlanAt p o begins (Fork k c r a) =
@@ -49,7 +49,7 @@ join_of (w.Child later) next = None
 join_of (w.Continuation later) next = Some (next + later)
 join_of w.Sync next = Some next
 
--- the child and the rest of a spawn get ready
+-- the child and the continuation of a spawn become ready
 pub record Forks (p : ℕ → Strand) (s : ℕ → Option ℕ) (f : ℕ → Bool) (s' : ℕ → Option ℕ) (f' : ℕ → Bool) (i later : ℕ) :
     Type 0 where
   pub gone : s' i ≡ None
@@ -66,7 +66,7 @@ pub record Arrives (s : ℕ → Option ℕ) (f : ℕ → Bool) (s' : ℕ → Opt
   pub flag : f' join ≡ true
   pub flags : (k : ℕ) → k ≢ join → f' k ≡ f k
 
--- the other side of a join is done too, and it gets ready
+-- the other side of a join is done too, and the strand after the join becomes ready
 pub record Joins (p : ℕ → Strand) (s : ℕ → Option ℕ) (f : ℕ → Bool) (s' : ℕ → Option ℕ) (f' : ℕ → Bool) (i join : ℕ) :
     Type 0 where
   pub second : f join ≡ true
@@ -76,7 +76,8 @@ pub record Joins (p : ℕ → Strand) (s : ℕ → Option ℕ) (f : ℕ → Bool
   pub flag : f' join ≡ false
   pub flags : (k : ℕ) → k ≢ join → f' k ≡ f k
 
--- a strand is taken off, and what waited for it alone gets ready: that is told by how the next strand begins
+-- a strand is removed, and the strands that waited only for it become ready; the next strand's start determines which
+-- these are
 pub data Releases (p : ℕ → Strand) (s : ℕ → Option ℕ) (f : ℕ → Bool) (s' : ℕ → Option ℕ) (f' : ℕ → Bool) (i : ℕ) : Type
     0 where
   forks : (later : ℕ) → (p (i + 1)).begins ≡ w.Child later → Forks p s f s' f' i later → Releases p s f s' f' i

@@ -1,4 +1,4 @@
-//! A board: the first ready strands run, each with the time at which it ends, and the others wait.
+//! A board: the first ready strands run, each with the time at which it ends, and the other ready strands wait.
 
 ghost use Rattle.std.specs.Prelude.{◌≡◌, ◌↔◌, ◌+◌, ◌<◌, ◌≤◌, length, Some, None, IfOk, IsTrue, slice_set, slice_get};
 ghost use Rattle.cw_greedy.specs.Slots.{nones, ready_slots, run_slots};
@@ -9,25 +9,26 @@ use crate::line::Line;
 use crate::rows::{Rows, is_equal};
 use std::alloc::{AllocError, Global};
 
-/// A place for each of so many strands: none is ready, or this many instructions are left of it.
+/// A place for each strand of a schedule. A place holds the number of instructions that its strand has left, or
+/// nothing if the strand is not ready.
 #[derive(Drop)]
 pub(crate) struct Board {
-    // When each strand that runs ends.
+    // The time at which each running strand ends.
     running: Rows,
-    // How many run.
+    // The number of running strands.
     count: u64,
-    // The steps so far, from any time on.
+    // The steps so far, counted from an arbitrary start.
     time: u64,
-    // What is left of each strand that waits.
+    // The number of instructions that each waiting strand has left.
     waiting: Line,
-    // Those that run stand before this place, and those that wait do not.
+    // Running strands are before this place, and waiting strands are not.
     border: usize,
-    // How many places there are.
+    // The number of places.
     places: usize,
 }
 
 impl Board {
-    // A board of so many places, at which no strand is ready.
+    // Creates a board with this number of places. No strand is ready.
     pub(crate) fn new(alloc: Global, places: usize) -> Result<Board, AllocError>
         ensures keeps { IfOk result (λ b. Keeps b) }
         ensures shown { IfOk result (λ b. shown b ≡ nones places) }
@@ -44,7 +45,7 @@ impl Board {
         })
     }
 
-    // The strand at a place is ready, with so many instructions left.
+    // Makes the strand at a place ready, with `left` instructions left.
     pub(crate) fn put(&mut self, place: usize, left: u64)
         requires keeps { Keeps self.old }
         requires place { place < length (shown self.old) }
@@ -58,7 +59,7 @@ impl Board {
         }
     }
 
-    // Takes off a strand of which nothing is left, and answers its place.
+    // Removes a ready strand that has no instruction left, and returns its place.
     pub(crate) fn take(&mut self) -> usize
         requires keeps { Keeps self.old }
         requires done { least_slot (shown self.old) ≡ Some 0 }
@@ -73,8 +74,9 @@ impl Board {
         place
     }
 
-    // The first ready strands, at most so many, do instructions until of a ready strand nothing is left: none where that
-    // is so already, else as many as the first ones all have left. Answers how many each does.
+    // Lets the first ready strands, at most one for each processor, execute instructions until a ready strand has
+    // none left. Returns the number of instructions that each of them executes: 0 if a ready strand has none left
+    // already, otherwise the minimum that one of the first strands has left.
     pub(crate) fn advance(&mut self, processors: u64) -> u64
         requires keeps { Keeps self.old }
         requires processors { 1 ≤ processors }
@@ -92,7 +94,7 @@ impl Board {
         steps
     }
 
-    // Whether there is a strand of which nothing is left.
+    // Whether a ready strand has no instruction left.
     fn has_done(&self) -> bool
         requires { Keeps self.now }
         ensures { IsTrue result ↔ least_slot (shown self.now) ≡ Some 0 }
@@ -100,7 +102,7 @@ impl Board {
         is_equal(self.running.least(), Some(self.time)) || self.waiting.has_done()
     }
 
-    // A strand with so many instructions left runs from now on.
+    // Makes a strand with `left` instructions left run from now on.
     fn start(&mut self, place: usize, left: u64)
         requires keeps { Keeps self.old }
         requires place { place < self.old.border }
@@ -114,7 +116,7 @@ impl Board {
         self.running.set(place, Some(self.time + left));
     }
 
-    // Takes off a strand that ends now, and answers its place.
+    // Removes a strand that ends now, and returns its place.
     fn end(&mut self) -> usize
         requires keeps { Keeps self.old }
         requires done { least_slot self.old.running ≡ Some self.old.time }
@@ -128,7 +130,7 @@ impl Board {
         place
     }
 
-    // The last strand that runs waits.
+    // Makes the last running strand wait.
     fn stop_last(&mut self)
         requires keeps { Keeps self.old }
         requires some { 1 ≤ self.old.count }
@@ -145,7 +147,7 @@ impl Board {
         self.waiting.put(place, end - self.time);
     }
 
-    // The first strand that waits runs.
+    // Makes the first waiting strand run.
     fn start_first(&mut self)
         requires keeps { Keeps self.old }
         requires some { 1 ≤ ready_slots self.old.waiting }
@@ -158,7 +160,7 @@ impl Board {
         self.start(place, left);
     }
 
-    // No more run than there are processors.
+    // Stops strands until no more run than there are processors.
     fn stop_others(&mut self, processors: u64)
         requires { Keeps self.old }
         ensures moves { Moves self.old self.new }
@@ -169,7 +171,7 @@ impl Board {
         }
     }
 
-    // As many run as there are processors, if there are so many.
+    // Starts strands until every processor runs one, or until no strand waits.
     fn start_others(&mut self, processors: u64)
         requires keeps { Keeps self.old }
         requires count { self.old.count ≤ processors }
@@ -181,7 +183,8 @@ impl Board {
         }
     }
 
-    // Those that run do as many instructions as they all have left.
+    // Lets the running strands execute the minimum number of instructions that one of them has left. Returns that
+    // number.
     fn jump(&mut self, processors: u64) -> u64
         requires keeps { Keeps self.old }
         requires full { Full processors self.old }
@@ -206,7 +209,8 @@ fn one_if_none(left: Option<u64>) -> u64
     if left.is_none() { 1 } else { 0 }
 }
 
-// The time, or an earlier one if a strand with so many instructions left would end too late to be told.
+// Returns the time, or an earlier time (with the ends lowered) if the end of a strand with `left` instructions left
+// would exceed 64 bits.
 fn time_for(running: &mut Rows, places: usize, time: u64, left: u64) -> u64
     requires places { places ≡ length running.old }
     requires ends { EndFrom time running.old }
@@ -221,7 +225,7 @@ fn time_for(running: &mut Rows, places: usize, time: u64, left: u64) -> u64
     0
 }
 
-// Each number is less by so many.
+// Decreases each number by `by`.
 fn lower_all(running: &mut Rows, places: usize, by: u64)
     requires places { places ≡ length running.old }
     requires ends { EndFrom by running.old }

@@ -1,4 +1,4 @@
-//! How long a greedy schedule of a run's strands takes: of a record of strands, and of the run of a program.
+//! Computes the length of the greedy schedule of strands, either of a record of strands or of the run of a program.
 #![tactic(auto)]
 
 mod board;

@@ -13,35 +13,35 @@ ghost use Rattle.cw_schedule.specs.Reading.{instructions, read, Frame};
 use cw_greedy::entry::{Cut, Entry};
 use std::alloc::{AllocError, Global};
 
-/// How a strand begins.
+/// The start of a strand.
 #[derive(Debug, Clone, Copy, Drop)]
 pub enum Begins {
-    /// With the run.
+    /// At the start of the run.
     Start,
-    /// As a spawned child, whose continuation begins so many strands later.
+    /// As a spawned child. Its continuation begins this number of strands later.
     Child(usize),
-    /// As the continuation of a spawn, whose join begins so many strands later.
+    /// As the continuation of a spawn. Its join begins this number of strands later.
     Continuation(usize),
     /// At the join of a child and its continuation.
     Sync,
 }
 
-/// A strand of so many instructions.
+/// A strand: its number of instructions, and how it begins.
 #[derive(Debug, Clone, Copy, Drop)]
 pub struct Strand {
     pub weight: u64,
     pub begins: Begins,
 }
 
-// A spawn whose join has not come: where its child begins, or, once that has ended, its continuation; and whether it is
-// the first one of its sync block.
+// A spawn whose join has not been read: the index of the strand with which its child begins or, once the child has
+// ended, its continuation; and whether it is the first spawn of its sync block.
 #[derive(Debug, Clone, Copy, Drop)]
 struct Open {
     at: usize,
     first: bool,
 }
 
-// The strands so far, the last of them apart, and the open spawns.
+// The strands so far, with the last one in a field of its own, and the open spawns.
 #[derive(Debug, Drop)]
 struct Planning {
     strands: Vec<Strand>,
@@ -50,7 +50,7 @@ struct Planning {
 }
 
 impl Planning {
-    // Another strand begins.
+    // Begins another strand.
     fn begin(&mut self, begins: Begins) -> Result<(), AllocError>
         ensures strands { OnOk result (self.new.strands.items ≡ all_begun self.old) }
         ensures last { OnOk result (self.new.last ≡ strand 0 begins) }
@@ -61,7 +61,7 @@ impl Planning {
         Ok(())
     }
 
-    // So many instructions of the strand that has begun.
+    // Adds instructions to the strand that has begun.
     fn worked(&mut self, count: u64)
         requires { self.old.last.weight + count < 2 ^ 64 }
         ensures strands { self.new.strands.items ≡ self.old.strands.items }
@@ -71,7 +71,7 @@ impl Planning {
         self.last.weight += count;
     }
 
-    // A spawned child begins.
+    // Begins a spawned child.
     fn spawned(&mut self, first: bool) -> Result<(), AllocError>
         ensures strands { OnOk result (self.new.strands.items ≡ all_begun self.old) }
         ensures last { OnOk result (self.new.last ≡ strand 0 (Child 0)) }
@@ -84,7 +84,7 @@ impl Planning {
         Ok(())
     }
 
-    // A child ends, and its continuation begins.
+    // Ends a child, and begins its continuation.
     fn ended(&mut self) -> Result<(), AllocError>
         requires { HasSpawn self.old }
         ensures { (spawns : List Open) (at : ℕ) (first : Bool)
@@ -104,7 +104,7 @@ impl Planning {
         Ok(())
     }
 
-    // The last open spawn is joined.
+    // Joins the last open spawn.
     fn join_last(&mut self, top: Open) -> Result<(), AllocError>
         requires { top.at ≤ length self.old.strands.items }
         ensures strands { OnOk result (self.new.strands.items ≡ patched (all_begun self.old) top.at
@@ -118,7 +118,7 @@ impl Planning {
         Ok(())
     }
 
-    // The spawns of a sync block are joined, from the last one back to the first.
+    // Joins the spawns of a sync block, the last one first.
     fn joined(&mut self) -> Result<(), AllocError>
         requires { (end : List Frame × Block) × Joins end self.old }
         ensures joined { (end : List Frame × Block) → Joins end self.old
@@ -134,7 +134,7 @@ impl Planning {
         Ok(())
     }
 
-    // A cut.
+    // Follows a cut.
     fn cut(&mut self, cut: Cut) -> Result<(), AllocError>
         requires { (block : Block)
             × ((later : List Code) × Makes block (code_of_cut cut ++ later) self.old) }
@@ -161,7 +161,7 @@ impl Planning {
         }
     }
 
-    // One entry more.
+    // Follows an entry.
     fn follow(&mut self, entry: Entry) -> Result<(), AllocError>
         requires fits { self.old.last.weight + entry.before < 2 ^ 64 }
         requires makes { (block : Block)
@@ -176,7 +176,7 @@ impl Planning {
         Ok(())
     }
 
-    // The entries of a chunk.
+    // Follows the entries of a chunk.
     fn follow_all(&mut self, entries: &[Entry]) -> Result<(), AllocError>
         requires fits { self.old.last.weight + instructions (codes_of_entries entries.now)
             ≤ MOST_LIMIT }
@@ -195,7 +195,11 @@ impl Planning {
     }
 }
 
-/// The strands of the block that the entries of chunks are read as, in serial order.
+/// Returns the strands of the block that the entries of chunks represent, in serial order.
+///
+/// # Errors
+///
+/// `AllocError` if memory runs out.
 pub fn plan(alloc: Global, chunks: &[Vec<Entry>]) -> Result<Vec<Strand>, AllocError>
     requires fits { instructions (codes_of_chunks chunks.now) ≤ MOST_LIMIT }
     requires block { (block : Block)

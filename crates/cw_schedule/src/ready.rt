@@ -1,4 +1,4 @@
-//! The ready strands of a schedule, with what is left of each.
+//! The ready strands of a schedule, with the number of instructions that each has left.
 
 ghost use Rattle.std.specs.Prelude.{◌≡◌, ◌<◌, ◌≤◌, length, Some, None, IfOk, slice_set, slice_get};
 ghost use Rattle.cw_greedy.specs.Slots.{nones, ready_slots};
@@ -9,11 +9,12 @@ use crate::line::Line;
 use std::alloc::{AllocError, Global};
 use std::marker::Model;
 
-// On so many processors at most the strands stand in a line: it is gone through once for each strand, as far as strands
-// run, and that is less than what a board takes.
+// For at most this number of processors the strands are in a line. A line is traversed once for each strand, as far
+// as strands run, which takes less time than a board.
 const FEW: u64 = 64;
 
-/// A place for each of so many strands: none is ready, or this many instructions are left of it.
+/// A place for each strand of a schedule. A place holds the number of instructions that its strand has left, or
+/// nothing if the strand is not ready.
 #[derive(Drop)]
 pub struct Ready {
     kept: Kept,
@@ -21,7 +22,7 @@ pub struct Ready {
 
 #[derive(Drop)]
 enum Kept {
-    // On few processors.
+    // For few processors.
     InLine(Line),
     OnBoard(Board),
 }
@@ -39,7 +40,11 @@ impl Model for Ready {
 }
 
 impl Ready {
-    /// So many places, at which no strand is ready, for so many processors.
+    /// Creates `places` places, for a schedule on this number of processors. No strand is ready.
+    ///
+    /// # Errors
+    ///
+    /// `AllocError` if memory runs out.
     pub fn new(alloc: Global, places: usize, processors: u64) -> Result<Ready, AllocError>
         requires { 1 ≤ places }
         ensures { IfOk result (λ r. r ≡ nones places) }
@@ -52,7 +57,7 @@ impl Ready {
         Ok(Ready { kept })
     }
 
-    /// The strand at a place is ready, with so many instructions left.
+    /// Makes the strand at a place ready, with `left` instructions left.
     pub fn put(&mut self, place: usize, left: u64)
         requires { place < length self.old }
         ensures { self.new ≡ slice_set self.old place (Some left) }
@@ -63,7 +68,7 @@ impl Ready {
         }
     }
 
-    /// Takes off a strand of which nothing is left, and answers its place.
+    /// Removes a ready strand that has no instruction left, and returns its place.
     pub fn take(&mut self) -> usize
         requires { least_slot self.old ≡ Some 0 }
         ensures place { slice_get self.old result ≡ Some (Some 0) }
@@ -75,8 +80,9 @@ impl Ready {
         }
     }
 
-    /// The first ready strands, at most so many, do instructions until of a ready strand nothing is left: none where that
-    /// is so already, else as many as the first ones all have left. Answers how many each does.
+    /// Lets the first ready strands, at most one for each processor, execute instructions until a ready strand has
+    /// none left. Returns the number of instructions that each of them executes: 0 if a ready strand has none left
+    /// already, otherwise the minimum that one of the first strands has left.
     pub fn advance(&mut self, processors: u64) -> u64
         requires processors { 1 ≤ processors }
         requires ready { 1 ≤ ready_slots self.old }

@@ -1,4 +1,4 @@
-//! Rows of numbers: a number or none for each of so many places, and in a row above the least of each few of them.
+//! Rows of optional numbers, one for each place. A row above holds the minimum of each group of the row below.
 
 ghost use Rattle.std.specs.Prelude.{◌≡◌, ◌↔◌, ◌<◌, ◌≤◌, ◌/◌, ℕ, length, Some, None, IfOk, IsTrue, slice_set};
 ghost use Rattle.cw_greedy.specs.Slots.{nones, ready_slots};
@@ -8,10 +8,10 @@ ghost use Rattle.cw_schedule.specs.Rows.{group, HasFrom, IsLast, Leasts};
 use std::alloc::{AllocError, Global};
 use std::marker::Model;
 
-// So many numbers stand in one group: few enough to be looked through, and enough that there are few rows.
+// The number of places in a group: small enough to be scanned, and large enough that there are few rows.
 const GROUP: usize = 8;
 
-/// A number or none for each of so many places. The least one and the last one are found in a few steps.
+/// An optional number for each place. The minimum and the last number are found in a few steps.
 #[cycle(rows)]
 #[derive(Drop)]
 pub(crate) struct Rows {
@@ -21,9 +21,9 @@ pub(crate) struct Rows {
 #[cycle(rows)]
 #[derive(Drop)]
 enum Row {
-    // So few that they are one group.
+    // At most one group.
     Few(Vec<Option<u64>>),
-    // More, and the least of each group.
+    // More than one group, with the minimum of each group.
     Many(Vec<Option<u64>>, Box<Rows>),
 }
 
@@ -47,7 +47,7 @@ impl Model for Rows {
 }
 
 impl Rows {
-    // So many places with no number.
+    // Creates this number of places, without numbers.
     pub(crate) fn new(alloc: Global, places: usize) -> Result<Rows, AllocError>
         ensures { IfOk result (λ r. r ≡ nones places) }
     {
@@ -62,7 +62,7 @@ impl Rows {
         })
     }
 
-    // The number at a place.
+    // Returns the number at a place, if there is one.
     pub(crate) fn at(&self, place: usize) -> Option<u64>
         requires { place < length self.now }
         ensures { result ≡ left_at self.now place }
@@ -73,7 +73,7 @@ impl Rows {
         }
     }
 
-    // The least number.
+    // Returns the minimum, if there is a number.
     pub(crate) fn least(&self) -> Option<u64>
         ensures { result ≡ least_slot self.now }
     {
@@ -83,7 +83,7 @@ impl Rows {
         }
     }
 
-    // This number or none stands at a place.
+    // Sets or removes the number at a place.
     #[cycle(set)]
     pub(crate) fn set(&mut self, place: usize, number: Option<u64>)
         requires { place < length self.old }
@@ -95,7 +95,7 @@ impl Rows {
         }
     }
 
-    // Where a number stands that is the least.
+    // Returns a place that holds the minimum.
     pub(crate) fn find(&self, least: u64) -> usize
         requires { least_slot self.now ≡ Some least }
         ensures { left_at self.now result ≡ Some least }
@@ -106,7 +106,7 @@ impl Rows {
         }
     }
 
-    // Where the last number stands.
+    // Returns the place of the last number.
     pub(crate) fn last(&self) -> usize
         requires { 1 ≤ ready_slots self.now }
         ensures { IsLast self.now result }
@@ -118,7 +118,7 @@ impl Rows {
     }
 }
 
-// Most numbers are not the least of their group, so that no row above is touched.
+// Most numbers are not the minimum of their group, so that usually no row above changes.
 #[cycle(set)]
 fn set_in_rows(row: &mut [Option<u64>], above: &mut Rows, place: usize, number: Option<u64>)
     requires rows { Leasts row.old above.old }
@@ -133,7 +133,7 @@ fn set_in_rows(row: &mut [Option<u64>], above: &mut Rows, place: usize, number: 
     }
 }
 
-// This number or none stands at a place, whose group had this least number. Answers the least that it has then.
+// Sets or removes the number at a place, whose group had the minimum `least`. Returns the new minimum of the group.
 fn change(
     row: &mut [Option<u64>],
     place: usize,
@@ -153,7 +153,7 @@ fn change(
     least_near(row, place)
 }
 
-// The lesser of two, where there are two.
+// Returns the minimum of two optional numbers; `None` counts as no number.
 fn lesser_of(one: Option<u64>, other: Option<u64>) -> Option<u64>
     ensures { result ≡ lesser one other }
 {
@@ -164,7 +164,7 @@ fn lesser_of(one: Option<u64>, other: Option<u64>) -> Option<u64>
     }
 }
 
-// Whether both are the same number, or none.
+// Whether both are the same number, or both are `None`.
 pub(crate) fn is_equal(one: Option<u64>, other: Option<u64>) -> bool
     ensures { IsTrue result ↔ one ≡ other }
 {
@@ -175,7 +175,7 @@ pub(crate) fn is_equal(one: Option<u64>, other: Option<u64>) -> bool
     }
 }
 
-// The least of a few numbers.
+// Returns the minimum of a few numbers.
 fn least_of(row: &[Option<u64>]) -> Option<u64>
     ensures { result ≡ least_slot row.now }
 {
@@ -186,7 +186,7 @@ fn least_of(row: &[Option<u64>]) -> Option<u64>
     least
 }
 
-// The least number of the group that a place is in.
+// Returns the minimum of the group that contains a place.
 fn least_near(row: &[Option<u64>], place: usize) -> Option<u64>
     requires { place < length row.now }
     ensures { result ≡ least_slot (group row.now (place / 8)) }
@@ -196,7 +196,7 @@ fn least_near(row: &[Option<u64>], place: usize) -> Option<u64>
     least_of(&row[from..to])
 }
 
-// Where a number stands, from a place on.
+// Returns the place of a number, searched from a place on.
 fn find_from(row: &[Option<u64>], from: usize, number: u64) -> usize
     requires { HasFrom from number row.now }
     ensures { left_at row.now result ≡ Some number }
@@ -208,7 +208,7 @@ fn find_from(row: &[Option<u64>], from: usize, number: u64) -> usize
     place
 }
 
-// Where a number stands that is the least of a group.
+// Returns the place of the minimum of a group.
 fn find_in_group(row: &[Option<u64>], at: usize, least: u64) -> usize
     requires { least_slot (group row.now at) ≡ Some least }
     ensures { left_at row.now result ≡ Some least }
@@ -217,7 +217,7 @@ fn find_in_group(row: &[Option<u64>], at: usize, least: u64) -> usize
     place
 }
 
-// Where the last number stands, if none does from this place on.
+// Returns the place of the last number, if there is none from this place on.
 fn last_before(row: &[Option<u64>], end: usize) -> usize
     requires end { end ≤ length row.now }
     requires some { 1 ≤ ready_slots row.now }
@@ -231,7 +231,7 @@ fn last_before(row: &[Option<u64>], end: usize) -> usize
     place
 }
 
-// Where the last number stands, if no group behind this one has a number.
+// Returns the place of the last number, if no later group has a number.
 fn last_in_group(row: &[Option<u64>], at: usize) -> usize
     requires some { least_slot (group row.now at) ≡ None → ⊥ }
     requires none { (g : ℕ) → at < g → least_slot (group row.now g) ≡ None }

@@ -1,4 +1,4 @@
-//! The length of a greedy schedule, by jumps from one end of a strand to the next.
+//! Computes the length of a greedy schedule, in jumps from one end of a strand to the next.
 
 ghost use Rattle.std.specs.Prelude.{◌≡◌, ◌+◌, ◌<◌, ◌≤◌, true, false, length, Some, IfOk, replicate, slice_set};
 ghost use Rattle.cw_model.specs.Trees.{Tree, work};
@@ -20,7 +20,7 @@ use cw_greedy::laws::{greedy_is_bounded, lists_show_boards, nobody_waits, rounds
 use cw_greedy::strands::Strands;
 use std::alloc::{AllocError, Global};
 
-// One of the two sides before a join is done.
+// Records that one of the two sides before a join is done.
 fn arrive(strands: &[Strand], flags: &mut [bool], board: &mut Ready, join: usize)
     requires join { join < length strands.now }
     requires flags { length flags.old ≡ length strands.now }
@@ -39,7 +39,7 @@ fn arrive(strands: &[Strand], flags: &mut [bool], board: &mut Ready, join: usize
     }
 }
 
-// The strand before this one is done: what waited for it alone gets ready.
+// Makes the strands ready that waited only for the strand before this one, which is done.
 fn release(strands: &[Strand], flags: &mut [bool], board: &mut Ready, next: usize)
     requires next { next < length strands.now }
     requires reaches { Reaches (strand_at strands.now next).begins next (length strands.now) }
@@ -58,7 +58,7 @@ fn release(strands: &[Strand], flags: &mut [bool], board: &mut Ready, next: usiz
     }
 }
 
-// Takes off a strand of which nothing is left.
+// Removes a ready strand that has no instruction left.
 fn take(strands: &[Strand], flags: &mut [bool], board: &mut Ready)
     requires state { (block : Block)
         × ((g : Going) × Stands block g strands.now flags.old board.old) }
@@ -73,7 +73,8 @@ fn take(strands: &[Strand], flags: &mut [bool], board: &mut Ready)
     }
 }
 
-// The number of steps in which so many processors run the strands of a block, whose first one is on the board.
+// Returns the number of steps in which this number of processors executes the strands of a block. The first strand is
+// on the board.
 fn count_steps(strands: &[Strand], flags: &mut [bool], board: &mut Ready, processors: u64) -> u64
     requires processors { 1 ≤ processors }
     requires begun { (block : Block) × Begun processors block strands.now flags.old board.old }
@@ -90,7 +91,7 @@ fn count_steps(strands: &[Strand], flags: &mut [bool], board: &mut Ready, proces
     steps
 }
 
-// The number of steps in which so many processors run the strands of a tree.
+// Returns the number of steps in which this number of processors executes the strands of a tree.
 fn count_all(strands: &[Strand], flags: &mut [bool], board: &mut Ready, processors: u64) -> u64
     requires processors { 1 ≤ processors }
     requires tree { (t : Tree)
@@ -106,14 +107,18 @@ fn count_all(strands: &[Strand], flags: &mut [bool], board: &mut Ready, processo
     steps
 }
 
-/// The number of steps in which so many processors run the strands of a record: in each step the first ready strands in
-/// serial order, at most one for each processor, do one instruction each. That is the length of the greedy schedule of
-/// every strand tree with this record, so it is no shorter than the work for each processor and than the span, and no
-/// longer than both together (Blumofe and Leiserson 1999).
+/// Returns the number of steps in which this number of processors executes the strands of a record. In each step the
+/// first ready strands in serial order, at most one for each processor, execute one instruction each. The result is
+/// the length of the greedy schedule of every strand tree with this record. It is at least the work divided by the
+/// number of processors and at least the span, and at most the sum of both (Blumofe and Leiserson 1999).
 ///
-/// Takes time in proportion to the strands, times the logarithm of how many there are, whatever their instructions are. On
-/// one processor the length is the work, and on more than there are spawns it is the span: both are only added up.
-/// Fails for want of memory alone; the record is as it was.
+/// The time is proportional to the number of strands times its logarithm, and does not depend on their instructions.
+/// On one processor the length is the work, and on more processors than there are spawns it is the span; these two
+/// are computed by additions only.
+///
+/// # Errors
+///
+/// `AllocError` if memory runs out. The record is unchanged.
 pub fn greedy(alloc: Global, kept: &Strands, processors: u64) -> Result<u64, AllocError>
     requires processors { 1 ≤ processors }
     requires kept { (t : Tree) × (IsRecordOf t kept.now × (work t ≤ MOST_LIMIT)) }

@@ -1,4 +1,4 @@
-//! The greedy schedule of a run on so many processors.
+//! The greedy schedule of a run.
 
 ghost use Rattle.cw_code.specs.Code.{code_view};
 ghost use Rattle.std.specs.Prelude.{◌≡◌};
@@ -18,27 +18,32 @@ use cw_text::Fault;
 use std::alloc::Global;
 use std::sync::Arc;
 
-/// What is told of the greedy schedule of a run.
+/// The results for the greedy schedule of a run.
 #[derive(Debug, Clone, Copy, PartialEq, Eq)]
 pub struct Schedule {
-    /// How many processors share the strands.
+    /// The number of processors.
     pub processors: u64,
     /// The work of the run, in instructions.
     pub work: u64,
     /// The span of the run, in instructions.
     pub span: u64,
-    /// The length of the greedy schedule, in steps: in each step a processor does one instruction or none.
+    /// The length of the greedy schedule, in steps. In each step a processor executes one instruction or none.
     pub greedy: u64,
 }
 
-/// Runs code on these arguments within `n` instructions, and tells its work, its span and the length of the greedy
-/// schedule of its strands on so many processors, exactly those of its strand tree. The length is no shorter than the
-/// work for each processor and than the span, and no longer than both together.
+/// Runs code on these arguments within `n` instructions. Returns its work, its span and the length of the greedy
+/// schedule of its strands on this number of processors, exactly those of its strand tree. The length is at least the
+/// work divided by the number of processors and at least the span, and at most the sum of both.
 ///
-/// The error is `Arguments` exactly where the count of the arguments is not that of `main`'s parameters, or `n` is not
-/// in 1..=2^62, or `processors` is not in 1..=1,000,000; otherwise `OverLimit` exactly where the run costs more than
-/// `n`, `Trap` exactly where it traps, with its line and the values printed before, `Strands` exactly where it ends
-/// with more than 1,000,000 strands, with how many they are, and `Memory` where memory runs out.
+/// # Errors
+///
+/// `Fault::Arguments` exactly if the number of arguments is not the number of `main`'s parameters, or `n` is not in
+/// 1..=2^62, or `processors` is not in 1..=1,000,000. Otherwise:
+///
+/// - `Fault::OverLimit` exactly if the run costs more than `n`;
+/// - `Fault::Trap` exactly if it traps, with the line and the values printed before;
+/// - `Fault::Strands` exactly if it ends with more than 1,000,000 strands, with their number;
+/// - `Fault::Memory` if memory runs out.
 pub fn schedule_alone(
     alloc: Global,
     code: Arc<Verified>,
@@ -57,7 +62,15 @@ pub fn schedule_alone(
     Ok(schedule)
 }
 
-/// The same of such a run of code that kept these strands, or did not end, whoever ran it.
+/// Returns what `schedule_alone` returns, for a run of this code, by any workers, that recorded these strands or did
+/// not end.
+///
+/// # Errors
+///
+/// - `Fault::Arguments` exactly if the arguments, `n` or `processors` are invalid, as for `schedule_alone`;
+/// - otherwise the fault in `ran`, if the run did not end;
+/// - otherwise `Fault::Strands` if the run has more than 1,000,000 strands, with their number;
+/// - `Fault::Memory` if memory runs out.
 pub fn schedule_of_run(
     alloc: Global,
     code: &Verified,
@@ -88,14 +101,15 @@ pub fn schedule_of_run(
     })
 }
 
-/// Whether there are as many arguments as `main` takes, and the limit and the processors are in their ranges.
+/// Returns whether the number of arguments is the number of `main`'s parameters, and the limit and the number of
+/// processors are in their ranges.
 pub fn is_asked(code: &Verified, args: &[i64], n: u64, processors: u64) -> bool
     ensures { result ≡ schedules.is_asked (code_view code.now.code) args.now n processors }
 {
     is_counted(processors) && args.len() == main_takes(code) && 1 <= n && n <= MOST_LIMIT
 }
 
-// Whether so many processors can be asked for.
+// Whether the number of processors is in its range.
 fn is_counted(processors: u64) -> bool
     ensures { result ≡ schedules.is_counted processors }
 {

@@ -1,4 +1,4 @@
-//! Work and span of the strands of a record.
+//! Computes work and span of the strands of a record.
 
 ghost use Rattle.std.specs.Prelude.{◌≡◌, ◌+◌, ◌<◌, ◌≤◌, ◌++◌, ◌∷◌, [], max, Some, List, IfOk, OnOk};
 ghost use Rattle.cw_model.specs.Trees.{Tree, work, span};
@@ -17,17 +17,17 @@ use cw_greedy::entry::{Cut, Entry};
 use cw_greedy::strands::Strands;
 use std::alloc::{AllocError, Global};
 
-/// What a strand tree weighs, in instructions.
+/// The weights of a strand tree, in instructions.
 #[derive(Clone, Copy, Debug, PartialEq, Eq)]
 pub struct Weights {
-    /// All its strands.
+    /// The work: the sum over all strands.
     pub work: u64,
-    /// Those on a heaviest path.
+    /// The span: the sum over the strands on a heaviest path.
     pub span: u64,
 }
 
-// A spawn whose join has not come: the heaviest path of its block up to it, and through its child, once that has ended;
-// and whether it is the first one of its sync block.
+// A spawn whose join has not been read: the weight of the heaviest path of its block up to it, the weight of the
+// heaviest path through its child, once the child has ended, and whether it is the first spawn of its sync block.
 #[derive(Debug, Clone, Copy, Drop)]
 struct Spawn {
     before: u64,
@@ -35,8 +35,8 @@ struct Spawn {
     first: bool,
 }
 
-// The work so far, the heaviest path through the block that has begun, and the open spawns. Sums stop at the greatest
-// number.
+// The work so far, the weight of the heaviest path through the block that has begun, and the open spawns. Sums
+// saturate at the largest number.
 #[derive(Debug, Drop)]
 struct Ways {
     work: u64,
@@ -45,7 +45,7 @@ struct Ways {
 }
 
 impl Ways {
-    // So many instructions more.
+    // Adds instructions.
     fn worked(&mut self, count: u64)
         ensures work { self.new.work ≡ counted (self.old.work + count) }
         ensures path { self.new.path ≡ counted (self.old.path + count) }
@@ -55,7 +55,7 @@ impl Ways {
         self.path = self.path.saturating_add(count);
     }
 
-    // A spawned child begins.
+    // Begins a spawned child.
     fn spawned(&mut self, first: bool) -> Result<(), AllocError>
         ensures work { OnOk result (self.new.work ≡ self.old.work) }
         ensures path { OnOk result (self.new.path ≡ 0) }
@@ -71,7 +71,7 @@ impl Ways {
         Ok(())
     }
 
-    // A child ends, and its continuation begins.
+    // Ends a child, and begins its continuation.
     fn ended(&mut self) -> Result<(), AllocError>
         ensures work { OnOk result (self.new.work ≡ self.old.work) }
         ensures path { OnOk result (self.new.path ≡ 0) }
@@ -93,7 +93,7 @@ impl Ways {
         Ok(())
     }
 
-    // The last open spawn is joined.
+    // Joins the last open spawn.
     fn join_last(&mut self, top: Spawn)
         ensures work { self.new.work ≡ self.old.work }
         ensures path { self.new.path ≡ counted (top.before + max top.child self.old.path) }
@@ -102,7 +102,7 @@ impl Ways {
         self.path = top.before.saturating_add(top.child.max(self.path));
     }
 
-    // The spawns of a sync block are joined, from the last one back to the first.
+    // Joins the spawns of a sync block, the last one first.
     fn joined(&mut self)
         ensures work { self.new.work ≡ self.old.work }
         ensures joined { (end : List Frame × Block) → WillJoin end self.old
@@ -116,7 +116,7 @@ impl Ways {
         }
     }
 
-    // A cut.
+    // Follows a cut.
     fn cut(&mut self, cut: Cut) -> Result<(), AllocError>
         ensures work { OnOk result (self.new.work ≡ self.old.work) }
         ensures weighs { (block : Block) (later : List Code)
@@ -141,7 +141,7 @@ impl Ways {
         }
     }
 
-    // One entry more.
+    // Follows an entry.
     fn follow(&mut self, entry: Entry) -> Result<(), AllocError>
         ensures work { OnOk result
             (counted self.new.work ≡ counted (self.old.work + entry.before)) }
@@ -154,7 +154,7 @@ impl Ways {
         Ok(())
     }
 
-    // The entries of a chunk.
+    // Follows the entries of a chunk.
     fn follow_all(&mut self, entries: &[Entry]) -> Result<(), AllocError>
         ensures work { OnOk result (counted self.new.work
             ≡ counted (self.old.work + instructions (codes_of_entries entries.now))) }
@@ -169,7 +169,7 @@ impl Ways {
     }
 }
 
-// What the entries of chunks weigh, and the block that they are read as.
+// Returns the weights of the entries of chunks, and of the block that they represent.
 fn weighed(alloc: Global, chunks: &[Vec<Entry>]) -> Result<Weights, AllocError>
     ensures work { IfOk result
         (λ w. counted w.work ≡ counted (instructions (codes_of_chunks chunks.now))) }
@@ -190,9 +190,12 @@ fn weighed(alloc: Global, chunks: &[Vec<Entry>]) -> Result<Weights, AllocError>
     })
 }
 
-/// Work and span of the strands of a record: those of every strand tree with this record.
+/// Returns work and span of the strands of a record, in instructions: those of every strand tree with this record.
+/// The time is proportional to the number of strands.
 ///
-/// Takes time in proportion to the strands. Fails for want of memory alone; the record is as it was.
+/// # Errors
+///
+/// `AllocError` if memory runs out. The record is unchanged.
 pub fn weigh(alloc: Global, kept: &Strands) -> Result<Weights, AllocError>
     requires { (t : Tree) × (IsRecordOf t kept.now × (work t ≤ MOST_LIMIT)) }
     ensures work { (t : Tree) → IsRecordOf t kept.now → IfOk result (λ w. w.work ≡ work t) }
@@ -202,7 +205,7 @@ pub fn weigh(alloc: Global, kept: &Strands) -> Result<Weights, AllocError>
     Ok(weights)
 }
 
-/// How many children are spawned: as many as every strand tree with this record has spawns.
+/// Returns the number of spawned children, which is the number of spawns in every strand tree with this record.
 pub(crate) fn count_spawns(kept: &Strands) -> u64
     requires { (t : Tree) × IsRecordOf t kept.now }
     ensures { (t : Tree) → IsRecordOf t kept.now → result ≡ spawns_in t }
@@ -211,7 +214,7 @@ pub(crate) fn count_spawns(kept: &Strands) -> u64
     count
 }
 
-// How many children are spawned by the entries of some chunks.
+// Returns the number of children that the entries of some chunks spawn.
 fn count_spawned(chunks: &[Vec<Entry>]) -> u64
     requires { cuts (codes_of_chunks chunks.now) < MOST_STRANDS }
     ensures { result ≡ spawned (codes_of_chunks chunks.now) }
@@ -223,7 +226,7 @@ fn count_spawned(chunks: &[Vec<Entry>]) -> u64
     count
 }
 
-// How many children are spawned by the entries of a chunk.
+// Returns the number of children that the entries of a chunk spawn.
 fn spawned_in(entries: &[Entry]) -> u64
     ensures { result ≡ spawned (codes_of_entries entries.now) }
 {

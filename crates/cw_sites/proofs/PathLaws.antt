@@ -85,7 +85,7 @@ part_is q steps from to w p e f = same_path w p.weight (upto q steps to - upto q
 part_none : (q : ℕ) (steps : List Steps) (from to : ℕ) → from ≡ to → part q steps from to 0 ≡ nowhere
 part_none q steps from to e = let f = ap (upto q steps) e in part_is q steps from to 0 nowhere refl (omega arith)
 
--- more instructions
+-- the path of a strand after more instructions
 pub extended_strand_path : (q : ℕ) (steps steps' : List Steps) (weight weight' start site count : ℕ) (fs : List Block)
     → ((n : ℕ) → n ≤ start → n ≤ length steps → upto q steps' n ≡ upto q steps n)
     → ((whole q steps - upto q steps start) + if_site q site count < 2 ^ 64 → whole q steps' ≡ whole q steps + if_site q site count)

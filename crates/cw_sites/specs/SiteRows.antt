@@ -95,7 +95,7 @@ left_at false count path r =
       at_path = r.at_path;
     }
 
--- an invocation ends; the last open one is added to the sums
+-- an invocation ends; if no other invocation of its site is open, its measures are added to the sums
 abbrev pub left : (count path : ℕ) → Row → Row
 left count path r = left_at (r.active == 1) count path r
 

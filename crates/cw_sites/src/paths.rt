@@ -3,10 +3,10 @@
 //! The steps of all paths are in one list, path after path, and the steps of one path have no order. So a gap in the
 //! middle is filled from the end: at most twice as many steps move as are dropped (`WritesWithin`). New steps of a
 //! site are added to its last steps if these are still in the current path, so a path of plain calls has few steps
-//! for each site. If a path is longer than its limit (a constant plus twice the number of sites of the paths that
-//! were merged so far), its steps are merged by site, and it then has at most half of the limit. This is checked for
-//! the current path before a step is added to it, and for the base of a block when it takes a continuation in. So
-//! each step pays once for its moves and its merge, for paths of any length that are joined.
+//! for each site. The limit of a path is a constant plus twice the number of sites of the paths that were merged so
+//! far. If a path is longer than its limit, its steps are merged by site, and it then has at most half of the limit.
+//! This is checked for the current path before a step is added to it, and for the base of a block when it takes a
+//! continuation in. So each step pays once for its moves and its merge, for paths of any length that are joined.
 
 ghost use Rattle.std.specs.Prelude.{◌≡◌, ℕ, ◌+◌, ◌-◌, ◌^◌, ◌<◌, ◌≤◌, ◌==◌, true, length, min, if◌then◌else◌, IfOk, OnOk};
 ghost use Rattle.std.specs.Vec.{vec_len, vec_capacity};

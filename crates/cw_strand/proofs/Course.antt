@@ -1,4 +1,4 @@
--- The steps of a strand of the definitions, one by one and by stretches.
+-- The steps of a strand of the definitions, one at a time and in stretches.
 use Rattle.std.proofs.Common.{◌≡◌, ◌≢◌, ℕ, suc, ◌+◌, ◌≤◌, ◌<◌, ℤ, Bool, true, false, nat_lt, if◌then◌else◌, Option, List, [], ◌∷◌, refl, sym, ap, ◌∙◌, subst, inl, arith}
 use Rattle.cw_facts.specs.Tests.{not_below, below}
 use Rattle.cw_model.specs.declared.trap.Trap.{Trap}
@@ -40,7 +40,7 @@ module _ (code : Code) (keep : CallsKeep code) (job : Job) where
   kept_on old (HandsOut target taken) s s' count outs h = h.0
   kept_on old ComesBack s s' count outs h = h.0
 
-  -- an instruction that leads on
+  -- an instruction after which the run continues
   pub ran : (s s' : State) (count : ℕ) (outs : List Job) (t : Turn) → turn code s ≡ t → has_come job.extent code s ≡ false → step code s ≡ On s'
       → job.before + (count + 1) ≤ job.limit → IsStrandOf code job (Going s count outs)
       → IsStrandOf code job (goes_on t s s' job.limit job.before (count + 1) outs)
@@ -48,14 +48,14 @@ module _ (code : Code) (keep : CallsKeep code) (job : Job) where
       (kept_on (Going s count outs) (turn code s) s s' (count + 1) outs
       (subst (AdvanceKeeps code job (Going s count outs)) (steps_to s count outs (On s') come e le) (keep.advancing job (Going s count outs) h)))
 
-  -- one that traps
+  -- an instruction that traps
   pub fell : (s : State) (count : ℕ) (outs : List Job) (trap : Trap) (line : ℕ) (lines : List ℤ) → has_come job.extent code s ≡ false
       → step code s ≡ Stops trap line lines → job.before + (count + 1) ≤ job.limit → IsStrandOf code job (Going s count outs)
       → IsStrandOf code job (Halted (TrapIn trap line lines (count + 1)) outs)
   fell s count outs trap line lines come e le h =
       (subst (AdvanceKeeps code job (Going s count outs)) (steps_to s count outs (Stops trap line lines) come e le) (keep.advancing job (Going s count outs) h)).0
 
-  -- the limit is passed
+  -- the limit is exceeded
   pub passed : (s : State) (count : ℕ) (outs : List Job) → has_come job.extent code s ≡ false → job.limit < job.before + (count + 1) → IsStrandOf code job (Going s count outs)
       → IsStrandOf code job (Halted OverLimit outs)
   passed s count outs come lt h =
@@ -70,7 +70,7 @@ module _ (code : Code) (keep : CallsKeep code) (job : Job) where
   pub wants : (strand : Strand) → IsStrandOf code job strand → IsStrandOf code job (Halted Memory (outs_of strand))
   wants strand h = keep.wanting job strand h
 
-  -- it comes to the join
+  -- the strand reaches the join
   pub arrived : (s : State) (count : ℕ) → has_come job.extent code s ≡ true → IsStrandOf code job (Going s count []) → JobMeaning code job (Joined (standing s) s.trace count)
   arrived s count come h =
       subst (AdvanceKeeps code job (Going s count []))
@@ -86,15 +86,15 @@ module _ (code : Code) (keep : CallsKeep code) (job : Job) where
   ended s count v arrays t come e le h =
       subst (AdvanceKeeps code job (Going s count [])) (steps_to s count [] (Ends v arrays t) come e le) (keep.advancing job (Going s count []) h)
 
-  -- it stopped
+  -- the strand has stopped
   pub halted : (e : Effect) (outs : List Job) → IsStrandOf code job (Halted e outs) → JobMeaning code job e
   halted e outs h = keep.advancing job (Halted e []) h
 
-  -- a spawned call came back in place: as if its rest had been out, and was taken back
+  -- a spawned call returned in place: as if its continuation had been out and was taken back
   took_back : (s : State) (count : ℕ) (out : Job) (outs : List Job) → IsStrandOf code job (Waits s count (out ∷ outs)) → IsStrandOf code job (Going s count outs)
   took_back s count out outs h = keep.taking_back job (Waits s count (out ∷ outs)) h
 
-  -- A STRETCH IN WHICH NOTHING STOPS THE RUN, with these rests out
+  -- A STRETCH IN WHICH NOTHING STOPS THE RUN, with these continuations out
   module _ (k : Setting) (same : k.extent ≡ job.extent) (v : Verified) (is : IsFit v) (p : Parts) (levels : List Level) (outs : List Out)
       (lent : List Lent) (lends : Lends v is p k.base levels outs lent) (stops : Bool) where
     pub record Led (s : State) (count : ℕ) : Type 0 where
@@ -102,7 +102,7 @@ module _ (code : Code) (keep : CallsKeep code) (job : Job) where
       pub is_of : IsStrandOf code job (Going s count jobs_out)
       pub are : AreOut p (levels_of s.around) jobs_out levels lent
 
-    -- a spawned call comes back that is not at the floor
+    -- a spawned call returns that is not at the floor
     returned : (s1 s2 : State) (count : ℕ) (jobs_out : List Job) → HasReturned s1 s2 → calls_round k s1 ≢ floor_in lent
         → IsStrandOf code job (Waits s2 count jobs_out) → AreOut p (levels_of s1.around) jobs_out levels lent → Led s2 count
     returned s1 s2 count jobs_out r ne h are =

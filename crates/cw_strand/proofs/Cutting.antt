@@ -1,4 +1,4 @@
--- The rest of the block that has spawned a call is handed out.
+-- The continuation of the block that has spawned a call is handed out.
 use Rattle.std.proofs.Common.{◌≡◌, ℕ, suc, ◌+◌, List, [], ◌∷◌, length, refl, sym, ap, ◌∙◌, subst, inl, inr, arith}
 use Rattle.std.specs.Prelude.{map, reverse}
 use Rattle.std.proofs.Math.Logic.{∥∥₁_elim, ∥∥₁_map}
@@ -32,7 +32,7 @@ use Rattle.cw_strand.proofs.Levels.{HasSpawned, LevelsAfter, levels_move}
 use Rattle.cw_strand.proofs.WhichOut.{outs_above}
 use Rattle.cw_strand.proofs.RunsOn.{sound_of}
 
--- what waits over what stands round a run is the same call
+-- `beneath` places a waiting call over a state as `waiting_over` does
 over_is : (b : State) (w : Waiting) (around : List Around) → beneath b (Caller w ∷ around) ≡ Caller (waiting_over b w around) ∷ beneath b around
 over_is b w [] = refl
 over_is b w (a ∷ around) = refl
@@ -111,7 +111,7 @@ module _ (keep : (code : Code) → CallsKeep code) (self : Strand) (limit : ℕ)
   place_is : (waiting_over base w c.state.around).place ≡ c.state.place + 1
   place_is = over_place base w c.state.around ∙ sym (ap (λ (q : jobs.Job). q.place) (spawned.rest 0 0))
 
-  -- the machine may hand it out
+  -- the machine may hand out the continuation
   pub hands_it : Hands v (ok_with c.ground c.outs) self.run.machine (under base next) (waiting_over base w c.state.around) above_it (listed v spawn.passed) loans
   hands_it = record {
     shows = c.at.1.shows.shows;
@@ -142,19 +142,19 @@ module _ (keep : (code : Code) → CallsKeep code) (self : Strand) (limit : ℕ)
     abbrev out : Out
     out = out_of (length above_it) l.first self.run.machine.first_array (length (waiting_over base w c.state.around).arrays) (slots_lent loans) q.rest.slices.items
 
-    -- what was handed out is the job of the rest
+    -- what was handed out is the job of the continuation
     pub rest_job : IsJob v is q (rest_of w p.limit q.before)
     rest_job = subst (λ l. IsJob v is q (rest_of w l q.before)) cut.limit
         (subst (λ x. IsJob v is q x) (over_rest base w c.state.around q.limit q.before) (handed.job q refl cut.joins))
 
-    -- what is out of the older calls lies below it
+    -- the arrays that are out of older calls are below it
     pub below : LieBelow c.outs l.first
     below k o e =
         apart v (lending (ok_with c.ground c.outs) out) new.run.machine (under base next) 0 (suc k) out o handed.shows refl e (above k o e)
         (inr (is_level (under base next).around (waiting_over base w c.state.around) above_it round_is))
 
     module _ (job : KeepsJob self) where
-      -- it can be run
+      -- the job can be executed
       pub sound : IsSound q
       sound =
           let P : Verified → Type 0 = λ u. (ok : IsFit u) × IsJob u ok q (rest_of w p.limit q.before) in
@@ -172,7 +172,7 @@ module _ (keep : (code : Code) → CallsKeep code) (self : Strand) (limit : ℕ)
             light = subst IsLight (sym cut.detail) c.ground.light;
           }
 
--- for whichever of the definitions its job is
+-- for every job of the definitions that the job represents
 pub may_hand_out : ((code : Code) → CallsKeep code) → (self : Strand) (limit : ℕ) (spawn : Spawn) → HasCome self limit (stop.Spawned spawn)
     → ∥ MayHand (its_code self) self.run.machine (listed (its_code self) spawn.passed) (loans_of (its_code self) spawn.lent) ∥₁
 may_hand_out keep self limit spawn h = ∥∥₁_elim (sound_of self) (hlevel) (λ s. ∥∥₁_map (h.comes s.ok s.job s.is) (λ c. may_hand keep self limit spawn s.ok s.job c))

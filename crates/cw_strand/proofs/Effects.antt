@@ -1,4 +1,4 @@
--- What an effect that means a job says of it.
+-- The facts that follow if an effect means a job.
 use Rattle.std.proofs.Common.{◌≡◌, ℕ, ◌+◌, ◌<◌, ◌≤◌, true, false, nat_lt, if◌then◌else◌, List, [], ◌∷◌, Option, refl, sym, ap, ◌∙◌, subst}
 use Rattle.cw_facts.specs.Tests.{not_below, below}
 use Rattle.cw_slices.specs.Placed.{Placed}
@@ -20,7 +20,7 @@ use Rattle.cw_jobs.specs.Means.{Tells, MeansIt, IsMeaningOf}
 use Rattle.cw_machine.specs.Arrays.{IsFit}
 use Rattle.cw_strand.specs.Giving.{GivesBack}
 
--- its cost
+-- the cost of an effect
 abbrev pub CostsAs : Effect → (cost : ℕ) → Type 0
 CostsAs (effect.Joined frame rep shown) cost = shown.cost ≡ cost
 CostsAs (effect.Trapped c l lines n b) cost = n ≡ cost
@@ -30,7 +30,7 @@ abbrev pub IsOver : Effect → Type 0
 IsOver (effect.OverLimit b) = Unit {0}
 IsOver _ = ⊥
 
--- whichever of the definitions the job is, by code that is the same
+-- the meaning of a job with equal code, for every job of the definitions that it represents
 pub meant : (job : Job) (e : Effect) → IsMeaningOf job e → (v : Verified) → code_of job.parts.value ≡ v → (is : IsFit v) (j : jobs.Job)
     → IsJob v is job.parts.value j → ∥ MeansIt v is job.parts.value e j ∥₁
 unfolding IsMeaningOf
@@ -51,7 +51,7 @@ module _ (v : Verified) (is : IsFit v) (q : Parts) (j : jobs.Job) where
   homes_in (effect.GivenUp b) back replaced g m =
       subst (KeepsHomes q.rest.slices.items back) g.1 (subst (λ x. KeepsHomes q.rest.slices.items x []) g.0 m.homes)
 
-  -- the same of the effect of the definitions
+  -- the cost of the effect of the definitions
   cost_told : (e : Effect) (cost : ℕ) (d : jobs.Effect) → CostsAs e cost → Tells (code_view v.code) j q.rest e d → cost_of d ≡ cost
   cost_told (effect.Ended value shown) cost d c t = absurd c
   cost_told (effect.Memory b) cost d c t = absurd c
@@ -86,7 +86,7 @@ module _ (v : Verified) (is : IsFit v) (q : Parts) (j : jobs.Job) where
   pub over_in : (e : Effect) → IsOver e → (m : MeansIt v is q e j) → m.effect ≡ jobs.OverLimit
   over_in e o m = over_told e m.effect o m.tells
 
-  -- a rest does not end its call
+  -- a continuation does not end its call
   ended_told : (value : _) (shown : Shown) (d : jobs.Effect) → j.extent ≡ ToJoin → Tells (code_view v.code) j q.rest (effect.Ended value shown) d → ⊥
   ended_told value shown (jobs.Ended x arrays u k) e t = differ (sym t.0 ∙ e)
     where
@@ -100,7 +100,7 @@ module _ (v : Verified) (is : IsFit v) (q : Parts) (j : jobs.Job) where
   pub never_ends : (value : _) (shown : Shown) → j.extent ≡ ToJoin → MeansIt v is q (effect.Ended value shown) j → ⊥
   never_ends value shown e m = ended_told value shown m.effect e m.tells
 
--- giving, by the definitions
+-- giving an effect, in the definitions
 module _ (code : Code) (keep : CallsKeep code) (j out : jobs.Job) (s : State) (count : ℕ) (outs : List jobs.Job) (is : IsStrandOf code j (Waits s count (out ∷ outs))) where
   gave : (d : jobs.Effect) → JobMeaning code out d → IsStrandOf code j (give j (Waits s count (out ∷ outs)) d)
   gave d m = (keep.giving j (Waits s count (out ∷ outs)) out outs d is refl m).0

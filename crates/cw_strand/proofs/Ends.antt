@@ -1,4 +1,4 @@
--- What a strand makes of its job means it.
+-- The effect that a strand makes of its job means the job.
 use Rattle.std.proofs.Common.{◌≡◌, ℕ, ◌≤◌, List, [], ◌∷◌, length, refl, sym, ap, ◌∙◌, subst}
 use Rattle.std.specs.Prelude.{map, reverse}
 use Rattle.std.specs.Coded.{le_prop}
@@ -54,7 +54,7 @@ module _ (self : Strand) (is : IsFit (its_code self)) (j : jobs.Job) where
   abbrev code : Code
   code = code_view (its_code self).code
 
-  -- with nothing out its arrays are in its machine
+  -- if nothing is out, its arrays are in its machine
   pub record IsHalted (e : jobs.Effect) : Type 0 where
     pub ground : Ground (its_code self) is (its_parts self) j
     pub out : List jobs.Job
@@ -131,7 +131,7 @@ module _ (m m' : Machine) (same : m'.blocks.items ≡ m.blocks.items) where
     same = λ a lt some. ap (λ l. (block l a).cells) same ∙ k.same a lt some;
   })
 
--- as a proposition
+-- the premise without its truncation
 may_up : (m : Machine) (n : ℕ) → ∥ MayGiveUp m n ∥₁ → MayGiveUp m n
 may_up m n h = record {
   there = ∥∥₁_elim h le_prop (λ x. x.there);
@@ -161,7 +161,7 @@ module _ (keep : (code : Code) → CallsKeep code) (kept : RestsAreKept) (self :
       (∥∥₁_elim (sound_of self) (hlevel) (λ s. ∥∥₁_map (running.holds s.ok s.job s.is) (λ d.
       may self s.ok s.job kept jobs.Memory (up_of self s.ok s.job e none d)))))
 
-  -- an effect tells the trap, or that the limit was passed, and gives the arrays back
+  -- an effect reports the trap, or that the limit was exceeded, and returns the arrays
   abbrev pub TellsTrap : Trap → (line : ℕ) → Effect → Type 0
   TellsTrap trap line (effect.Trapped c l lines cost back) =
       (c ≡ trap) × (l ≡ line) × (lines.items ≡ self.run.machine.lines.items) × (cost ≡ self.count) × GivesUp self.run.machine (length self.parts.value.rest.slices.items) back.items
@@ -171,7 +171,7 @@ module _ (keep : (code : Code) → CallsKeep code) (kept : RestsAreKept) (self :
   TellsOver (effect.OverLimit back) = GivesUp self.run.machine (length self.parts.value.rest.slices.items) back.items
   TellsOver _ = ⊥
 
-  -- or that the job was given up
+  -- an effect reports that the job was given up
   abbrev pub TellsUp : Effect → Type 0
   TellsUp (effect.GivenUp back) = GivesUp self.run.machine (length self.parts.value.rest.slices.items) back.items
   TellsUp _ = ⊥
@@ -231,7 +231,7 @@ module _ (keep : (code : Code) → CallsKeep code) (kept : RestsAreKept) (self :
   unfolding IsMeaningOf
   up_means e at t = λ is j job. ∥∥₁_map (running.holds is j job) (λ d. up_it e t is j (up_of self is j at none d))
 
--- want of memory means any job
+-- the effect that memory ran out means every job
 abbrev pub IsMemory : Effect → Type 0
 IsMemory (effect.Memory back) = Unit {0}
 IsMemory _ = ⊥

@@ -1,4 +1,4 @@
--- A run over a block in which nothing waits, with nothing round it, is as it is.
+-- A run is unchanged if it is placed over a state with no waiting results and no enclosing blocks.
 use Rattle.std.proofs.Common.{◌≡◌, ℤ, List, [], ◌∷◌, ◌++◌, refl, ap, ◌∙◌}
 use Rattle.std.proofs.lemmas.List.{append-nil}
 use Rattle.cw_model.specs.Outcome.{Trace, quiet, joined}

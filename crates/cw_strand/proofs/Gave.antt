@@ -47,7 +47,7 @@ module _ (self : Strand) (job : Job) (others : List Job) (newest : Newest self j
   abbrev q : Parts
   q = lent_parts newest.lent
 
-  -- MEMORY WAS WANTING
+  -- MEMORY RAN OUT
   pub lost_runs : ((code : Code) → CallsKeep code) → (new : Strand) → HasLost self new → IsRunning new
   lost_runs keep new lost = goes_so self job others newest running new (lost.left newest.lent newest.rest newest.are) (subst (λ n. p.before + n ≤ p.limit) (sym lost.count) running.keeps.within)
       (λ is j d. ∣ record {
@@ -114,7 +114,7 @@ module _ (self : Strand) (job : Job) (others : List Job) (newest : Newest self j
         known : is_lost self.mode ≡ false
         known = subst (λ m. is_lost m ≡ false) (sym waiting) refl
 
-        -- it stops by its limit
+        -- the strand stops because of its limit
         module _ (keep : (code : Code) → CallsKeep code) (new : Strand) (home : HasPoppedHome self back replaced (record new { mode = self.mode })) where
           left : reverse new.lent.items ≡ newest.rest
           left = home.left newest.lent newest.rest newest.are
@@ -142,7 +142,7 @@ module _ (self : Strand) (job : Job) (others : List Job) (newest : Newest self j
               }))
               home.of home.parts home.spares
 
-          -- for its cost
+          -- the strand stops because the cost of the continuation exceeds its limit
           pub passes_runs : new.mode ≡ mode.Over → (cost : ℕ) → CostsAs e cost → passes_limit self cost ≡ true → IsRunning new
           passes_runs over cost costs passes = over_runs over (λ is j g h m.
               let jo = out self job others newest is j g h in
@@ -154,13 +154,13 @@ module _ (self : Strand) (job : Job) (others : List Job) (newest : Newest self j
               let w = running.keeps.within in
               gave_over code (keep code) j jo h.state h.count (rests self job others newest is j g h) (waits self job others newest is j g h) m.effect m.means (omega (arith, lt, c, n, jl, jb, w)))
 
-          -- or the rest had passed it
+          -- the strand stops because the continuation has exceeded the limit
           pub limit_runs : new.mode ≡ mode.Over → IsOver e → IsRunning new
           limit_runs over is_over = over_runs over (λ is j g h m.
               let jo = out self job others newest is j g h in
               gave_limit code (keep code) j jo h.state h.count (rests self job others newest is j g h) (waits self job others newest is j g h) m.effect (over_in v is q jo e is_over m) m.means)
 
--- what came home, whatever the mode is then
+-- the arrays that returned, for every mode of the strand afterwards
 pub mode_back : (self : Strand) (back : List Placed) (replaced : List (Option Placed)) (popped : Strand) → HasPoppedHome self back replaced popped
     → HasPoppedHome self back replaced (record popped { mode = self.mode })
 mode_back self back replaced popped home = record {
@@ -174,7 +174,7 @@ mode_back self back replaced popped home = record {
   home = home.home;
 }
 
--- a rest does not end its call
+-- a continuation does not end its call
 pub never_given : (self : Strand) (job : Job) (others : List Job) (newest : Newest self job others) → IsRunning self → (value : _) (shown : Shown) → IsMeaningOf job (effect.Ended value shown) → ⊥
 never_given self job others newest running value shown means =
     let joins = (running.rests 0 newest.lent (subst (λ l. slice_get l 0 ≡ Some newest.lent) (sym newest.are) refl)).joins in

@@ -1,4 +1,4 @@
--- The effect of a rest that came to its join was given to a strand that waits for it.
+-- The effect of a continuation that reached its join was given to a strand that waits for it.
 use Rattle.std.proofs.Common.{◌≡◌, ℕ, ◌+◌, ◌-◌, ◌≤◌, false, Option, List, [], ◌∷◌, sym, ap₂, ◌∙◌, subst, arith}
 use Rattle.std.specs.Prelude.{reverse}
 use Rattle.std.proofs.Math.Logic.{∥∥₁_elim, ∥∥₁_map}
@@ -57,7 +57,7 @@ use Rattle.cw_strand.proofs.Effects.{gave_within}
 use Rattle.cw_strand.proofs.Taken.{shows_joined}
 use Rattle.cw_strand.proofs.Gave.{meant_in}
 
--- the record of a rest is the same whatever its site
+-- the record of a continuation does not depend on its site
 record_at : (a b count : ℕ) (es : List Event) (r : Recorder) → RecordsIn (origins.Rest a) count [] es r → RecordsIn (origins.Rest b) count [] es r
 record_at a b count es r h = record {
   goes_on = h.goes_on;
@@ -67,7 +67,7 @@ record_at a b count es r h = record {
   apart = h.apart;
 }
 
--- where not all is counted a meter knows no site of a rest, and is asked for none
+-- if not all measures are counted, a meter knows no site of a continuation, and needs none
 at_site : (code : Code) (d : Detail) (a b : ℕ) (frame : Standing) (t : Trace) (cost : ℕ) (m : Meter) → IsSite d a b
     → CountsEffect code d a (jobs.Joined frame t cost) m → CountsEffect code d b (jobs.Joined frame t cost) m
 at_site code Values a b frame t cost m e h = λ g q.
@@ -81,12 +81,12 @@ at_site code Strands a b frame t cost m e h = λ g q.
     subst B (sym q) (was.0, (was.1.0, record_at a b cost t.events m.recorder was.1.1))
 at_site code (Measures burden) a b frame t cost m e h = subst (λ z. CountsEffect code (Measures burden) z (jobs.Joined frame t cost) m) e h
 
--- an effect is the frame and what was shown at a join
+-- an effect holds the frame at a join and what was shown
 abbrev pub IsJoin : Effect → Rest → List (Option Placed) → Shown → Type 0
 IsJoin (effect.Joined f r s) frame replaced shown = (f ≡ frame) × (r.items ≡ replaced) × (s ≡ shown)
 IsJoin _ frame replaced shown = ⊥
 
--- what it says of the rest
+-- the facts that the effect states about the continuation
 record Came (v : Verified) (is : IsFit v) (q : Parts) (j : jobs.Job) (back : Rest) (replaced : List (Option Placed)) (shown : Shown) : Type 0 where
   pub frame : Standing
   pub trace : Trace
@@ -161,7 +161,7 @@ module _ (self : Strand) (job : Job) (others : List Job) (newest : Newest self j
     may : MayJoin self.run.machine v back replaced newest.lent.home
     may = record { code = v; ok = ok_with g sp.others; out = sp.out; state = under g.base h.state; frame = came.frame; waits = waits_under g.base h.state; gives = gives_it }
 
-    -- the strand goes on at the join
+    -- the strand continues at the join
     module _ (keep : (code : Code) → CallsKeep code) (meters : CallsKeepMeters) (r : Run) (joined : HasJoined self.run v self.count back replaced newest.lent.home shown r)
         (le : p.before + (self.count + shown.cost) ≤ p.limit) (new : Strand) (left : reverse new.lent.items ≡ newest.rest) (run_is : new.run ≡ r)
         (count_is : new.count ≡ self.count + shown.cost) (going : new.mode ≡ mode.Going) where

@@ -1,4 +1,4 @@
--- The effect of a rest that trapped was given to a strand that waits for it.
+-- The effect of a continuation that trapped was given to a strand that waits for it.
 use Rattle.std.proofs.Common.{◌≡◌, ℕ, ◌+◌, ◌-◌, ◌≤◌, ℤ, false, List, [], ◌++◌, refl, sym, ap, ◌∙◌, subst, arith}
 use Rattle.std.specs.Prelude.{reverse}
 use Rattle.std.proofs.Math.Logic.{∥∥₁_map}
@@ -72,7 +72,7 @@ module _ (self : Strand) (job : Job) (others : List Job) (newest : Newest self j
   abbrev q : Parts
   q = lent_parts newest.lent
 
-  -- its arrays may come home to it
+  -- the arrays may return to the strand
   pub may_trapped : MayPopHome mid back []
   may_trapped =
       let m = may_waits self job others newest running e means back [] (trap_back e trap line lines cost back told) waiting remain in

@@ -1,4 +1,4 @@
--- What is known where the rest of a block comes back to the strand that waits for it.
+-- The facts that hold when the continuation of a block returns to the strand that waits for it.
 use Rattle.std.proofs.Common.{◌≡◌, ℕ, ◌-◌, ◌≤◌, ℤ, true, Option, Some, None, List, [], ◌∷◌, ◌++◌, length, refl, sym, ap, ◌∙◌, subst, arith}
 use Rattle.std.specs.Prelude.{slice_get}
 use Rattle.cw_model.specs.Outcome.{Trace, quiet}
@@ -40,7 +40,7 @@ use Rattle.cw_strand.proofs.RunsOn.{IsHeldBack}
 use Rattle.cw_strand.proofs.Same.{Newest}
 use Rattle.cw_strand.proofs.TakenBack.{Split, split, rest_out, lends_it}
 
--- the run of a rest that came to its join came there
+-- the run of a continuation whose effect is at its join reached the join
 pub record ComesThere (code : Code) (job : jobs.Job) (frame : Standing) (t : Trace) : Type 0 where
   pub budget : ℕ
   pub left : ℕ
@@ -68,7 +68,7 @@ comes_there code job frame t cost (Same is) = came_of code job frame t cost (cou
 comes_there code job frame t cost (Passed e h) = cc
 comes_there code job frame t cost (Short e) = cc
 
--- results over what stands round a run
+-- results, placed over the enclosing blocks of a run
 over_results : (b : State) (w : Waiting) (around : List Around) → (waiting_over b w around).results ≡ results_under b around w.results
 over_results b w [] = refl
 over_results b w (a ∷ around) = refl
@@ -85,7 +85,7 @@ out_alone s f shape none g =
 same_func : (code : Code) (k l : ℕ) (f g : Func) → slice_get code.funcs k ≡ Some f → slice_get code.funcs l ≡ Some g → k ≡ l → f ≡ g
 same_func code k l f g e e' same = let q : Some f ≡ Some g = sym e ∙ ap (slice_get code.funcs) same ∙ e' in cc
 
--- the rest that is out begins well over the state in which its block goes on
+-- the start of the continuation that is out, placed over the state in which its block continues, is a good state
 out_starts : (code : Code) (fits : Fits code) (s : State) (limit before : ℕ) → s.operands ≡ [] → GoodState code fits s → GoodState code fits (under s (job_start (rest_at s limit before)))
 out_starts code fits s limit before none g = record { seat = g.seat; call = out_alone s g.seat.func g.seat.shape none g.call; others = g.others }
 
@@ -113,7 +113,7 @@ module _ (self : Strand) (job : Job) (others : List Job) (newest : Newest self j
   abbrev sp : Split v is p g.base l h.waited.others h.waited.runs.outs newest.lent newest.rest
   sp = split self job others newest is j g h
 
-  -- it is the rest of the block that the strand goes on with
+  -- the job is the continuation of the block in which the strand continues
   abbrev pub out : jobs.Job
   out = rest_at s p.limit q.before
 
@@ -140,7 +140,7 @@ module _ (self : Strand) (job : Job) (others : List Job) (newest : Newest self j
   pub none : s.operands ≡ []
   none = waits.2.0.none
 
-  -- what it came to at the join, by the definitions
+  -- the frame that it reached at the join, by the definitions
   module _ (stay : RestsStayInside) (seats : (code : Code) (fits : Fits code) → SeatsLie code fits) (settles : FitSettles) (frame : Standing)
       (t : Trace) (cost : ℕ) (means : JobMeaning code out (Joined frame t cost)) where
     shown : Shows v (lending (ok_with g sp.others) sp.out) self.run.machine (under g.base s)
@@ -166,14 +166,14 @@ module _ (self : Strand) (job : Job) (others : List Job) (newest : Newest self j
         (stay code is.fits out b seat.index seat.func frame t cost refl out_is.good seat.is_func start means) in
         lies.one frame.place seat.index seat.func seat' seat.is_func at
 
-    -- it reads as many arrays as the call does
+    -- the frame and the call read the same number of arrays
     reads_as_many : length frame.readers ≡ length s.readers
     reads_as_many =
         let a = came in
         let same = same_func code a.seat.index shown.good.seat.index a.seat.func shown.good.seat.func a.seat.is_func shown.good.seat.is_func (together shown.good.seat a.seat) in
         sym a.good.readers ∙ ap (λ (x : Func). x.readers) same ∙ shown.good.call.readers
 
-    -- and what the run was given as shares is only read at the join, too
+    -- the arrays that the run got as shares are only read at the join, too
     pub frozen : SharesFrozen v (ok_with g sp.others) (under g.base (resumed s frame t))
     frozen a lt some =
         frozen_arrives code is.fits is.steps settles is.frozen (under g.base s) (length g.base.around) a
@@ -205,7 +205,7 @@ module _ (self : Strand) (job : Job) (others : List Job) (newest : Newest self j
                 (subst (λ z. ComesRound q.rest.cells.items 0 (length z) (beneath g.base l.around)) (sym b.slots) c.1),
           )
 
-      -- what waits beside the result of the call
+      -- the values that wait next to the result of the call
       comes_at : (target : Option ℕ) (results : Results ℤ) → ResultWaits target results l.waiting.results
           → ((a : ℕ) → is_full (slice_get s.slots a) ≡ true → IsNotAmong a (slots_in (results_under g.base s.around results)))
           → ComesBut target back.cells.items (results_under g.base s.around results)

@@ -1,4 +1,4 @@
--- A strand whose run came to a stop that hands nothing out: it waits, or it has stopped.
+-- A strand whose run reached a stop that hands nothing out: the strand waits, or it has stopped.
 use Rattle.std.proofs.Common.{◌≡◌, ◌≢◌, ℕ, suc, ◌+◌, ◌-◌, ◌≤◌, false, List, ◌∷◌, refl, sym, ap, ◌∙◌, subst, arith}
 use Rattle.std.specs.Prelude.{reverse, Some, slice_get}
 use Rattle.std.proofs.Math.Logic.{∥∥₁_map}
@@ -64,7 +64,7 @@ module _ (keep : (code : Code) → CallsKeep code) (self : Strand) (limit : ℕ)
     not_come : (to : Stop) (c : CameTo self limit to is j) → has_come (extent_of p.extent) code c.state ≡ false → has_come j.extent code c.state ≡ false
     not_come to c h = subst (λ x. has_come x code c.state ≡ false) (sym c.ground.job.extent) h
 
-    -- one instruction more is within the limit
+    -- one more instruction is within the limit
     one_more : (to : Stop) (c : CameTo self limit to is j) → self.count ≡ c.later + 1 → j.before + (c.later + 1) ≤ j.limit
     one_more to c e = let w = job.within in let l = c.ground.job.limit in let b = c.ground.job.before in omega (arith, e, w, l, b)
 
@@ -110,7 +110,7 @@ module _ (keep : (code : Code) → CallsKeep code) (self : Strand) (limit : ℕ)
           held = refl;
         }
 
-    -- the rest of the spawned call that has returned is the newest out
+    -- the continuation of the spawned call that has returned is the newest out
     newest : (c : CameTo self limit stop.CameBack is j) (r : HasReturned c.state c.at.1.next) → NewestOut p r.level (levels_of c.at.1.next.around) c.jobs_out c.levels lent
     newest c r =
         let base = c.ground.base in
@@ -178,7 +178,7 @@ module _ (keep : (code : Code) → CallsKeep code) (self : Strand) (limit : ℕ)
     holds = λ is j job. ∥∥₁_map (h.comes is j job) (λ c. came_back is j h.keeps c);
   }
 
--- memory is wanting, whatever a strand was at
+-- memory ran out, whatever the strand did before
 pub fails : ((code : Code) → CallsKeep code) → (self : Strand) → IsRunning self → IsRunning (record self { mode = mode.Memory })
 fails keep self h = record {
   keeps = keeps_as self mode.Memory h.keeps;
@@ -192,7 +192,7 @@ fails keep self h = record {
   });
 }
 
--- one that goes on or waits: its arrays are known, and where each is to come home
+-- the arrays of a strand that is running or waits are known, and where each must return
 stands_before : ShownRemain → (self : Strand) (is : IsFit (its_code self)) (j : jobs.Job) (g : Ground (its_code self) is (its_parts self) j)
     (m : Mode) (d : strands.Strand) → stops m ≡ false → HeldIn self is j g m d
     → Stands (record self { mode = mode.GivenUp }) is j g
@@ -217,7 +217,7 @@ stands_before remain self is j g mode.Over d goes h = cc
 stands_before remain self is j g mode.Memory d goes h = cc
 stands_before remain self is j g mode.GivenUp d goes h = cc
 
--- one that has stopped stays as it is
+-- a strand that has stopped keeps its mode
 pub stays_up : (m : Mode) → m ≢ mode.Going → m ≢ mode.Waiting → m ≡ up_of m
 stays_up mode.Going g w = absurd (g refl)
 stays_up mode.Waiting g w = absurd (w refl)
@@ -226,7 +226,7 @@ stays_up mode.Over g w = refl
 stays_up mode.Memory g w = refl
 stays_up mode.GivenUp g w = refl
 
--- it is given up
+-- the strand is given up
 pub gives_up : ((code : Code) → CallsKeep code) → ShownRemain → (self : Strand) → stops self.mode ≡ false → IsRunning self → IsRunning (record self { mode = mode.GivenUp })
 gives_up keep remain self goes h = record {
   keeps = keeps_as self mode.GivenUp h.keeps;
@@ -240,7 +240,7 @@ gives_up keep remain self goes h = record {
   });
 }
 
--- where memory was wanting the rest is as it was
+-- a strand in which memory ran out, and of which only the spares changed, is a strand of its job
 pub spared_runs : ((code : Code) → CallsKeep code) → (old new : Strand) (limit : ℕ) (to : Stop) → HasCome old limit to → HasSpared old new → IsRunning (record new { mode = mode.Memory })
 spared_runs keep old new limit to h same = subst IsRunning
     (same_strand (record old { lent = new.lent; spares = new.spares; mode = mode.Memory }) (record new { mode = mode.Memory }) same.of same.parts same.run same.count refl refl refl)

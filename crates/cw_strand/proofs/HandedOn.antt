@@ -1,4 +1,4 @@
--- A strand whose rest was handed out goes on.
+-- A strand whose continuation was handed out continues.
 use Rattle.std.proofs.Common.{◌≡◌, ℕ, zero, suc, ◌+◌, false, Some, List, [], ◌∷◌, ◌++◌, length, refl, sym, ap, ◌∙◌, subst, inr, arith}
 use Rattle.std.specs.Prelude.{map, reverse, slice_get}
 use Rattle.std.proofs.Math.Logic.{∥∥₁_map}
@@ -40,7 +40,7 @@ use Rattle.cw_jobs.specs.declared.job.Job.{Job}
 use Rattle.cw_strand.proofs.Same.{spare_as}
 use Rattle.cw_strand.proofs.Cutting.{over_slots, over_arrays, spawned, handed, rest_job, below}
 
--- the strand once its job is among those that are out
+-- the strand after the job was added to the jobs that are out
 module _ (keep : (code : Code) → CallsKeep code) (apart : OutsLieApart) (old mid : Strand) (limit : ℕ) (spawn : Spawn) (x : Lent)
     (cut : HasCut old mid spawn (lent_parts x) x.home.lender) (loaned : x.home.lent ≡ spawn.lent) (target : x.home.target ≡ spawn.target)
     (waits : x.home.floor ≡ length old.run.machine.frames.items) (after : List Lent) (are : after ≡ x ∷ reverse old.lent.items) where
@@ -58,7 +58,7 @@ module _ (keep : (code : Code) → CallsKeep code) (apart : OutsLieApart) (old m
     o = out_of (length (beneath c.ground.base c.state.around)) x.home.lender.first old.run.machine.first_array
         (length (waiting_over c.ground.base s.waiting c.state.around).arrays) (slots_lent (loans_of v spawn.lent)) (lent_parts x).rest.slices.items
 
-    -- as many frames are on the machine as calls wait in the spawned call
+    -- the number of the machine's frames is the number of calls that wait in the spawned call
     calls_here : length old.run.machine.frames.items ≡ suc (calls_in (beneath c.ground.base c.state.around))
     calls_here =
         frames_are v (ok_with c.ground c.outs) old.run.machine (under c.ground.base c.at.1.next) c.at.1.shows.shows
@@ -110,7 +110,7 @@ module _ (keep : (code : Code) → CallsKeep code) (apart : OutsLieApart) (old m
         subst (AreOut p (levels_of c.at.1.next.around) (job_out ∷ c.jobs_out) (level ∷ c.levels)) (sym are)
         (subst (λ l. AreOut p l (job_out ∷ c.jobs_out) (level ∷ c.levels) (x ∷ reverse old.lent.items)) (sym s.levels) (inr (refl, rest_is, c.are)))
 
-    -- the strand as it goes on, over the one that it was
+    -- the strand as it continues, stated in terms of the strand before
     abbrev pub on_with : (lent : Strand) → Strand
     on_with lent = record old { run = mid.run; lent = lent.lent; spares = lent.spares }
 
@@ -173,7 +173,7 @@ module _ (keep : (code : Code) → CallsKeep code) (apart : OutsLieApart) (old m
       holds = λ is j job. ∥∥₁_map (h.comes is j job) (λ c. lent_holds is j h.keeps c lent same h.going);
     }
 
-    -- and so is the same with its parts told otherwise
+    -- a strand with these parts is a strand of its job
     pub goes_as : (new : Strand) → new.of ≡ old.of → new.parts ≡ old.parts → new.run ≡ mid.run → new.count ≡ old.count → new.lent ≡ lent.lent
         → new.spares ≡ lent.spares → new.mode ≡ old.mode → IsRunning new
     goes_as new a b r n l p m = subst IsRunning (
@@ -185,7 +185,7 @@ module _ (keep : (code : Code) → CallsKeep code) (apart : OutsLieApart) (old m
         ∙ ap (λ z. record old { of = new.of; parts = new.parts; run = new.run; count = new.count; lent = new.lent; spares = z }) (sym p)
         ∙ ap (λ z. record old { of = new.of; parts = new.parts; run = new.run; count = new.count; lent = new.lent; spares = new.spares; mode = z }) (sym m)) goes_on
 
--- the strand that the job was handed out of
+-- the step of the strand out of which the job was handed
 pub lent_step : ((code : Code) → CallsKeep code) → OutsLieApart → (old mid new : Strand) (limit : ℕ) (spawn : Spawn) (job : Job) (l : Lender)
     (x : Lent) → HasCome old limit (stop.Spawned spawn) → HasCut old mid spawn job.parts.value l
     → x.job.value ≡ job → x.home.lender ≡ l → x.home.lent ≡ spawn.lent → x.home.target ≡ spawn.target

@@ -1,4 +1,4 @@
--- Slices come home to the newest job out of a strand that goes no further.
+-- Slices return to the newest job out of a strand that does not continue.
 use Rattle.std.proofs.Common.{◌≡◌, suc, ◌+◌, ◌≤◌, true, false, Option, Some, List, [], ◌∷◌, refl, sym, ap, ◌∙◌, subst}
 use Rattle.std.specs.Prelude.{reverse, slice_get}
 use Rattle.std.proofs.Math.Logic.{∥∥₁_elim, ∥∥₁_map}
@@ -30,7 +30,7 @@ use Rattle.cw_strand.specs.Moves.{HasPoppedHome, HasSpared, MayReach, Reaches}
 use Rattle.cw_strand.proofs.RunsOn.{sound_of}
 use Rattle.cw_strand.proofs.Same.{same_strand, spare_as, Newest}
 
--- the newest of what is out, at whichever level
+-- the newest job out, at any level
 pub record Newly (v : Verified) (is : IsFit v) (p : Parts) (base : State) (levels : List Level) (outs : List Out) (x : Lent) (lent : List Lent) : Type 0 where
   pub level : Level
   pub others_levels : List Level
@@ -48,11 +48,11 @@ newly_of v is p base [] (o ∷ outs) x lent h = absurd h
 newly_of v is p base (l ∷ levels) [] x lent h = absurd h
 newly_of v is p base (l ∷ levels) (o ∷ outs) x lent h = record { level = l; others_levels = levels; out = o; others = outs; are = refl; is_lent = h.0; below = h.1; rest = h.2 }
 
--- slices that nobody changed lie where they lay
+-- slices that nobody changed are where they were
 same_homes : (slices back : List Placed) → back ≡ slices → KeepsHomes slices back []
 same_homes slices back e = subst (λ b. KeepsHomes slices b []) (sym e) (unchanged_homes slices)
 
--- the newest job came home, whatever boxes are kept
+-- the slices of the newest job returned, whichever boxes are kept
 pub record CameHome (old : Strand) (back : List Placed) (replaced : List (Option Placed)) (new : Strand) : Type 0 where
   pub of : new.of ≡ old.of
   pub parts : new.parts ≡ old.parts
@@ -90,7 +90,7 @@ module _ (self : Strand) (job : Job) (others : List Job) (newest : Newest self j
       pub may_home : MayReach self.run.machine v newest.lent.home back replaced
       may_home = record { code = v; ok = ok_with g newly.others; out = newly.out; comes = comes }
 
-      -- and then the strand stands on with what is left
+      -- the strand's arrays are then known, with the remaining jobs out
       pub stands_on : (new : Strand) (m : Machine) → reverse new.lent.items ≡ newest.rest → Reaches self.run.machine v newest.lent.home back replaced m
           → Stands (record self { run = record new.run { machine = m }; lent = new.lent; count = new.count; spares = new.spares; mode = new.mode }) is j g
       stands_on new m left home = record {
@@ -115,7 +115,7 @@ module _ (self : Strand) (job : Job) (others : List Job) (newest : Newest self j
   stands_in is j g mode.GivenUp (Waits t count out) s l h = absurd h
   stands_in is j g mode.GivenUp (Halted e out) s l h = h.1
 
-  -- a strand that has stopped holds what it held
+  -- a strand that has stopped represents what it represented before
   held_on : (is : IsFit (its_code self)) (j : jobs.Job) (g : Ground (its_code self) is (its_parts self) j) (a : Mode) (d : strands.Strand)
       (new : Strand) → new.count ≡ self.count → new.run.machine.lines.items ≡ self.run.machine.lines.items → stops a ≡ true
       → (is_lost a ≡ false → Stands (record self { run = new.run; lent = new.lent; count = new.count; spares = new.spares; mode = new.mode }) is j g)
@@ -136,7 +136,7 @@ module _ (self : Strand) (job : Job) (others : List Job) (newest : Newest self j
   held_on is j g mode.Memory (Waits t k out) new count lines s home h = absurd h
   held_on is j g mode.Memory (Halted e out) new count lines s home h = h
 
-  -- a strand after its newest job came back, whatever else it is now
+  -- a strand after its newest job returned, whatever else changed
   module _ (running : IsRunning self) (new : Strand) (left : reverse new.lent.items ≡ newest.rest) (within : p.before + new.count ≤ p.limit)
       (holds : (is : IsFit (its_code self)) (j : jobs.Job) → Holds self is j
       → ∥ Holds (record self { run = new.run; lent = new.lent; count = new.count; spares = new.spares; mode = new.mode }) is j ∥₁) where
@@ -163,12 +163,12 @@ module _ (self : Strand) (job : Job) (others : List Job) (newest : Newest self j
     pub goes_so : new.of ≡ self.of → new.parts ≡ self.parts → new.spares ≡ self.spares → IsRunning new
     goes_so of parts spares = goes_spared of parts (spare_as self new spares of running.spares)
 
-  -- nobody ran it
+  -- nobody executed the job
   pub may_skip : IsRunning self → HasStopped self → (back : List Placed) → back ≡ rest_slices → is_lost self.mode ≡ false → ∥ MayReach self.run.machine v newest.lent.home back [] ∥₁
   may_skip running stopped back e known = ∥∥₁_elim (sound_of self) (hlevel) (λ s. ∥∥₁_map (running.holds s.ok s.job s.is) (λ d.
       may_home s.ok s.job d.ground (stands_in s.ok s.job d.ground self.mode d.strand stopped known d.held) back [] (same_homes rest_slices back e)))
 
-  -- a strand that has stopped, whose newest job came home
+  -- a strand that has stopped and whose newest job returned
   module _ (running : IsRunning self) (stopped : HasStopped self) (back : List Placed) (replaced : List (Option Placed)) (new : Strand) (home : CameHome self back replaced new) where
     pub stops_on : AreSpare new → ((is : IsFit (its_code self)) (j : jobs.Job) (g : Ground (its_code self) is (its_parts self) j)
         → Stands self is j g → ∥ KeepsHomes rest_slices back replaced ∥₁) → IsRunning new
@@ -213,7 +213,7 @@ module _ (self : Strand) (job : Job) (others : List Job) (newest : Newest self j
 pub came_home : (self : Strand) (back : List Placed) (replaced : List (Option Placed)) (popped : Strand) → HasPoppedHome self back replaced popped → CameHome self back replaced popped
 came_home self back replaced popped home = record { of = home.of; parts = home.parts; count = home.count; mode = home.mode; lines = home.lines; left = home.left; home = home.home }
 
--- it was skipped
+-- the job was skipped
 pub skips : (self : Strand) (job : Job) (others : List Job) (newest : Newest self job others) → IsRunning self → HasStopped self
     → (back : List Placed) → back ≡ rest_slices self job others newest → (popped new : Strand) → HasPoppedHome self back [] popped
     → HasSpared popped new → IsRunning new

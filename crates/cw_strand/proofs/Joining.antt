@@ -1,4 +1,4 @@
--- Totals to which others are joined, one after another.
+-- Totals to which other totals are joined, one at a time.
 use Rattle.std.proofs.Common.{◌≡◌, ◌≢◌, ⊎_elim, ℕ, zero, suc, ◌+◌, ◌<◌, ◌≤◌, Some, List, [], ◌∷◌, length, refl, sym, ap, ◌∙◌, subst, arith}
 use Rattle.std.specs.Prelude.{◌⊎◌, slice_get, slice_set, slice_index_or}
 use Rattle.std.proofs.lemmas.List.{length-set}
@@ -7,7 +7,7 @@ use Rattle.cw_model.specs.declared.total.Total.{Total}
 use Rattle.cw_jobs.specs.Totals.{joined_total}
 use Rattle.cw_strand.specs.Giving.{AreJoined, IsJoinedAt}
 
--- the first ones, so many, have theirs joined
+-- the first `k` totals have the others joined to them
 pub record JoinedTo (old more : List Total) (k : ℕ) (now : List Total) : Type 0 where
   pub as_many : length now ≡ length old
   pub done : (i : ℕ) (x y : Total) → i < k → slice_get old i ≡ Some x → slice_get more i ≡ Some y → slice_get now i ≡ Some (joined_total x y)

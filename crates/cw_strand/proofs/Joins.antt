@@ -1,4 +1,4 @@
--- A strand that came to the end of its job: its call has ended, or it is at the join.
+-- A strand at the end of its job: its call has ended, or it is at the join.
 use Rattle.std.proofs.Common.{◌≡◌, ℕ, ◌+◌, ℤ, true, false, Option, Some, List, [], ◌∷◌, length, refl, sym, ap, ◌∙◌, subst, arith}
 use Rattle.std.specs.Prelude.{map, reverse, slice_get}
 use Rattle.std.proofs.Math.Logic.{∥∥₁_elim, ∥∥₁_map}
@@ -54,7 +54,7 @@ shown_as code r cost count x t is e lines totals = record {
   totals = subst (λ l. HoldsTotals code l t.updates) (sym (ap (λ l. l.items) is.totals)) totals;
 }
 
--- with nothing round its state a strand has nothing out
+-- a strand whose state has no enclosing blocks and calls has nothing out
 module _ (self : Strand) (p : Parts) (around : List Around) (jobs_out : List jobs.Job) (levels : List Level)
     (are : AreOut p (levels_of around) jobs_out levels (reverse self.lent.items)) (alone : around ≡ []) where
   pub bare : AreOut p [] jobs_out levels (reverse self.lent.items)
@@ -119,7 +119,7 @@ module _ (keep : (code : Code) → CallsKeep code) (self : Strand) (limit : ℕ)
     unfolding IsMeaningOf
     end_means e t = λ is j job. ∥∥₁_map (h.comes is j job) (λ c. end_it e t is j c)
 
-  -- IT IS AT THE JOIN
+  -- THE STRAND IS AT THE JOIN
   same_func : (k l : ℕ) (f g : Func) → slice_get code.funcs k ≡ Some f → slice_get code.funcs l ≡ Some g → k ≡ l → f ≡ g
   same_func k l f g e e' same = let q : Some f ≡ Some g = sym e ∙ ap (slice_get code.funcs) same ∙ e' in cc
 
@@ -163,7 +163,7 @@ module _ (keep : (code : Code) → CallsKeep code) (self : Strand) (limit : ℕ)
         subst (λ n. Shows v (ok_of v is n (length j.arrays) p.rest.slices.items (length c.ground.base.around)) self.run.machine (under c.ground.base s)) (c.ground.joins joins).1
         (subst (λ o. Shows v (ok_with c.ground o) self.run.machine (under c.ground.base s)) out_nil c.at.1.shows.shows)
 
-    -- its call is that of the job
+    -- its call is the call of the job
     one_func : shows_job.good.seat.func ≡ base.good.seat.func
     one_func =
         let g0 = base.good in
@@ -206,7 +206,7 @@ module _ (keep : (code : Code) → CallsKeep code) (self : Strand) (limit : ℕ)
         none_lent self p c.state.around c.jobs_out c.levels c.are (alone stay seats s.ok s.job c) l more e))))
 
     module _ (meters : CallsKeepMeters) where
-      -- an effect has the frame and the arrays that the machine ended with
+      -- an effect holds the frame and the arrays with which the machine ended
       abbrev pub TellsJoin : Run → Effect → Type 0
       TellsJoin r (effect.Joined frame replaced shown) =
           EndsJob self.run.machine (length (its_parts self).rest.slices.items) frame replaced.items × IsShown r self.count shown

@@ -1,4 +1,5 @@
--- What stands round a state after an instruction: which spawned calls, and what the one that comes back goes on with.
+-- The spawned calls around a state after an instruction, and the values with which the block of a returned call
+-- continues.
 use Rattle.std.proofs.Common.{◌≡◌, ℕ, ℤ, Bool, true, false, if◌then◌else◌, Option, Some, None, List, [], ◌∷◌, ◌++◌, refl, sym, ap, ◌∙◌, subst}
 use Rattle.std.specs.Prelude.{slice_get, slice_set}
 use Rattle.cw_model.specs.declared.syntax.CallKind.{CallKind}
@@ -23,7 +24,7 @@ pub record HasSpawned (s s' : State) (target : Option ℕ) (taken : List Taken) 
   pub levels : levels_of s'.around ≡ record { waiting = waiting; around = s.around } ∷ levels_of s.around
   pub rest : (limit before : ℕ) → spawn_job s target taken limit before ≡ rest_of waiting limit before
 
--- one has come back
+-- a spawned call has returned
 pub record HasReturned (s s' : State) : Type 0 where
   pub level : Level
   pub around : s.around ≡ Caller level.waiting ∷ level.around
@@ -66,7 +67,7 @@ module _ (s : State) where
     level : Level
     level = record { waiting = w; around = around }
 
-    -- the call that waits goes on with these results
+    -- the waiting call continues with these results
     returned : (s' : State) → w.kind ≡ Spawned → IsBackAt (record { waiting = w; around = around }) s' → s'.around ≡ around → HasReturned s s'
     returned s' spawned back same = record {
       level = record { waiting = w; around = around };
@@ -126,6 +127,6 @@ module _ (s : State) where
 pub levels_move : (code : Code) (s s' : State) → step code s ≡ On s' → LevelsAfter (turn code s) s s'
 levels_move code s s' e = subst (Moved s (turn code s)) e (levels_by s code (slice_get code.instrs s.place))
 
--- where a run ends its call nothing stands round it
+-- a run that ends its call has no enclosing blocks and calls
 pub ends_alone : (code : Code) (s : State) (v : Option ℤ) (arrays : Slots (List ℤ)) (t : Trace) → step code s ≡ Ends v arrays t → s.around ≡ []
 ends_alone code s v arrays t e = subst (Moved s (turn code s)) e (levels_by s code (slice_get code.instrs s.place))

@@ -1,4 +1,4 @@
--- A strand that goes on may run, and where its run comes to.
+-- A strand that is running may execute instructions, and the stop that its run reaches.
 use Rattle.std.proofs.Common.{ℕ, ◌-◌, ◌≤◌, Bool, List, sym, ◌∙◌, subst, arith}
 use Rattle.std.specs.Prelude.{reverse}
 use Rattle.cw_code.specs.Code.{Code, code_view}
@@ -60,7 +60,7 @@ done_later v ok k floor stops limit (stop.Trapped c l) done r later s h = let e 
 done_later v ok k floor stops limit stop.Over done r later s h = let e = h.0 in omega (arith, e)
 done_later v ok k floor stops limit stop.NoMemory done r later s h = omega (arith, h)
 
--- the run of a strand went on to a stop
+-- the run of a strand continued up to a stop
 module _ (keep : (code : Code) → CallsKeep code) (self : Strand) (is : IsFit (its_code self)) (j : jobs.Job)
     (g : Ground (its_code self) is (its_parts self) j) (r : Run) (done limit : ℕ) (stops : Bool) (to : Stop) where
   abbrev after : Strand

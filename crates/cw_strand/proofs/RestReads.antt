@@ -1,5 +1,4 @@
--- What a rest reads as it comes to its join is what it read as it began; and what its run was given as shares stays only
--- read.
+-- A continuation reads the same arrays at its join as at its start; arrays that its run got as shares are only read.
 use Rattle.std.proofs.Common.{◌≡◌, ℕ, zero, suc, ◌+◌, ◌-◌, ◌<◌, ◌≤◌, ℤ, Bool, true, false, ◌&&◌, Option, Some, None, List, [], ◌∷◌, length, refl, sym, ap, ◌∙◌, subst, arith}
 use Rattle.std.specs.Prelude.{slice_get}
 use Rattle.std.proofs.lemmas.List.{nil_from_length}
@@ -26,7 +25,8 @@ frame_in : Came → Standing → Standing
 frame_in (Arrives frame t left) other = frame
 frame_in _ other = other
 
--- A run over a state that had an array of its outermost call frozen, up to a join of no block that was open then
+-- A run placed over a state that had an array of its outermost call frozen, up to the join of a block that was not
+-- open then
 module _ (code : Code) (fits : Fits code) (steps : FitSteps code fits) (settles : FitSettles) (stay : FrozenStay code fits) (b : State) (depth a : ℕ)
     (xs : List ℤ) (deep : depth ≤ length b.around) where
   pub record IsHeld (s : State) : Type 0 where
@@ -88,14 +88,14 @@ module _ (code : Code) (fits : Fits code) (steps : FitSteps code fits) (settles 
           (ap (λ c. frame_in c (standing s)) (sym (come_at ToJoin code (suc n) s come) ∙ e)) (at_join s come h)
       cases false come more = went (step code s) refl come (lifted_step code fits steps settles ToJoin (Upon b) s come h.good) more (sym (go_one ToJoin code n s come) ∙ e)
 
--- two lists of as many, the same by each index
+-- two lists of equal length with equal elements
 same_lists : {A : Type 0} (xs ys : List A) → length xs ≡ length ys → ((k : ℕ) (x y : A) → slice_get xs k ≡ Some x → slice_get ys k ≡ Some y → x ≡ y) → xs ≡ ys
 same_lists [] [] e h = refl
 same_lists [] (y ∷ ys) e h = absurd (omega (arith, e))
 same_lists (x ∷ xs) [] e h = absurd (omega (arith, e))
 same_lists (x ∷ xs) (y ∷ ys) e h = ap (λ z. z ∷ xs) (h 0 x y refl refl) ∙ ap (λ l. y ∷ l) (same_lists xs ys (omega (arith, e)) (λ k. h (suc k)))
 
--- a share comes back with its numbers, and what is read without numbers has none
+-- a share returns with its elements, and an array that is read without elements has none
 module _ (slices back : List Placed) (replaced : List (Option Placed)) (homes : KeepsHomes slices back replaced) (k : ℕ) (new : IsShare (placed back k)) (old : IsShare (placed slices k)) where
   same_share : 0 < length (placed slices k).items → (placed back k).items ≡ (placed slices k).items
   same_share some =
@@ -103,7 +103,8 @@ module _ (slices back : List Placed) (replaced : List (Option Placed)) (homes : 
       let kept = own_home (slice_get replaced k) (placed back k) (λ own e. homes.3 k shared own e) in
       ap (λ (p : Placed). p.items) (sym kept) ∙ (homes.1 k).2 shared
 
-  -- a new array that has one owner is no share: it has no numbers either
+  -- if the array that returns to a slot has no elements, its slice has none: a new array has one owner, so it is no
+  -- share
   new_none : (o : Option (Option Placed)) → slice_get replaced k ≡ o → length (own_or o (placed back k)).items ≡ 0 → length (placed back k).items ≡ 0
   new_none None e z = z
   new_none (Some None) e z = z

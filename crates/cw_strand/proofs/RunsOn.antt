@@ -1,4 +1,4 @@
--- A strand that runs goes on to a stop.
+-- A strand that is running continues up to a stop.
 use Rattle.std.proofs.Common.{◌≡◌, ◌≢◌, ℕ, Bool, ◌-◌, ◌≤◌, true, false, List, [], ◌∷◌, refl, sym, ap, ◌∙◌, subst, arith}
 use Rattle.std.specs.Prelude.{map, reverse}
 use Rattle.std.specs.Coded.{le_prop}
@@ -30,12 +30,12 @@ use Rattle.cw_strand.specs.Moves.{CameTo, HasCome, IsBefore, IsStill, RunsOn}
 use Rattle.cw_strand.proofs.Onward.{done_later, may_go, under_way, came_to}
 use Rattle.cw_strand.proofs.Halts.{came_back}
 
--- the job of a strand is one of the definitions, by code that fits
+-- the job of a strand represents a job of the definitions, with well-formed code
 pub sound_of : (self : Strand) → ∥ IsSound (its_parts self) ∥₁
 sound_of self = (its_job self).sound
 
 module _ (self : Strand) (is : IsFit (its_code self)) (j : jobs.Job) where
-  -- a strand that goes on
+  -- a strand that is running
   pub record IsGoing (g : Ground (its_code self) is (its_parts self) j) : Type 0 where
     pub state : State
     pub count : ℕ
@@ -51,7 +51,7 @@ module _ (self : Strand) (is : IsFit (its_code self)) (j : jobs.Job) where
   pub going_of : self.mode ≡ mode.Going → (d : Holds self is j) → IsGoing d.ground
   going_of e d = going_held d.ground d.strand d.is_of (subst (λ m. HeldIn self is j d.ground m d.strand) e d.held)
 
-  -- and one that waits
+  -- a strand that waits
   pub record IsHeldBack (g : Ground (its_code self) is (its_parts self) j) : Type 0 where
     pub state : State
     pub count : ℕ
@@ -67,13 +67,13 @@ module _ (self : Strand) (is : IsFit (its_code self)) (j : jobs.Job) where
   pub waiting_of : self.mode ≡ mode.Waiting → (d : Holds self is j) → IsHeldBack d.ground
   waiting_of e d = waiting_held d.ground d.strand d.is_of (subst (λ m. HeldIn self is j d.ground m d.strand) e d.held)
 
--- its run is under way
+-- the run of the strand is under way
 pub run_way : (self : Strand) → IsRunning self → self.mode ≡ mode.Going → ∥ IsUnderWay (its_code self) (floor_of self) self.count self.run ∥₁
 run_way self h e = ∥∥₁_elim (sound_of self) (hlevel) (λ s. ∥∥₁_map (h.holds s.ok s.job s.is) (λ d.
     let at = going_of self s.ok s.job e d in
     under_way self s.ok s.job d.ground at.state at.count at.out at.held))
 
--- and comes to a stop
+-- the run reaches a stop
 pub run_came : ((code : Code) → CallsKeep code) → (self : Strand) (r : Run) (done limit : ℕ) (stops : Bool) (to : Stop) → IsRunning self
     → self.mode ≡ mode.Going → GoesOn (its_code self) self.run self.count limit (floor_of self) stops to done r → done ≤ limit
     → limit ≤ (its_parts self).limit - (its_parts self).before
@@ -98,7 +98,7 @@ run_came keep self r done limit stops to h e goes le within = record {
       came_to keep self is j d.ground r done limit stops to at.state at.count at.out at.is_of at.held goes le within (let w = h.keeps.within in omega (arith, w)));
 }
 
--- something is out where a level is
+-- if there is a level, something is out
 lends_some : (self : Strand) (v : _) (is : IsFit v) (p : _) (base : State) (l : Level) (levels : List Level) (out : List Out)
     → Lends v is p base (l ∷ levels) out (reverse self.lent.items) → outs self ≢ []
 lends_some self v is p base l levels out h e = at out (reverse self.lent.items) h e
@@ -129,12 +129,12 @@ waits_at self e going = differ (sym e ∙ going)
     differ : mode.Waiting ≡ mode.Going → ⊥
     differ k = cc
 
--- instructions only add
+-- instructions only increase the count
 stretch_low : (k : Setting) (code : Code) (floor : ℕ) (stops : Bool) (count later : ℕ) (s s1 : State) → Stretch k code floor stops count s later s1 → count ≤ later
 stretch_low k code floor stops count _ s _ (Here _ _) = omega arith
 stretch_low k code floor stops count _ s _ (Further _ later _ s1 s2 before p) = let le = stretch_low k code floor stops count later s s1 before in omega (arith, le)
 
--- a run that may do nothing does nothing
+-- a run that may execute no instruction executes none
 still_at : (v : _) (ok : _) (k : _) (floor : ℕ) (stops : Bool) (limit : ℕ) (to : Stop) (done : ℕ) (r : Run) (later : ℕ) (s : State)
     → StopsAt v ok k floor stops limit to done r later s → done ≤ later → IsStill to
 still_at v ok k floor stops limit (stop.Spawned spawn) done r later s h le = let e = h.0 in omega (arith, e, le)
@@ -154,7 +154,7 @@ decided (stop.Trapped c l) h = ∥∥₁_elim h ⊥_prop (λ x. x)
 decided stop.Over h = tt
 decided stop.NoMemory h = ∥∥₁_elim h ⊥_prop (λ x. x)
 
--- nor does one that stopped where it stood
+-- a run that stopped at its place executes no instruction
 stretch_here : (k : Setting) (code : Code) (floor : ℕ) (stops : Bool) (count later : ℕ) (s s1 : State) → Stretch k code floor stops count s later s1 → later ≤ count → s1 ≡ s
 stretch_here k code floor stops count _ s _ (Here _ _) le = refl
 stretch_here k code floor stops count _ s _ (Further _ later _ s1 s2 before p) le = let low = stretch_low k code floor stops count later s s1 before in absurd (omega (arith, low, le))
@@ -191,7 +191,7 @@ module _ (self : Strand) (r : Run) (done limit : ℕ) (stops : Bool) (to : Stop)
       let here = stretch_here k (code_view v.code) floor stops self.count came.0 c.state came.1 came.2 (omega (arith, same, same_at)) in
       true≢false (sym at.1.come ∙ ap (λ z. has_come k.extent (code_view v.code) z) here ∙ c.at.2.before)))
 
-  -- it stopped at a spawn only where it was to
+  -- the run stopped at a spawn only if it was asked to
   unasked : (spawn : Spawn) → to ≡ stop.Spawned spawn → stops ≡ false → ⊥
   unasked spawn is not = ∥∥₁_elim (sound_of self) ⊥_prop (λ s. ∥∥₁_elim (h.holds s.ok s.job s.is) ⊥_prop (λ d.
       let at = going_of self s.ok s.job e d in
@@ -206,11 +206,11 @@ module _ (self : Strand) (r : Run) (done limit : ℕ) (stops : Bool) (to : Stop)
       by true same = same
       by false same = absurd (unasked spawn is same)
 
-  -- so far it ran
+  -- the instructions that the run has executed so far
   pub run_ran : done ≤ limit → RunsOn self (record self { run = r; count = done }) limit stops to
   run_ran le = record { asked = asked; from = low; within = le; still = still; before = before }
 
--- one that stopped without an instruction goes on from there
+-- a run that stopped without an instruction continues from its place
 goes_from : (self : Strand) (limit : ℕ) (to : Stop) → HasCome self limit to
     → ((is : IsFit (its_code self)) (j : jobs.Job) (c : CameTo self limit to is j)
     → (self.count ≡ c.later) × ShowsRun (its_code self) (ok_with c.ground c.outs) (setting_of c.ground) self.count self.run c.state
@@ -239,14 +239,14 @@ goes_from self limit to h at = record {
       });
 }
 
--- where it may do no more, and where it is at the join
+-- the run may execute no more instructions, or is at the join
 pub over_goes : (self : Strand) (limit : ℕ) → HasCome self limit stop.Over → IsRunning self
 over_goes self limit h = goes_from self limit stop.Over h (λ is j c. (c.at.0, c.at.2.shows, c.at.2.may))
 
 pub join_goes : (self : Strand) (limit : ℕ) → HasCome self limit stop.Joined → IsRunning self
 join_goes self limit h = goes_from self limit stop.Joined h (λ is j c. (c.at.0, c.at.1.shows, c.at.1.may))
 
--- a whole call that goes on is before an instruction
+-- a whole call that is running is before an instruction
 pub whole_before : (self : Strand) → IsRunning self → self.mode ≡ mode.Going → (its_parts self).extent ≡ extent.WholeCall → IsBefore self
 whole_before self h e whole = record {
   going = e;

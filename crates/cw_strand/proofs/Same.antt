@@ -1,4 +1,4 @@
--- Strands with the same parts, and what is left of a list when its last one is taken.
+-- Strands with the same parts, and the remaining list after its last element was taken.
 use Rattle.std.proofs.Common.{◌≡◌, ℕ, ◌+◌, ◌<◌, Option, Some, None, List, [], ◌∷◌, ◌++◌, length, refl, sym, ap, ◌∙◌, subst, arith}
 use Rattle.std.specs.Prelude.{map, reverse, option_to_list, MatchOption, slice_get}
 use Rattle.cw_facts.specs.Lists.{reverse_pushed}
@@ -32,7 +32,7 @@ first x y xs ys q = cc
 second : {A : Type 0} (x y : A) (xs ys : List A) → x ∷ xs ≡ y ∷ ys → xs ≡ ys
 second x y xs ys q = cc
 
--- a list that a function makes one with a first of
+-- a list whose image under a function has a first element
 record Split {A B : Type 0} (f : A → B) (l : List A) (y : B) (ys : List B) : Type 0 where
   pub x : A
   pub xs : List A
@@ -49,7 +49,7 @@ newest_of self job others e =
     let s = split_of (λ l. l.job.value) (reverse self.lent.items) job others e in
     record { lent = s.x; rest = s.xs; are = s.are; job_is = s.here; others_are = s.others }
 
--- the last one was taken
+-- the last element was taken
 pub record Popped {A : Type 0} (new : List A) (r : Option A) (x : A) (xs : List A) : Type 0 where
   pub result : r ≡ Some x
   pub left : reverse new ≡ xs
@@ -77,29 +77,29 @@ some_long (y ∷ l) x xs k q = omega (arith, k)
 some_none : {A : Type 0} (y : A) → Some y ≡ None → ⊥
 some_none y q = cc
 
--- as `Vec::pop` says it
+-- the result of `Vec::pop`
 pub pops : {A : Type 0} (old new : List A) (n m : ℕ) (r : Option A) (x : A) (xs : List A) → n ≡ length old → old ≡ new ++ option_to_list r
     → MatchOption r ((n ≡ 0) × (m ≡ 0)) (λ _. m + 1 ≡ n) → reverse old ≡ x ∷ xs → Popped new r x xs
 pops old new n m None x xs many e h are = absurd (some_long old x xs (sym many ∙ h.0) are)
 pops old new n m (Some y) x xs many e h are = popped old new (Some y) x xs e (λ q. absurd (some_none y q)) are
 
--- as `Vec::take_last` says it
+-- the result of `Vec::take_last`
 pub lasts : {A : Type 0} (old new : List A) (r x : A) (xs : List A) → old ≡ new ++ r ∷ [] → reverse old ≡ x ∷ xs → reverse new ≡ xs
 lasts old new r x xs e are = (popped old new (Some r) x xs e (λ q. absurd (some_none r q)) are).left
 
--- and it was the newest
+-- the element taken was the last one
 pub last_is : {A : Type 0} (old new : List A) (r x : A) (xs : List A) → old ≡ new ++ r ∷ [] → reverse old ≡ x ∷ xs → r ≡ x
 last_is old new r x xs e are = same (popped old new (Some r) x xs e (λ q. absurd (some_none r q)) are).result
   where
     same : Some r ≡ Some x → r ≡ x
     same q = cc
 
--- it may be called
+-- the list has an element, so `take_last` may be called
 pub some_there : {A : Type 0} (l : List A) (x : A) (xs : List A) → reverse l ≡ x ∷ xs → 0 < length l
 some_there [] x xs q = absurd (some_long [] x xs refl q)
 some_there (y ∷ l) x xs q = omega arith
 
--- what is left of the jobs out
+-- the remaining jobs out
 pub others_left : (old new : Strand) (out : Job) (others : List Job) → outs old ≡ out ∷ others
     → ((x : Lent) (xs : List Lent) → reverse old.lent.items ≡ x ∷ xs → reverse new.lent.items ≡ xs) → outs new ≡ others
 others_left old new out others e left =

@@ -34,7 +34,7 @@ use Rattle.cw_strand.proofs.Flat.{under_flat}
 nothing_flat : IsOutermost nothing
 nothing_flat = record { around = refl; results = refl; arrived = refl }
 
--- what a job stands on, and that its machine shows its first state there
+-- the ground of a job, and its machine, which represents the job's first state there
 pub record Grounded (v : Verified) (is : IsFit v) (p : Parts) (j : jobs.Job) (m : Machine) : Type 0 where
   pub ground : Ground v is p j
   pub shows : Shows v (ok_with ground []) m (under ground.base (job_start j))

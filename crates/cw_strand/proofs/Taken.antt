@@ -1,4 +1,4 @@
--- A machine that took in what a rest has shown.
+-- A machine that took over what a continuation has shown.
 use Rattle.std.proofs.Common.{◌≡◌, ℤ, ◌+ℤ◌, Bool, true, false, if◌then◌else◌, Option, Some, None, List, [], ◌∷◌, ◌++◌, refl, sym, ap, ◌∙◌, subst, append_assoc}
 use Rattle.std.specs.Int.{w128}
 use Rattle.std.proofs.Math.IntN.{+ℤ_comm}
@@ -53,7 +53,7 @@ greatest_append name (x ∷ a) b = at (same_name name x.0) (greatest_append name
     at true h = ap (λ z. Some (or_greater x.1 z)) h ∙ sym (greater_after x.1 (greatest_to name a) (greatest_to name b))
     at false h = h
 
--- what a reducer comes to over two pieces
+-- the total of a reducer over two pieces
 total_append : (how : Reduction) (name : Name) (a b : List (Name × ℤ)) → joined_total (kept (total_to how name a)) (kept (total_to how name b)) ≡ kept (total_to how name (a ++ b))
 total_append Sum name a b = ap (λ z. total.Sum z) (wrap_both (sum_to name a) (sum_to name b) ∙ ap wrapped (sym (sum_append name a b)))
 total_append Max name a b = ap (λ z. total.Max z) (sym (greatest_append name a b))
@@ -67,7 +67,7 @@ totals_both code old more new a b joined h k = record {
       ∙ ap (λ z. Some z) (total_append r.how r.name a b);
 }
 
--- what a state has shown may be told otherwise
+-- the trace of a state may be replaced
 good_with : (code : Code) (fits : Fits code) (s : State) (t : Trace) → GoodState code fits s → GoodState code fits (record s { trace = t })
 good_with code fits s t g = record {
   seat = g.seat;
@@ -94,7 +94,7 @@ module _ (v : Verified) (ok : Ok v) (m m' : Machine) (lines : List ℤ) (totals 
     cuts = h.cuts;
   })
 
--- updates of a run over what stands round it
+-- updates of a run that is placed over enclosing blocks
 updates_under : (b : State) (around : List Around) (t : Trace) → (trace_under b around t).updates ≡ b.trace.updates ++ t.updates
 updates_under b [] t = refl
 updates_under b (a ∷ around) t = refl
@@ -102,7 +102,7 @@ updates_under b (a ∷ around) t = refl
 appended : {A : Type 0} (b s t : List A) → b ++ (s ++ t) ≡ (b ++ (s ++ [])) ++ t
 appended b s t = sym (append_assoc b s t) ∙ ap (λ z. (b ++ z) ++ t) (sym (append-nil s))
 
--- a block that goes on from its join, with what the rest has shown
+-- a block that continues from its join, with what the continuation has shown
 pub shows_joined : (v : Verified) (ok : Ok v) (m m' : Machine) (totals : List Total) (b s : State) (frame : Standing) (t : Trace)
     → HasTaken m t.lines totals m' → Shows v ok m (under b (resumed s frame quiet)) → HoldsTotals (code_view v.code) totals t.updates
     → Shows v ok m' (under b (resumed s frame t))
@@ -111,7 +111,7 @@ shows_joined v ok m m' totals b s frame t taken h told =
     (lines_under b s.around (joined s.trace t) ∙ appended b.trace.lines s.trace.lines t.lines ∙ ap (λ z. z ++ t.lines) (sym (lines_under b s.around (joined s.trace quiet))))
     (updates_under b s.around (joined s.trace t) ∙ appended b.trace.updates s.trace.updates t.updates ∙ ap (λ z. z ++ t.updates) (sym (updates_under b s.around (joined s.trace quiet))))
 
--- what stands round a run has shown nothing
+-- the base of a run has shown nothing
 base_quiet : (x : Extent) (b : State) → StandsRound x b → b.trace ≡ quiet
 base_quiet WholeCall b e = ap (λ (z : State). z.trace) e
 base_quiet ToJoin b e = e.0

@@ -1,4 +1,4 @@
--- The newest job out came back unrun to a strand that waits for it: the strand goes on with it.
+-- The newest job out returned without being executed to a strand that waits for it, and the strand executes it.
 use Rattle.std.proofs.Common.{◌≡◌, suc, Some, List, [], ◌∷◌, length, refl, sym, ap, ◌∙◌, subst}
 use Rattle.std.specs.Prelude.{reverse, slice_get}
 use Rattle.std.proofs.Math.Logic.{∥∥₁_elim, ∥∥₁_map}
@@ -30,7 +30,7 @@ use Rattle.cw_strand.proofs.WhichOut.{outs_above, Back, back_of}
 use Rattle.cw_strand.proofs.RunsOn.{sound_of, IsHeldBack, waiting_of}
 use Rattle.cw_strand.proofs.Same.{same_strand, Newest}
 
--- the newest of what is out
+-- the newest job out
 pub record Split (v : Verified) (is : IsFit v) (p : Parts) (base : State) (l : Level) (levels : List Level) (outs : List Out) (x : Lent) (lent : List Lent) : Type 0 where
   pub out : Out
   pub others : List Out
@@ -113,7 +113,7 @@ module _ (self : Strand) (job : Job) (others : List Job) (newest : Newest self j
             };
           }
 
-  -- it has a share of the strand's code
+  -- the job has a share of the strand's code
   pub job_code : IsRunning self → code_of job.parts.value ≡ its_code self
   job_code running = subst (λ (b : Job). code_of b.parts.value ≡ its_code self) newest.job_is (running.rests 0 newest.lent (subst (λ l. slice_get l 0 ≡ Some newest.lent) (sym newest.are) refl)).code
 
@@ -145,7 +145,7 @@ module _ (self : Strand) (job : Job) (others : List Job) (newest : Newest self j
       holds = λ is j isj. ∥∥₁_map (running.holds is j isj) (λ d. taken is j d.ground (waiting_of self is j waits d) keep m takes new left);
     }
 
-    -- the same with its parts told otherwise
+    -- a strand with these parts is a strand of its job
     pub takes_back_to : (mid : Strand) → mid ≡ record self { run = record self.run { machine = m }; lent = mid.lent; mode = mode.Going }
         → reverse mid.lent.items ≡ newest.rest → HasSpared mid new → IsRunning new
     takes_back_to mid e rest spared =

@@ -1,4 +1,4 @@
--- Which rests of a strand are out, and the floor of its run.
+-- The continuations of a strand that are out, and the floor of its run.
 use Rattle.std.proofs.Common.{◌≡◌, ℕ, zero, suc, ◌+◌, ◌≤◌, ◌<◌, Some, List, [], ◌∷◌, length, refl, sym, ap, ◌∙◌, subst, inl, inr, arith}
 use Rattle.std.specs.Prelude.{reverse}
 use Rattle.std.proofs.lemmas.List.{length-reverse}
@@ -18,7 +18,7 @@ use Rattle.cw_strand.specs.declared.strand.Lent.{Lent}
 use Rattle.cw_strand.specs.Levels.{Level, level_if, levels_of}
 use Rattle.cw_strand.specs.Holds.{floor_in, Lends, AreOut, AreBack, rest_in}
 
--- each of these levels has fewer blocks and calls round it
+-- each of these levels has fewer enclosing blocks and calls
 abbrev pub AllUnder : List Level → ℕ → Type 0
 AllUnder [] n = Unit {0}
 AllUnder (l ∷ levels) n = (length l.around < n) × AllUnder levels n
@@ -28,7 +28,7 @@ under_more [] n m le h = tt
 under_more (l ∷ levels) n m le h = (let a = h.0 in omega (arith, a, le), under_more levels n m le h.1)
 
 module _ (p : Parts) where
-  -- the rests that are out are those of spawned calls round a state
+  -- the continuations that are out belong to spawned calls around a state
   caller_under : (kind : CallKind) (l : Level) (all : List Level) → ((jobs_out : List jobs.Job) (levels : List Level) (lent : List Lent)
       → AreOut p all jobs_out levels lent → AllUnder levels (length l.around))
       → (jobs_out : List jobs.Job) (levels : List Level) (lent : List Lent) → AreOut p (level_if kind l all) jobs_out levels lent → AllUnder levels (suc (length l.around))
@@ -48,7 +48,7 @@ module _ (p : Parts) where
   out_under (Caller w ∷ around) jobs_out levels lent h = caller_under w.kind (record { waiting = w; around = around }) (levels_of around) (out_under around) jobs_out levels lent h
 
   module _ (base : State) (l : Level) (levels : List Level) (x : Lent) (lent : List Lent) where
-    -- those behind the newest are of calls round that
+    -- the older continuations belong to calls around the call of the newest one
     caller_tail : (kind : CallKind) (w : Waiting) (around : List Around)
         → ((jobs_out : List jobs.Job) → AreOut p (levels_of around) jobs_out (l ∷ levels) (x ∷ lent) → AllUnder levels (length l.around))
         → (jobs_out : List jobs.Job) → AreOut p (level_if kind (record { waiting = w; around = around }) (levels_of around)) jobs_out (l ∷ levels) (x ∷ lent) → AllUnder levels (length l.around)
@@ -65,7 +65,7 @@ module _ (p : Parts) where
     tail_under (Block o ∷ around) jobs_out h = tail_under around jobs_out h
     tail_under (Caller w ∷ around) jobs_out h = caller_tail w.kind w around (tail_under around) jobs_out h
 
-    -- the newest is the floor
+    -- the newest continuation determines the floor
     abbrev Floor : List Around → Type 0
     Floor around = IsFloor base (suc (calls_in (beneath base l.around))) (suc (length (beneath base l.around))) around
 
@@ -95,7 +95,7 @@ calls_block b o (a ∷ around) = refl
 pub frames_are : (v : Verified) (ok : Ok v) (m : Machine) (s : State) → Shows v ok m s → length m.frames.items ≡ calls_in s.around
 frames_are v ok m s h = sym (length-reverse m.frames.items) ∙ frames_many v ok m.cells.items m.first (length s.slots) (reverse m.frames.items) s.around h.holds.round
 
--- no more calls wait at the floor than at the state
+-- the number of calls that wait at the floor is at most the number that wait at the state
 floor_round : (base : State) (floor bottom : ℕ) (around : List Around) → IsFloor base floor bottom around → floor ≤ calls_in (beneath base around)
 floor_round base floor bottom [] h = let e = h.0 in omega (arith, e)
 floor_round base floor bottom (Block o ∷ around) h = let le = floor_round base floor bottom around h in let e = calls_block base o around in omega (arith, le, e)
@@ -125,7 +125,7 @@ lends_above v is p base (l ∷ levels) (o ∷ outs) (x ∷ lent) n u h = all_abo
     (let level = h.0.level in let many = round_many base l.around in let a = u.0 in omega (arith, level, many, a))
     (lends_above v is p base levels outs lent n u.1 h.2)
 
--- THE FLOOR OF A STRAND'S RUN, and what is out is below it
+-- THE FLOOR OF A STRAND'S RUN; everything that is out belongs to calls that fewer blocks and calls enclose
 pub record HasFloor (base : State) (around : List Around) (outs : List Out) (lent : List Lent) : Type 0 where
   pub bottom : ℕ
   pub ends : IsFloor base (floor_in lent) bottom around
@@ -149,7 +149,7 @@ floor_is v is p base around jobs_out (l ∷ levels) (o ∷ outs) (x ∷ lent) ar
       omega (arith, lt, many)));
 }
 
--- what is out lies above a state
+-- everything that is out belongs to calls that fewer blocks and calls enclose than a state
 pub outs_above : (v : Verified) (is : IsFit v) (p : Parts) (base : State) (around : List Around) (jobs_out : List jobs.Job) (levels : List Level)
     (outs : List Out) (lent : List Lent) → AreOut p (levels_of around) jobs_out levels lent → Lends v is p base levels outs lent
     → AllAbove outs (length (beneath base around))
@@ -160,7 +160,7 @@ outs_above v is p base around jobs_out levels outs lent are h = λ k o e.
 
 -- the newest spawned call, which has returned, is the floor
 module _ (v : Verified) (is : IsFit v) (p : Parts) (base : State) (l : Level) (outs : List Out) where
-  -- its rest is out where as many calls wait in it
+  -- its continuation is out if the number of calls that wait in it is the floor
   pub is_back : (jobs_out : List jobs.Job) (levels : List Level) (lent : List Lent) → Lends v is p base levels outs lent
       → floor_in lent ≡ suc (calls_in (beneath base l.around)) → AreOut p (l ∷ levels_of l.around) jobs_out levels lent
       → AreBack p l (levels_of l.around) jobs_out levels lent
@@ -186,7 +186,7 @@ module _ (v : Verified) (is : IsFit v) (p : Parts) (base : State) (l : Level) (o
       floor_at [] k = absurd k
       floor_at (o ∷ outs) k = k.0.floor
 
-  -- else it was run in place
+  -- otherwise the call was executed in place
   pub record InPlace (jobs_out : List jobs.Job) (levels : List Level) (lent : List Lent) : Type 0 where
     pub job : jobs.Job
     pub others : List jobs.Job
@@ -205,7 +205,7 @@ module _ (v : Verified) (is : IsFit v) (p : Parts) (base : State) (l : Level) (o
       floor_at [] k = absurd k
       floor_at (o ∷ outs) k = k.0.floor
 
--- the rest that a strand waits for, as a job of the definitions
+-- the continuation for which a strand waits, as a job of the definitions
 pub record Back (p : Parts) (l : Level) (all : List Level) (jobs_out : List jobs.Job) (others : List Level) (x : Lent) (lent : List Lent) : Type 0 where
   pub rests : List jobs.Job
   pub is : jobs_out ≡ rest_in p l x ∷ rests
@@ -216,7 +216,7 @@ pub back_of : (p : Parts) (l : Level) (all : List Level) (jobs_out : List jobs.J
 back_of p l all [] others x lent h = absurd h
 back_of p l all (job ∷ jobs_out) others x lent h = record { rests = jobs_out; is = ap (λ j. j ∷ jobs_out) h.1; are = h.2 }
 
--- one of its levels is that of the rest that it waits for
+-- one of its levels is the level of the continuation for which it waits
 pub record NewestOut (p : Parts) (l : Level) (all : List Level) (jobs_out : List jobs.Job) (levels : List Level) (lent : List Lent) : Type 0 where
   pub others : List Level
   pub are : levels ≡ l ∷ others

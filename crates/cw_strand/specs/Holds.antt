@@ -1,4 +1,4 @@
--- How a strand in memory holds a strand of the definitions.
+-- The representation of a strand of the definitions by a strand in memory.
 use Rattle.std.specs.Prelude.{◌≡◌, ◌≢◌, ◌⊎◌, ℕ, suc, ◌+◌, ◌-◌, ◌≤◌, Bool, true, false, List, [], ◌∷◌, length, map, reverse}
 use Rattle.std.specs.Prelude.{slice_get, Some}
 use Rattle.cw_model.specs.declared.limits.TheConstants.{MOST_LIMIT}
@@ -35,33 +35,36 @@ use Rattle.cw_strand.specs.declared.strand.Mode.TheVariants as mode
 use Rattle.cw_strand.specs.declared.strand.Strand.{Strand}
 use Rattle.cw_strand.specs.Levels.{Level, levels_of, IsBackAt, waiting_over}
 
--- the job of a strand, and the jobs that it has out, the newest first
+-- the job of a strand
 abbrev pub its_job : Strand → Job
 its_job self = self.of.value
 
+-- the jobs that a strand has out, the newest first
 abbrev pub outs : Strand → List Job
 outs self = map (λ l. l.job.value) (reverse self.lent.items)
 
--- what the job of a strand is made of, and its code
+-- the parts of the job of a strand
 abbrev pub its_parts : Strand → Parts
 its_parts self = (its_job self).parts.value
 
+-- the code of the job of a strand
 abbrev pub its_code : Strand → Verified
 its_code self = code_of (its_parts self)
 
--- as many instructions as it may do in all
+-- the maximum number of instructions that the strand may execute
 abbrev pub its_end : Strand → ℕ
 its_end self = (its_parts self).limit - (its_parts self).before
 
--- how many calls wait in the newest spawned call whose rest is out; 0 where none is
+-- the number of calls that wait in the newest spawned call whose continuation is out; 0 if none is out
 abbrev pub floor_in : List Lent → ℕ
 floor_in [] = 0
 floor_in (h ∷ lent) = h.home.floor
 
+-- the floor of the run of a strand
 abbrev pub floor_of : Strand → ℕ
 floor_of self = floor_in (reverse self.lent.items)
 
--- what a job that is out is made of
+-- the parts of a job that is out
 abbrev pub lent_parts : Lent → Parts
 lent_parts h = h.job.value.parts.value
 
@@ -70,8 +73,8 @@ abbrev pub begins_as : (x : Extent) (site : ℕ) → IsFrom (begins_at x site) (
 begins_as extent.WholeCall site = tt
 begins_as extent.ToJoin site = tt
 
--- what a job stands on as it is run: what stands round it, and how many parameters of its call lie still; and at the
--- join of a rest its arrays go back to where they lay
+-- the ground of a job, on which it is executed: its enclosing blocks and calls, and the number of parameters of its
+-- call that do not move; at the join of a continuation the arrays return to where they were
 pub record Ground (v : Verified) (is : IsFit v) (p : Parts) (j : jobs.Job) : Type 0 where
   pub job : IsJob v is p j
   pub light : IsLight p.detail
@@ -80,7 +83,7 @@ pub record Ground (v : Verified) (is : IsFit v) (p : Parts) (j : jobs.Job) : Typ
   pub params : ℕ
   pub joins : p.extent ≡ extent.ToJoin → (b : IsBase v is j p.rest base) × (params ≡ b.good.seat.func.array_params)
 
--- the run of the job, as its machine and its meter know it
+-- the setting of the run of the job, for its machine and its meter
 abbrev pub setting_of : {v : Verified} {is : IsFit v} {p : Parts} {j : jobs.Job} → Ground v is p j → Setting
 setting_of {v} {is} {p} {j} g = record {
   extent = extent_of p.extent;
@@ -92,12 +95,13 @@ setting_of {v} {is} {p} {j} g = record {
   light = g.light;
 }
 
--- with these arrays out
+-- the machine's premises, with these arrays out
 abbrev pub ok_with : {v : Verified} {is : IsFit v} {p : Parts} {j : jobs.Job} → Ground v is p j → List Out → Ok v
 ok_with {v} {is} {p} {j} g outs =
     with_outs (ok_of v is g.params (length j.arrays) p.rest.slices.items (length g.base.around)) outs
 
--- a job that is out is the rest of the block that waits at a level, with what is out of the machine for it
+-- a job that is out is the continuation of the block that waits at a level, with the arrays that are out of the
+-- machine for it
 pub record IsLent (v : Verified) (is : IsFit v) (p : Parts) (base : State) (l : Level) (o : Out) (h : Lent) : Type 0
   where
     pub level : o.level ≡ length (beneath base l.around)
@@ -117,26 +121,27 @@ pub record IsLent (v : Verified) (is : IsFit v) (p : Parts) (base : State) (l : 
         (waiting_over base l.waiting l.around).results
         × ComesRound (lent_parts h).rest.cells.items 0 (length l.waiting.slots) (beneath base l.around)
 
--- and so is each, the newest first; what is out of one lies above what is out of the older ones
+-- each job that is out is such a continuation, the newest first; the arrays that are out for a job are above the
+-- arrays that are out for older jobs
 abbrev pub Lends : (v : Verified) → IsFit v → Parts → (base : State) → List Level → List Out → List Lent → Type 0
 Lends v is p base [] [] [] = Unit {0}
 Lends v is p base (l ∷ levels) (o ∷ outs) (h ∷ lent) =
     IsLent v is p base l o h × LieBelow outs o.first × Lends v is p base levels outs lent
 Lends v is p base _ _ _ = ⊥
 
--- the job of the definitions for the rest that is out at a level
+-- the job of the definitions for the continuation that is out at a level
 abbrev pub rest_in : Parts → Level → Lent → jobs.Job
 rest_in p l h = rest_of l.waiting p.limit (lent_parts h).before
 
--- the rest at this level is the newest that is out, and the others are so
+-- the continuation at this level is the newest that is out, and the others satisfy this property
 abbrev pub IsNewestOut : Parts → Level → jobs.Job → (others : List Level → List Lent → Type 0) → List Level → List Lent
     → Type 0
 IsNewestOut p l job others (l' ∷ levels) (h ∷ lent) = (l' ≡ l) × (job ≡ rest_in p l h) × others levels lent
 IsNewestOut p l job others _ _ = ⊥
 
--- WHICH RESTS ARE OUT. The definitions have a job out for each spawned call round a state. Of some of these calls the
--- strand has the rest out, at these levels; each other one it runs in place, which is as if its rest was out and nobody
--- took it
+-- THE CONTINUATIONS THAT ARE OUT. The definitions have a job out for each spawned call around a state. For some of
+-- these calls the strand has the continuation out, at these levels. It executes each other call in place, which is as
+-- if the continuation was out and nobody took it
 abbrev pub AreOut : Parts → (all : List Level) → List jobs.Job → (levels : List Level) → List Lent → Type 0
 AreOut p [] jobs_out levels lent = (jobs_out ≡ []) × (levels ≡ []) × (lent ≡ [])
 AreOut p (l ∷ all) [] levels lent = ⊥
@@ -144,30 +149,30 @@ AreOut p (l ∷ all) (job ∷ jobs_out) levels lent =
     AreOut p all jobs_out levels lent
     ⊎ IsNewestOut p l job (λ others more. AreOut p all jobs_out others more) levels lent
 
--- the same of a strand that waits for the rest at a level
+-- the continuations that are out of a strand that waits for the continuation at a level
 abbrev pub AreBack : Parts → Level → (all : List Level) → List jobs.Job → (levels : List Level) → List Lent → Type 0
 AreBack p l all [] levels lent = ⊥
 AreBack p l all (job ∷ jobs_out) levels lent =
     IsNewestOut p l job (λ others more. AreOut p all jobs_out others more) levels lent
 
--- the run of a strand shows a state after so many instructions, with a job out at each of these levels
+-- the run of a strand represents a state after `count` instructions, with a job out at each of these levels
 pub record Runs (self : Strand) (is : IsFit (its_code self)) (j : jobs.Job)
     (g : Ground (its_code self) is (its_parts self) j) (levels : List Level) (s : State) (count : ℕ) : Type 0 where
   pub counts : count ≡ self.count
   pub outs : List Out
   pub lends : Lends (its_code self) is (its_parts self) g.base levels outs (reverse self.lent.items)
   pub shows : ShowsRun (its_code self) (ok_with g outs) (setting_of g) self.count self.run s
-  -- its first call only reads what its job has as shares
+  -- the first call of the run only reads the arrays that its job has as shares
   pub frozen : SharesFrozen (its_code self) (ok_with g outs) (under g.base s)
 
--- it goes on
+-- the strand is running
 pub record Ongoing (self : Strand) (is : IsFit (its_code self)) (j : jobs.Job)
     (g : Ground (its_code self) is (its_parts self) j) (s : State) (count : ℕ) (jobs_out : List jobs.Job) : Type 0 where
   pub levels : List Level
   pub runs : Runs self is j g levels s count
   pub are : AreOut (its_parts self) (levels_of s.around) jobs_out levels (reverse self.lent.items)
 
--- a spawned call has returned to its block, and its rest is the newest job out
+-- a spawned call has returned to its block, and the continuation of this block is the newest job out
 pub record Waited (self : Strand) (is : IsFit (its_code self)) (j : jobs.Job)
     (g : Ground (its_code self) is (its_parts self) j) (s : State) (count : ℕ) (jobs_out : List jobs.Job) : Type 0 where
   pub level : Level
@@ -177,7 +182,7 @@ pub record Waited (self : Strand) (is : IsFit (its_code self)) (j : jobs.Job)
   pub runs : Runs self is j g (level ∷ others) s count
   pub are : AreBack (its_parts self) level (levels_of s.around) jobs_out (level ∷ others) (reverse self.lent.items)
 
--- of a strand that stopped the arrays are known, and where each is to come home
+-- the arrays of a strand that stopped are known, and where each must return
 pub record Stands (self : Strand) (is : IsFit (its_code self)) (j : jobs.Job)
     (g : Ground (its_code self) is (its_parts self) j) : Type 0 where
   pub levels : List Level
@@ -185,6 +190,7 @@ pub record Stands (self : Strand) (is : IsFit (its_code self)) (j : jobs.Job)
   pub lends : Lends (its_code self) is (its_parts self) g.base levels outs (reverse self.lent.items)
   pub remains : Remains (its_code self) (ok_with g outs) self.run.machine
 
+-- a strand in memory in this mode represents this strand of the definitions
 abbrev pub HeldIn : (self : Strand) (is : IsFit (its_code self)) (j : jobs.Job)
     → Ground (its_code self) is (its_parts self) j → Mode → strands.Strand → Type 0
 HeldIn self is j g mode.Going (Going s count jobs_out) = Ongoing self is j g s count jobs_out
@@ -196,14 +202,14 @@ HeldIn self is j g mode.Memory (Halted e jobs_out) = e ≡ jobs.Memory
 HeldIn self is j g mode.GivenUp (Halted e jobs_out) = (e ≡ jobs.Memory) × Stands self is j g
 HeldIn self is j g _ _ = ⊥
 
--- A STRAND HOLDS A STRAND OF THE DEFINITIONS, which is one of its job
+-- A STRAND IN MEMORY REPRESENTS A STRAND OF THE DEFINITIONS, which is a strand of its job
 pub record Holds (self : Strand) (is : IsFit (its_code self)) (j : jobs.Job) : Type 0 where
   pub ground : Ground (its_code self) is (its_parts self) j
   pub strand : strands.Strand
   pub is_of : IsStrandOf (code_view (its_code self).code) j strand
   pub held : HeldIn self is j ground self.mode strand
 
--- what a strand keeps of its job: all but the arrays
+-- the parts of its job that a strand keeps: everything except the arrays
 pub record KeepsJob (self : Strand) : Type 0 where
   pub code : code_of self.parts.value ≡ its_code self
   pub extent : self.parts.value.extent ≡ (its_parts self).extent
@@ -212,23 +218,24 @@ pub record KeepsJob (self : Strand) : Type 0 where
   pub limit : self.parts.value.limit ≡ (its_parts self).limit
   pub before : self.parts.value.before ≡ (its_parts self).before
   pub rest : IsEmptied (its_parts self).rest self.parts.value.rest
-  -- its numbers are in their ranges, and it did not pass its limit
+  -- its numbers are in their ranges, and it has not exceeded its limit
   pub within : (its_parts self).before + self.count ≤ (its_parts self).limit
   pub range : (its_parts self).limit ≤ MOST_LIMIT
 
--- boxes that are used again have a share of the strand's code
+-- boxes that are reused have a share of the strand's code
 abbrev pub AreSpare : Strand → Type 0
 AreSpare self = (k : ℕ) (b : _) → slice_get self.spares.items k ≡ Some b → code_of b.value ≡ its_code self
 
--- and so have the jobs that are out, which are rests of blocks
+-- a job that is out has a share of the strand's code, and is the continuation of a block
 pub record IsRest (v : Verified) (h : Lent) : Type 0 where
   pub code : code_of (lent_parts h) ≡ v
   pub joins : (lent_parts h).extent ≡ extent.ToJoin
 
+-- each job that is out has a share of the strand's code, and is the continuation of a block
 abbrev pub AreRests : Strand → Type 0
 AreRests self = (k : ℕ) (h : Lent) → slice_get (reverse self.lent.items) k ≡ Some h → IsRest (its_code self) h
 
--- A STRAND OF ITS JOB, whichever of the definitions the job is
+-- A STRAND OF ITS JOB, for every job of the definitions that the job represents
 pub record IsRunning (self : Strand) : Type 0 where
   pub keeps : KeepsJob self
   pub spares : AreSpare self
@@ -236,32 +243,33 @@ pub record IsRunning (self : Strand) : Type 0 where
   pub holds : (is : IsFit (its_code self)) (j : jobs.Job) → IsJob (its_code self) is (its_parts self) j
       → ∥ Holds self is j ∥₁
 
--- how it stands: it goes on; it waits for the newest job out; it has stopped, also for want of memory or because it was
--- given up; or it does not go on
+-- the strand is running
 abbrev pub IsGoing : Strand → Type 0
 IsGoing self = self.mode ≡ mode.Going
 
+-- the strand waits for the newest job out
 abbrev pub IsWaiting : Strand → Type 0
 IsWaiting self = self.mode ≡ mode.Waiting
 
+-- a strand in this mode has stopped
 abbrev pub stops : Mode → Bool
 stops mode.Going = false
 stops mode.Waiting = false
 stops _ = true
 
--- it trapped or passed the limit
+-- the strand trapped or exceeded the limit
 abbrev pub halts : Mode → Bool
 halts (mode.Trapped trap line) = true
 halts mode.Over = true
 halts _ = false
 
--- nothing that it did counts: memory was wanting, or it was given up
+-- the execution does not count: memory ran out, or the strand was given up
 abbrev pub has_failed : Mode → Bool
 has_failed mode.Memory = true
 has_failed mode.GivenUp = true
 has_failed _ = false
 
--- one that has not stopped is given up
+-- the mode after a strand is given up; a strand that has stopped keeps its mode
 abbrev pub given_up : Mode → Mode
 given_up mode.Going = mode.GivenUp
 given_up mode.Waiting = mode.GivenUp
@@ -275,11 +283,14 @@ abbrev pub is_lost : Mode → Bool
 is_lost mode.Memory = true
 is_lost _ = false
 
+-- the strand has stopped, also because memory ran out or because it was given up
 abbrev pub HasStopped : Strand → Type 0
 HasStopped self = stops self.mode ≡ true
 
+-- memory ran out, or the strand was given up
 abbrev pub HasFailed : Strand → Type 0
 HasFailed self = has_failed self.mode ≡ true
 
+-- the strand is not running
 abbrev pub IsAtSync : Strand → Type 0
 IsAtSync self = self.mode ≢ mode.Going

@@ -1,5 +1,5 @@
 -- Where memory may be wanting in a strand.
-use Rattle.std.specs.Prelude.{◌≡◌, ◌⊎◌, ℕ, ◌+◌, false, Option, Some, None}
+use Rattle.std.specs.Prelude.{◌≡◌, ◌⊎◌, ℕ, ◌+◌, true, false, Option, Some, None}
 use Rattle.cw_jobs.specs.declared.effect.Effect.{Effect}
 use Rattle.cw_jobs.specs.declared.effect.Effect.TheVariants as effect
 use Rattle.cw_strand.specs.declared.strand.Advance.{Advance}
@@ -92,3 +92,14 @@ cost_in _ = 0
 -- A STRAND THAT IS GIVEN AN EFFECT counts what it counted; and what the rest did, where that is taken in
 abbrev pub CountsGiven : Effect → (old new : Strand) → Type 0
 CountsGiven e old new = (new.count ≡ old.count) ⊎ (TakesIn old e × (new.count ≡ old.count + cost_in e))
+
+-- an effect states that its job exceeded the limit
+abbrev pub TellsOver : Effect → Type 0
+TellsOver (effect.OverLimit back) = Unit {0}
+TellsOver _ = ⊥
+
+-- A STRAND EXCEEDS ITS LIMIT BY AN EFFECT that it receives only if it waits, and the rest exceeded the limit or both
+-- together do; otherwise it had exceeded the limit before
+abbrev pub MayExceed : Strand → Effect → Type 0
+MayExceed self e =
+    (self.mode ≡ mode.Over) ⊎ (IsWaiting self × (TellsOver e ⊎ (passes_limit self (cost_in e) ≡ true)))

@@ -1,5 +1,6 @@
 -- What the calls on a strand keep.
-use Rattle.std.specs.Prelude.{◌≡◌, ◌≢◌, ℕ, ◌+◌, ◌≤◌, Bool, true, false, List, [], ◌∷◌, reverse, Option, Some, None}
+use Rattle.std.specs.Prelude.{◌≡◌, ◌≢◌, ◌⊎◌, ℕ, ◌+◌, ◌≤◌, ◌<◌, Bool, true, false, List, [], ◌∷◌, reverse, Option, Some}
+use Rattle.std.specs.Prelude.{None}
 use Rattle.cw_code.specs.Code.{code_view}
 use Rattle.cw_code.specs.Run.{State}
 use Rattle.cw_slices.specs.Placed.{Placed}
@@ -45,7 +46,7 @@ use Rattle.cw_strand.specs.declared.strand.Step.{Step}
 use Rattle.cw_strand.specs.declared.strand.Step.TheVariants as step
 use Rattle.cw_strand.specs.declared.strand.Strand.{Strand}
 use Rattle.cw_strand.specs.Levels.{Level, levels_of}
-use Rattle.cw_strand.specs.Holds.{its_job, its_parts, its_code, outs, floor_of, Ground, setting_of, ok_with, Lends, AreOut}
+use Rattle.cw_strand.specs.Holds.{its_job, its_parts, its_code, its_end, outs, floor_of, Ground, setting_of, ok_with, Lends, AreOut}
 use Rattle.cw_strand.specs.Holds.{KeepsJob, AreSpare, AreRests, IsRunning, IsGoing, IsAtSync, HasStopped, is_lost}
 
 -- a run begins a job, whose arrays moved into it
@@ -139,6 +140,14 @@ ComesWithin most spawns (event.Spawned job) old new =
     (hands_out spawns ≡ true) × ComesTo (event.Spawned job) old new
 ComesWithin most spawns e old new = ComesTo e old new
 
+-- A STRAND EXECUTES AT MOST THIS MANY INSTRUCTIONS, whatever the event. It exceeds its limit only after it has executed
+-- as many as its job may, and it stops for lack of memory only by an instruction
+pub record StaysWithin (most : ℕ) (old new : Strand) : Type 0 where
+  pub above : old.count ≤ new.count
+  pub below : new.count ≤ old.count + most
+  pub over : new.mode ≡ mode.Over → (old.mode ≡ mode.Over) ⊎ (new.count ≡ its_end old)
+  pub memory : new.mode ≡ mode.Memory → (old.mode ≡ mode.Memory) ⊎ (old.count < new.count)
+
 -- no job is handed out, but where the run stopped at a spawn
 abbrev pub HandsNothing : Event → Type 0
 HandsNothing (event.Spawned job) = ⊥
@@ -148,37 +157,58 @@ abbrev pub HandsOutAt : Stop → Event → Type 0
 HandsOutAt (stop.Spawned spawn) e = Unit {0}
 HandsOutAt _ e = HandsNothing e
 
--- the instructions that an effect counts, if it counts any: all that its job did
+-- the number of instructions of its job that an effect states; an effect over the limit, for lack of memory or of a job
+-- given up states none
 abbrev pub CountsIn : Effect → (n : ℕ) → Type 0
 CountsIn (effect.Ended value shown) n = shown.cost ≡ n
 CountsIn (effect.Joined frame replaced shown) n = shown.cost ≡ n
 CountsIn (effect.Trapped trap line lines cost back) n = cost ≡ n
 CountsIn _ n = Unit {0}
 
--- a whole call has ended by the last of so many
+-- the call of a job ends by the last of this many instructions
 abbrev pub EndsCall : Effect → (n : ℕ) → Type 0
 EndsCall (effect.Ended value shown) n = shown.cost ≡ n
 EndsCall _ n = ⊥
 
--- a strand that had done so many has ended otherwise, by no other one
-abbrev pub EndsStill : Effect → (n : ℕ) → Type 0
-EndsStill (effect.Ended value shown) n = ⊥
-EndsStill e n = CountsIn e n
+-- the effect of a strand that executes nothing more: no call ends, the effect is over the limit only if the strand had
+-- exceeded it, and lack of memory is that of the strand, or of the join of a strand that goes on
+abbrev pub EndsStill : Effect → Strand → Type 0
+EndsStill (effect.Ended value shown) self = ⊥
+EndsStill (effect.OverLimit back) self = self.mode ≡ mode.Over
+EndsStill (effect.Memory back) self = (self.mode ≡ mode.Memory) ⊎ IsGoing self
+EndsStill e self = CountsIn e self.count
 
--- one or the other
-abbrev pub EndsAfter : Effect → (n : ℕ) → Type 0
-EndsAfter (effect.Ended value shown) n = shown.cost ≡ n + 1
-EndsAfter e n = CountsIn e n
+-- a strand exceeds its limit: it goes on, and has executed as many instructions as its job may
+abbrev pub IsAtLimit : Strand → Type 0
+IsAtLimit self = IsGoing self × (self.count ≡ its_end self)
+
+-- the call of a job ends by its next instruction, within the limit
+pub record EndsNext (cost : ℕ) (old : Strand) : Type 0 where
+  pub counted : cost ≡ old.count + 1
+  pub below : old.count < its_end old
+
+-- the effect by which a strand ends: that of a call takes one instruction, any other one none
+abbrev pub EndsAfter : Effect → Strand → Type 0
+EndsAfter (effect.Ended value shown) old = EndsNext shown.cost old
+EndsAfter (effect.OverLimit back) old = (old.mode ≡ mode.Over) ⊎ IsAtLimit old
+EndsAfter (effect.Memory back) old = (old.mode ≡ mode.Memory) ⊎ (IsGoing old × (IsBefore old → ⊥))
+EndsAfter e old = CountsIn e old.count
+
+-- a strand waits, or has stopped, and executes no instruction: it is as it was, or it exceeds its limit
+pub record PausesBy (old new : Strand) : Type 0 where
+  pub none : new.count ≡ old.count
+  pub stands : (new.mode ≡ old.mode) ⊎ ((new.mode ≡ mode.Over) × IsAtLimit old)
 
 -- a spawn is one instruction; a strand comes to a join, or ends there, by none
 abbrev pub CountsBy : Step → (old new : Strand) → Type 0
 CountsBy (step.Spawned job) old new = new.count ≡ old.count + 1
-CountsBy step.AtSync old new = new.count ≡ old.count
-CountsBy (step.Ended e) old new = EndsAfter e old.count
+CountsBy step.AtSync old new = PausesBy old new
+CountsBy (step.Ended e) old new = EndsAfter e old
 
--- ONE INSTRUCTION OF A STRAND: it was done, and the same jobs are out; or it came to an event
+-- ONE INSTRUCTION OF A STRAND: it was executed, within the limit, and the same jobs are out; or the strand came to an event
 abbrev pub AdvancesBy : Advance → (old new : Strand) → Type 0
-AdvancesBy advance.Ran old new = IsRunning new × (outs new ≡ outs old) × (new.count ≡ old.count + 1)
+AdvancesBy advance.Ran old new =
+    IsRunning new × (outs new ≡ outs old) × (new.count ≡ old.count + 1) × (new.mode ≢ mode.Over)
 AdvancesBy (advance.Came s) old new = KeptBy s old new × CountsBy s old new
 
 -- an instruction was done: it goes on or has stopped behind it, it was a spawn, or its call has ended by it
@@ -195,16 +225,16 @@ IsSame old new = (new.of ≡ old.of) × (new.lent ≡ old.lent)
 -- a strand that ends, with an effect that means its job and counts what it did; or has not come to its end
 abbrev pub EndsBy : Option Effect → (old new : Strand) → Type 0
 EndsBy None old new = IsRunning new × (outs new ≡ outs old) × (new.count ≡ old.count) × IsUnended new
-EndsBy (Some e) old new = IsMeaningOf (its_job old) e × (outs old ≡ []) × EndsStill e old.count
+EndsBy (Some e) old new = IsMeaningOf (its_job old) e × (outs old ≡ []) × EndsStill e old
 
 -- one that goes on and is at the join of its job, or is before an instruction
 abbrev pub JoinsBy : Option Effect → (old new : Strand) → Type 0
 JoinsBy None old new = IsRunning new × (outs new ≡ outs old) × (new.count ≡ old.count) × IsBefore new
-JoinsBy (Some e) old new = KeptBy (step.Ended e) old new × EndsStill e old.count × (IsBefore old → ⊥)
+JoinsBy (Some e) old new = KeptBy (step.Ended e) old new × EndsStill e old × (IsBefore old → ⊥)
 
 -- a strand that was led to its end: that of its call, or one that it comes to next
 abbrev pub LeadsTo : Advance → (old new : Strand) → Type 0
-LeadsTo advance.Ran old new = IsRunning new × (outs new ≡ outs old) × (new.count ≡ old.count)
+LeadsTo advance.Ran old new = IsRunning new × (outs new ≡ outs old) × (new.count ≡ old.count) × (new.mode ≡ old.mode)
 LeadsTo (advance.Came (step.Ended e)) old new = KeptBy (step.Ended e) old new × EndsCall e old.count × IsGoing old
 LeadsTo _ old new = ⊥
 
@@ -287,6 +317,12 @@ pub record RunsOn (old new : Strand) (limit : ℕ) (stops : Bool) (to : Stop) : 
   pub within : new.count ≤ limit
   pub still : new.count ≡ old.count → IsStill to
   pub before : IsBefore old → new.count ≡ old.count → to ≢ stop.Joined
+
+-- why a strand stopped, by the stop of its run up to there: for its limit only at the end of its job, and for lack of
+-- memory only by an instruction
+pub record StopsFor (stopped : Stop) (limit most : ℕ) (new : Strand) : Type 0 where
+  pub over : new.mode ≡ mode.Over → (stopped ≡ stop.Over) × (limit ≡ most)
+  pub memory : new.mode ≡ mode.Memory → IsStill stopped → ⊥
 
 -- slices may come home to the newest job out, of a machine of which anything is known
 pub record MayPopHome (self : Strand) (back : List Placed) (replaced : List (Option Placed)) : Type 0 where

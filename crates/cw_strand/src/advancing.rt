@@ -1,4 +1,4 @@
-//! A strand goes on by one instruction.
+//! Advances a strand by one instruction.
 
 ghost use Rattle.std.specs.Prelude.{◌≡◌, ◌+◌, ◌<◌};
 ghost use Rattle.cw_strand.specs.declared.strand.Mode.TheVariants as mode;
@@ -12,7 +12,7 @@ use cw_machine::run::Stop;
 use cw_strand_laws::laws::calls_on_a_strand_keep_its_job;
 
 impl Strand {
-    // What a strand that does not go on is at: a join, or its end.
+    // Returns the event of a strand that is not running: a join, or its end.
     fn pause(&mut self) -> Step
         requires running { IsRunning self.old }
         requires at_sync { IsAtSync self.old }
@@ -27,8 +27,8 @@ impl Strand {
         Step::AtSync
     }
 
-    // What a strand comes to by an instruction that led it to this end: that of its call it is at now, any other it comes
-    // to next.
+    // Returns the result of an instruction that led the strand to this end. The strand has already reached the end of
+    // its call; any other end it reaches next.
     fn reach(&mut self, end: End) -> Advance
         requires { EndsAt end self.old }
         ensures of { self.new.of ≡ self.old.of }
@@ -42,7 +42,7 @@ impl Strand {
         }
     }
 
-    // The instruction that a strand is before, within so many in all.
+    // Executes the next instruction of the strand, within `end` instructions in all.
     fn step_on(&mut self, end: u64) -> Advance
         requires running { IsRunning self.old }
         requires before { IsBefore self.old }
@@ -66,7 +66,7 @@ impl Strand {
         }
     }
 
-    // The same, or none where it would pass the limit.
+    // Executes the next instruction of the strand, or none if it would exceed the limit.
     fn step(&mut self) -> Advance
         requires running { IsRunning self.old }
         requires before { IsBefore self.old }
@@ -85,9 +85,10 @@ impl Strand {
         Advance::Came(self.pause())
     }
 
-    /// Goes on by one instruction: `Ran` where it was done and hands nothing out, `Spawned` where it was a spawn. No
-    /// instruction is done where the strand is at a join, or has come to its end: then the answer is what `go` comes to from
-    /// there. The return of a whole call is its last instruction, and its effect the answer at once.
+    /// Advances by one instruction. Returns `Ran` if the instruction was executed and hands nothing out, and
+    /// `Spawned` if it was a spawn. Executes no instruction if the strand is at a join, or has reached its end; then
+    /// it returns what `go` returns from there. The return of a whole call is its last instruction, and its effect is
+    /// returned at once.
     pub fn advance(&mut self) -> Advance
         requires { IsRunning self.old }
         ensures of { self.new.of ≡ self.old.of }

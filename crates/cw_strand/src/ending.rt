@@ -56,7 +56,7 @@ impl Strand {
         ensures of { self.new.of ≡ self.old.of }
         ensures means { IsMeaningOf (its_job self.old) result }
         ensures comes { ComesFrom result self.old }
-        ensures counts { EndsStill result self.old.count }
+        ensures counts { EndsStill result self.old }
     {
         calls_on_a_strand_keep_its_job();
         machines_that_stop_remain();
@@ -110,7 +110,7 @@ impl Strand {
         ensures means { IsMeaningOf (its_job self.old) result }
         ensures comes { ComesFrom result self.old }
         ensures none { outs self.old ≡ [] }
-        ensures counts { EndsStill result self.old.count }
+        ensures counts { EndsStill result self.old }
     {
         calls_on_a_strand_keep_its_job();
         calls_keep_what_meters_tell();

@@ -1,12 +1,12 @@
 //! The effect of the newest job out, which ran elsewhere, is given: what it printed stands behind what the strand has
 //! printed, its totals and its measures are joined to the strand's, and its arrays come home.
 
-ghost use Rattle.std.specs.Prelude.{◌≡◌, ◌<◌, ◌++◌, false, length, MatchOption, OnOk};
+ghost use Rattle.std.specs.Prelude.{◌≡◌, ◌<◌, ◌++◌, true, false, length, MatchOption, OnOk};
 ghost use Rattle.cw_jobs.specs.declared.effect.Effect.TheVariants as effect;
 ghost use Rattle.cw_strand.specs.Holds.{HasStopped, IsAtSync, IsRunning, IsWaiting};
 ghost use Rattle.cw_strand.specs.Giving.{passes_limit, AreJoined, GivesBack, HasJoined, HasPrinted, HasTaken, IsGiven, IsJoinedAt, IsMemory, IsOfRest, LeavesOthers};
 ghost use Rattle.cw_strand.specs.Giving as giving;
-ghost use Rattle.cw_strand.specs.Losing.{CountsGiven, MayLack, MayLose};
+ghost use Rattle.cw_strand.specs.Losing.{CountsGiven, MayExceed, MayLack, MayLose};
 ghost use Rattle.cw_strand.specs.declared.strand.Mode.TheVariants as mode;
 
 use crate::lending::loans_named;
@@ -155,6 +155,7 @@ impl Strand {
         ensures running { IsRunning self.new }
         ensures outs { LeavesOthers self.old self.new }
         ensures lacks { MayLack self.new → passes_limit self.old shown.cost ≡ false }
+        ensures over { self.new.mode ≡ mode.Over → passes_limit self.old shown.cost ≡ true }
         ensures back { IsWaiting self.new → ⊥ }
         ensures counts { CountsGiven (effect.Joined frame replaced shown) self.old self.new }
     {
@@ -207,6 +208,7 @@ impl Strand {
         ensures running { IsRunning self.new }
         ensures outs { LeavesOthers self.old self.new }
         ensures lacks { MayLack self.new → passes_limit self.old cost ≡ false }
+        ensures over { self.new.mode ≡ mode.Over → passes_limit self.old cost ≡ true }
         ensures back { IsWaiting self.new → ⊥ }
         ensures counts { CountsGiven (effect.Trapped trap line lines cost back) self.old self.new }
     {
@@ -257,6 +259,7 @@ impl Strand {
         ensures running { IsRunning self.new }
         ensures outs { LeavesOthers self.old self.new }
         ensures back { IsWaiting self.new → ⊥ }
+        ensures over { self.new.mode ≡ mode.Over → ⊥ }
         ensures counts { self.new.count ≡ self.old.count }
     {
         self.give_up();
@@ -273,6 +276,7 @@ impl Strand {
         ensures running { IsRunning self.new }
         ensures outs { LeavesOthers self.old self.new }
         ensures lacks { MayLack self.new → MayLose self.old effect }
+        ensures over { self.new.mode ≡ mode.Over → MayExceed self.old effect }
         ensures back { IsWaiting self.new → ⊥ }
         ensures counts { CountsGiven effect self.old self.new }
     {
@@ -307,6 +311,7 @@ impl Strand {
         ensures running { IsRunning self.new }
         ensures outs { LeavesOthers self.old self.new }
         ensures lacks { MayLack self.new → MayLose self.old effect }
+        ensures over { self.new.mode ≡ mode.Over → self.old.mode ≡ mode.Over }
         ensures back { IsWaiting self.new → ⊥ }
         ensures counts { self.new.count ≡ self.old.count }
     {
@@ -333,6 +338,7 @@ impl Strand {
         ensures running { IsRunning self.new }
         ensures outs { LeavesOthers self.old self.new }
         ensures lacks { MayLack self.new → MayLose self.old effect }
+        ensures over { self.new.mode ≡ mode.Over → MayExceed self.old effect }
         ensures back { IsWaiting self.new → ⊥ }
         ensures counts { CountsGiven effect self.old self.new }
     {

@@ -7,7 +7,7 @@ ghost use Rattle.cw_machine.specs.declared.run.Stop.TheVariants as stops;
 ghost use Rattle.cw_strand.specs.Holds.{floor_of, its_job, its_parts, outs, HasStopped, IsAtSync, IsRunning};
 ghost use Rattle.cw_strand.specs.Losing.{ComesFrom, GoesOn, Leaves, LeavesAt, LeavesEnd, WasGivenUp};
 ghost use Rattle.cw_strand.specs.Moves as moves;
-ghost use Rattle.cw_strand.specs.Moves.{EndsBy, HandsNothing, HandsOutAt, HasCome, IsSame, JoinsBy, KeptBy, ComesOr, ComesTo, ComesWithin, EndsAt, RunsOn};
+ghost use Rattle.cw_strand.specs.Moves.{EndsBy, HandsNothing, HandsOutAt, HasCome, IsSame, JoinsBy, KeptBy, ComesOr, ComesTo, ComesWithin, EndsAt, RunsOn, StaysWithin, StopsFor};
 
 use crate::strand::{End, Event, Mode, Spawns, Step, Strand};
 use cw_jobs::effect::Effect;
@@ -31,6 +31,7 @@ fn within(count: u64, most: u64, end: u64) -> u64
     ensures above { count ≤ result }
     ensures within { result ≤ end }
     ensures by { result < end → result ≡ count + most }
+    ensures most { result ≤ count + most }
 {
     if most < end - count {
         count + most
@@ -102,6 +103,7 @@ impl Strand {
         ensures keeps { ComesTo result self.old self.new }
         ensures nothing { HandsNothing result }
         ensures counts { self.new.count ≡ self.old.count }
+        ensures mode { self.new.mode ≡ self.old.mode }
         ensures goes { (WasGivenUp self.old → ⊥) → GoesOn result self.new }
     {
         if self.lent.is_empty() {
@@ -120,6 +122,7 @@ impl Strand {
         ensures keeps { ComesOr ((to < end) × (stop ≡ stops.Over)) result self.old self.new }
         ensures spawns { HandsOutAt stop result }
         ensures counts { self.new.count ≡ self.old.count }
+        ensures halts { StopsFor stop to end self.new }
         ensures goes { GoesOn result self.new }
     {
         calls_on_a_strand_keep_its_job();
@@ -182,13 +185,15 @@ impl Strand {
         }
     }
 
-    /// Goes on to its next event, as `go`, but that an effect is not made yet; or by so many instructions, where no event
-    /// comes before: `Ran`. With its spawns in place it hands nothing out.
+    /// Executes up to the next event, as `go` does, but does not make the effect of an end yet; returns `Ran` after `most`
+    /// instructions if no event comes before. It executes at most `most` instructions, whatever the event, and stops for
+    /// its limit only after as many as its job may execute in all. With spawns in place it hands nothing out.
     #[inline(always)]
     pub fn next_event(&mut self, most: u64, spawns: Spawns) -> Event
         requires { IsRunning self.old }
         ensures of { self.new.of ≡ self.old.of }
         ensures keeps { ComesWithin most spawns result self.old self.new }
+        ensures within { StaysWithin most self.old self.new }
         ensures leaves { LeavesAt result self.old self.new }
     {
         match self.mode {

@@ -1,10 +1,11 @@
 //! The rest of a block is handed out as a job.
 
-ghost use Rattle.std.specs.Prelude.{◌≡◌, ◌+◌, ◌≤◌, ◌<◌, ◌-◌, Some, slice_get, IfOk, OnOk, OnErr, MatchResult};
+ghost use Rattle.std.specs.Prelude.{◌≡◌, ◌≢◌, ◌+◌, ◌≤◌, ◌<◌, ◌-◌, Some, slice_get, IfOk, OnOk, OnErr, MatchResult};
 ghost use Rattle.std.specs.Vec.{vec_len, vec_capacity};
 ghost use Rattle.cw_jobs.specs.Jobs.{code_of};
 ghost use Rattle.cw_machine.specs.declared.run.Stop.TheVariants as stop;
 ghost use Rattle.cw_machine.specs.Calls.{loans_of};
+ghost use Rattle.cw_strand.specs.declared.strand.Mode.TheVariants as mode;
 ghost use Rattle.cw_strand.specs.Holds.{its_parts, its_code, AreSpare};
 ghost use Rattle.cw_strand.specs.Losing.{GoesOn};
 ghost use Rattle.cw_strand.specs.Moves.{HasCome, ComesTo, HasCut, HasSpared, IsAddressed};
@@ -119,6 +120,7 @@ impl Strand {
         ensures of { self.new.of ≡ self.old.of }
         ensures keeps { ComesTo result self.old self.new }
         ensures counts { self.new.count ≡ self.old.count }
+        ensures over { self.new.mode ≢ mode.Over }
         ensures goes { GoesOn result self.new }
     {
         calls_on_a_strand_keep_its_job();

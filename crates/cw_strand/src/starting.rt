@@ -1,4 +1,4 @@
-//! A strand begins its job.
+//! The start of a job by a strand.
 
 ghost use Rattle.std.specs.Prelude.{◌≡◌, IfOk, IfErr, MatchResult};
 ghost use Rattle.cw_jobs.specs.Jobs.{begins_at, IsSound};
@@ -16,7 +16,7 @@ use cw_strand_laws::laws::calls_on_a_strand_keep_its_job;
 use std::alloc::{AllocError, Global};
 use std::snapshot::Snapshot;
 
-// The meter of a job that goes so far, in the call of a site, and of which so much is kept.
+// Creates the meter of a job of this extent, in the call of a site. `detail` says how much is recorded.
 fn begin_meter(
     alloc: Global,
     extent: Extent,
@@ -34,7 +34,7 @@ fn begin_meter(
     }
 }
 
-// The run of a job begins, with the job's arrays.
+// Creates the run of a job, with the job's arrays.
 fn begin_run(alloc: Global, parts: &mut Parts) -> Result<Run, AllocError>
     requires sound { ∥ IsSound parts.old ∥₁ }
     ensures begins { IfOk result (λ r. BeginsRun parts.old parts.new r) }
@@ -46,7 +46,11 @@ fn begin_run(alloc: Global, parts: &mut Parts) -> Result<Run, AllocError>
 }
 
 impl Strand {
-    /// Begins a job. The error is want of memory, and gives the job back as it was.
+    /// Begins a job.
+    ///
+    /// # Errors
+    ///
+    /// The job, unchanged, if memory runs out.
     pub fn start(alloc: Global, job: Job) -> Result<Strand, Job>
         ensures { MatchResult result (λ s. Begins job s) (λ back. back ≡ job) }
     {

@@ -4,6 +4,7 @@ ghost use Rattle.std.specs.Prelude.{◌≡◌, ◌∷◌, true, false, List};
 ghost use Rattle.cw_jobs.specs.declared.job.Job as jobs;
 ghost use Rattle.cw_strand.specs.Holds as holds;
 ghost use Rattle.cw_strand.specs.Holds.{outs, HasStopped, IsAtSync, IsGoing, IsRunning, IsWaiting};
+ghost use Rattle.cw_strand.specs.declared.strand.Mode.TheVariants as mode;
 ghost use Rattle.cw_strand.specs.Moves as moves;
 ghost use Rattle.cw_strand.specs.Moves.{HasLost, HasPoppedHome, MayPopHome};
 
@@ -166,12 +167,15 @@ impl Strand {
         }
     }
 
-    /// The strand stops for want of memory, whatever it was at.
+    /// Stops the strand for lack of memory, in whatever state it is: it goes on no more, and if nothing is out it ends with
+    /// an effect that says so. The count of its instructions is unchanged.
     pub fn fail(&mut self)
         ensures of { self.new.of ≡ self.old.of }
+        ensures mode { self.new.mode ≡ mode.Memory }
         ensures stopped { HasStopped self.new }
         ensures running { IsRunning self.old → IsRunning self.new }
         ensures outs { outs self.new ≡ outs self.old }
+        ensures counts { self.new.count ≡ self.old.count }
     {
         calls_on_a_strand_keep_its_job();
         self.mode = Mode::Memory;

@@ -1,10 +1,11 @@
-//! A strand: a run of a job that hands the rests of its blocks out.
+//! A strand: a run of a job that hands out the continuations of its blocks.
 //!
-//! A strand goes on up to its next event: a spawn, whose rest it hands out as a job; the return of the newest spawned call
-//! whose rest is out, at which it waits for that rest; or its end, with an effect that means its job. A rest that came
-//! back unrun costs nothing: the strand goes on with it itself.
+//! A strand runs up to its next event: a spawn, whose continuation it hands out as a job; the return of the newest
+//! spawned call whose continuation is out, at which it waits for that continuation; or its end, with an effect that
+//! means its job. A continuation that returns without being executed costs nothing: the strand executes it itself.
 //!
-//! It may also go on with its spawns in place: then it hands nothing out, and a call that was spawned so returns in place.
+//! A strand can also execute its spawns in place. Then it hands nothing out, and a call that was spawned in this way
+//! returns in place.
 
 use cw_jobs::call::Parts;
 use cw_jobs::effect::Effect;
@@ -14,114 +15,115 @@ use cw_machine::run::Run;
 use cw_model::trap::Trap;
 use std::snapshot::Snapshot;
 
-/// How a strand stands.
+/// The mode of a strand.
 #[derive(Clone, Copy, Debug)]
 pub enum Mode {
-    /// It goes on from where its run stands.
+    /// It is running, and continues from the place of its run.
     Going,
     /// A spawned call in it has returned: it waits for the newest job out.
     Waiting,
     /// It trapped, with the line.
     Trapped(Trap, u32),
-    /// The next instruction would have passed the limit of the run.
+    /// The next instruction would have exceeded the limit of the run.
     Over,
-    /// Memory was wanting.
+    /// Memory ran out.
     Memory,
     /// It was given up.
     GivenUp,
 }
 
-/// Where a job that is out comes back to.
+/// The place to which a job that is out returns.
 #[derive(Clone, Copy, Debug)]
 pub struct Home {
-    /// The call that it is a rest of.
+    /// The call whose continuation the job is.
     pub(crate) lender: Lender,
     /// The list of the code that names what the spawned call was lent, if it can be lent anything.
     pub(crate) lent: Option<u32>,
-    /// The slot that takes the result of the call that was spawned, if one does.
+    /// The slot for the result of the spawned call, if there is one.
     pub(crate) target: Option<u32>,
-    /// How many calls waited in the run as the spawned call began, by which its return is known.
+    /// The number of calls that waited in the run when the spawned call began. It identifies the return of this call.
     pub(crate) floor: usize,
 }
 
 /// A job that is out.
 #[derive(Drop)]
 pub struct Lent {
-    /// The job, in the proof alone.
+    /// The job, for the proof only.
     pub(crate) job: Snapshot<Job>,
-    /// Where it comes back to.
+    /// The place to which it returns.
     pub(crate) home: Home,
 }
 
-/// What a strand does with the rests of the blocks that spawn.
+/// The treatment of the continuations of blocks that spawn.
 #[derive(Clone, Copy, Debug)]
 pub enum Spawns {
-    /// It hands each out.
+    /// Each is handed out.
     HandedOut,
-    /// It hands none out: it does spawns as calls, and what was spawned so returns as a call.
+    /// None is handed out: the strand executes spawns like calls, and a call that was spawned in this way returns
+    /// like a call.
     InPlace,
 }
 
-/// What a strand came to.
+/// The next event of a strand.
 #[derive(Drop)]
 pub enum Step {
-    /// A call was spawned, and this job, the rest of the block that spawned it, is out.
+    /// A call was spawned. This job, the continuation of the block that spawned it, is out.
     Spawned(Job),
-    /// The newest job out must come back first: it is given, taken back or skipped.
+    /// The newest job out must return first: it is given, taken back or skipped.
     AtSync,
     /// The strand has ended, with the effect of its job.
     Ended(Effect),
 }
 
-/// The end that a strand has come to, of which its effect is to be made.
+/// The end that a strand has reached, from which its effect is made.
 #[derive(Clone, Copy, Debug)]
 pub enum End {
-    /// It has stopped, and nothing is out.
+    /// The strand has stopped, and nothing is out.
     Stopped,
-    /// It is at the join of its job, within so many instructions.
+    /// The strand is at the join of its job, within this number of instructions.
     Joined(u64),
-    /// Its call has ended, with this value if it gives one, within so many instructions.
+    /// Its call has ended, with this value if it returns one, within this number of instructions.
     Gave(Option<i64>, u64),
 }
 
-/// What a strand came to, as `Step`, but that the effect of one that has ended is not made yet: an effect is wide, and
-/// most events have none.
+/// The next event of a strand, like `Step`, except that the effect of a strand that has ended is not made yet. An
+/// effect is large, and most events have none.
 #[derive(Drop)]
 pub enum Event {
-    /// A call was spawned, and this job, the rest of the block that spawned it, is out.
+    /// A call was spawned. This job, the continuation of the block that spawned it, is out.
     Spawned(Job),
-    /// The newest job out must come back first: it is given, taken back or skipped.
+    /// The newest job out must return first: it is given, taken back or skipped.
     AtSync,
-    /// The strand has ended: its effect is made of this end.
+    /// The strand has ended; its effect is made from this end.
     AtEnd(End),
-    /// None of these: as many instructions were done as was asked for, and the strand goes on behind them.
+    /// None of these: the strand executed the number of instructions that the caller asked for, and can continue.
     Ran,
 }
 
-/// What one instruction led a strand to.
+/// The result of one instruction of a strand.
 #[derive(Drop)]
 pub enum Advance {
-    /// The instruction was done, and the strand goes on behind it.
+    /// The instruction was executed, and the strand can continue.
     Ran,
-    /// What the strand came to, by that instruction or by none.
+    /// The event that the strand reached, by that instruction or without one.
     Came(Step),
 }
 
-/// What runs a job.
+/// A strand: it executes a job.
 #[derive(Drop)]
 pub struct Strand {
-    /// Its job, in the proof alone.
+    /// Its job, for the proof only.
     pub(crate) of: Snapshot<Job>,
-    /// What is left of the job: all but its arrays, which are in the run.
+    /// The remaining parts of the job: everything except its arrays, which are in the run.
     pub(crate) parts: Box<Parts>,
-    /// The run.
+    /// The run of the job.
     pub(crate) run: Run,
-    /// The instructions that it did.
+    /// The number of instructions that it has executed.
     pub(crate) count: u64,
     /// The jobs that are out, the newest last.
     pub(crate) lent: Vec<Lent>,
-    /// Jobs that came back and are done with, whose boxes and vectors are used again.
+    /// Jobs that returned and are finished, whose boxes and vectors are reused.
     pub(crate) spares: Vec<Box<Parts>>,
-    /// How it stands.
+    /// Its mode.
     pub(crate) mode: Mode,
 }

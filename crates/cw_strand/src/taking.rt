@@ -1,4 +1,4 @@
-//! A job that was out comes back unrun.
+//! The return of a job that was out and was not executed.
 
 ghost use Rattle.std.specs.Prelude.{◌≡◌, ◌∷◌, List};
 ghost use Rattle.cw_jobs.specs.declared.job.Job as jobs;
@@ -12,7 +12,7 @@ use cw_jobs::call::Parts;
 use cw_jobs::job::Job;
 use cw_strand_laws::laws::calls_on_a_strand_keep_its_job;
 
-// A box that there is no room to keep is let go.
+// Frees a box for which there is no room.
 #[cold]
 #[inline(never)]
 fn let_go(parts: Box<Parts>) {
@@ -20,7 +20,7 @@ fn let_go(parts: Box<Parts>) {
 }
 
 impl Strand {
-    // A box that is done with is kept, where there is room for it.
+    // Keeps a box that is no longer needed, if there is room for it.
     #[inline(always)]
     pub(crate) fn spare(&mut self, parts: Box<Parts>)
         requires spares { AreSpare self.old }
@@ -33,7 +33,7 @@ impl Strand {
         }
     }
 
-    // The newest job out, which nobody ran, is taken back.
+    // Takes back the newest job out, which nobody executed.
     #[inline(always)]
     fn take_in(&mut self, job: Job)
         requires running { IsRunning self.old }
@@ -56,7 +56,7 @@ impl Strand {
         self.spare(parts);
     }
 
-    // The same, out of line: where arrays come home, or there is no room for the job's box.
+    // Takes back the newest job out, not inlined: for jobs with arrays, or if there is no room for the job's box.
     #[inline(never)]
     fn take_home(&mut self, job: Job)
         requires running { IsRunning self.old }
@@ -71,8 +71,8 @@ impl Strand {
         self.take_in(job);
     }
 
-    /// Takes back the newest job out, which nobody ran, where the call beside it has returned: the strand goes on with
-    /// that rest itself. Takes no memory but for what keeps the job's box for another, which may be refused.
+    /// Takes back the newest job out, which nobody executed, after the spawned call has returned: the strand executes
+    /// this continuation itself. Allocates only to keep the job's box for another job; this allocation may fail.
     #[inline(always)]
     pub fn take_back(&mut self, job: Job)
         requires running { IsRunning self.old }

@@ -13,7 +13,7 @@ use Rattle.cw_strand_laws.specs.Events.{takes_back, gives, with_job, at, happens
 some_world : (a b : World) → Some a ≡ Some b → a ≡ b
 some_world a b e = ap (λ o. elim o [ Some c ↦ c | None ↦ a ]) e
 
--- no result is not a world
+-- `None` is not `Some world`
 absurd_none : {A : Type 0} (world : World) → None ≡ Some world → A
 absurd_none world e = cc
 

@@ -17,8 +17,9 @@ pub fn serial_run_is_cut_at_a_spawn()
     ensures { (code : Code) → Cut code }
 {}
 
-/// States that a strand that begins, advances, receives the effect of its newest handed-out job, skips that job,
-/// takes it back or runs out of memory stays a strand of its job, and that its final effect means its job.
+/// States that each operation keeps a strand a strand of its job: to begin, to advance, to receive the effect of its
+/// newest handed-out job, to skip that job, to take it back, and to run out of memory. The strand's final effect means
+/// its job.
 #[tactic(auto, using(crate::proofs::Calls::calls_keep))]
 pub fn calls_on_a_strand_keep_its_job()
     ensures { (code : Code) → CallsKeep code }

@@ -11,7 +11,7 @@ pub struct LeastLine {
 }
 
 impl LeastLine {
-    /// Returns a value without a recorded line.
+    /// Returns a `LeastLine` that holds no line.
     pub fn new() -> LeastLine
         ensures { result.line ≡ None }
     {

@@ -23,8 +23,9 @@ pub fn few_slots()
     ensures arrays { FewArrays }
 {}
 
-/// States that, if a program also keeps the limits, each slot of its resolved tree is below the count of its kind,
-/// each index is below the length of its table, and no function has more slots of a kind than it may declare names.
+/// States three facts of the resolved tree of a program that also keeps the limits: each slot is below the count of
+/// its kind; each index is below the length of its table; and no function has more slots of a kind than it may
+/// declare names.
 pub fn resolved_is_fitting()
     ensures { ResolvedFits }
 {}

@@ -32,10 +32,11 @@ use std::alloc::{AllocError, Global};
 ///
 /// # Errors
 ///
-/// Returns `Size` at the least line that exceeds a limit (1,024 functions, 32 reducers, 16 parameters of a function,
-/// 256 names that a function declares, 64 distinct tags, 32 bytes of a tag), otherwise `Types` at the least line that
-/// breaks a rule of names and types, and `Memory` if there is no memory for the resolved tree. A program without
-/// `main` breaks a rule in line 1.
+/// - `Size` at the least line that exceeds a limit: 1,024 functions, 32 reducers, 16 parameters of a function, 256
+///   names that a function declares, 64 distinct tags, 32 bytes of a tag;
+/// - otherwise `Types` at the least line that breaks a rule of names and types; a program without `main` breaks a rule
+///   in line 1;
+/// - `Memory` if there is no memory for the resolved tree.
 pub fn check(alloc: Global, ast: Ast) -> Result<Typed, Fault>
     ensures { MatchResult result (IsTypedOf (program_of ast)) (IsIllTyped (program_of ast)) }
 {
@@ -66,8 +67,8 @@ pub fn too_large(alloc: Global, ast: &Ast) -> Result<Option<At<TooLarge<'_>>>, A
     Ok(size.first)
 }
 
-/// Returns the least twenty lines of a tree that break a rule of names and types, increasing, each with the first
-/// reason found for it, which is true there; no lines if a limit is exceeded.
+/// Returns the least twenty lines of a tree that break a rule of names and types, in increasing order. Each line has
+/// the first reason found for it, which is true there. Returns no lines if a limit is exceeded.
 ///
 /// # Errors
 ///

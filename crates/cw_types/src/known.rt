@@ -49,7 +49,7 @@ impl<'a> Model for Known<'a> {
 }
 
 impl<'a> Known<'a> {
-    /// Returns a value without names.
+    /// Returns a `Known` that holds no name.
     pub fn new(alloc: Global) -> Known<'a>
         ensures { result ≡ [] }
     {

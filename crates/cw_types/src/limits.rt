@@ -25,9 +25,12 @@ use cw_text::LeastLine;
 use cw_tree::syntax::{Ast, Function, Line, Param, Reducer, Stmt};
 use std::alloc::{AllocError, Global};
 
-/// Returns the least line that exceeds a limit, with the limit: the line of a function after the 1,024th, of a
-/// reducer after the 32nd, of a function with more than 16 parameters, of the declaration of a name after the 256th
-/// of a function, of a tag with more than 32 bytes, or of the first region of a distinct tag after the 64th.
+/// Returns the least line that exceeds a limit, with the limit. These lines exceed one:
+///
+/// - the line of a function after the 1,024th, or of a reducer after the 32nd;
+/// - the line of a function with more than 16 parameters;
+/// - the line of the declaration of a name after the 256th of a function;
+/// - the line of a tag with more than 32 bytes, or of the first region of a distinct tag after the 64th.
 ///
 /// # Errors
 ///

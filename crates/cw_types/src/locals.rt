@@ -18,7 +18,7 @@ pub struct Locals<'a> {
 }
 
 impl<'a> Locals<'a> {
-    /// Returns a value without locals.
+    /// Returns a `Locals` that holds no name.
     pub fn new(alloc: Global) -> Locals<'a>
         ensures ints { result.ints ≡ [] }
         ensures arrays { result.arrays ≡ [] }

@@ -287,7 +287,7 @@ fn arrays(alloc: Global, names: &Table, over: &[Name]) -> Result<Vec<tree::Use>,
     Ok(found)
 }
 
-/// Returns the head of a loop, for its resolved body.
+/// Returns the resolved head of a loop; `body` is the resolved body, which determines the captured integers.
 ///
 /// # Errors
 ///

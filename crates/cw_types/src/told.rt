@@ -14,7 +14,7 @@ pub struct Told<R> {
 }
 
 impl<R: Copy> Told<R> {
-    /// Returns a value without a line.
+    /// Returns a `Told` that holds no line.
     pub fn new() -> Told<R>
         ensures { result.first ≡ None }
     {

@@ -22,7 +22,7 @@ use Rattle.cw_verify.proofs.Rounds.{each_stays, each_comes}
 use Rattle.cw_verify.proofs.Spreading.{shapes_set}
 use Rattle.cw_verify.proofs.Tables.{is_alike_of}
 
--- a row brings nothing to itself
+-- a row marks no more than itself
 brings_self : (row : Row) → brings row row ≡ false
 brings_self [] = refl
 brings_self (true ∷ row) = brings_self row

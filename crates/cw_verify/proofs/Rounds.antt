@@ -7,7 +7,7 @@ use Rattle.cw_verify.specs.Table.{blocks_of, can_meet, either_empty, either_roun
 use Rattle.cw_verify.proofs.Rows.{either_stays, either_within, either_fewer, either_comes}
 use Rattle.cw_verify.proofs.Tables.{alike}
 
--- a block to which nothing is brought stays
+-- a merge with a block that marks no more leaves the block unchanged
 round_stays : (x y : Outer) → round_brings x y ≡ false → either_round x y ≡ x
 round_stays x y h =
     let both = or_parts (brings x.empty y.empty) (brings x.gone y.gone || brings x.frozen y.frozen) h in
@@ -23,7 +23,7 @@ each_stays (x ∷ xs) (y ∷ ys) h =
     let both = or_parts (round_brings x y) (each_brings xs ys) h in
     ap (λ l. either_round x y ∷ l) (each_stays xs ys both.1) ∙ ap (λ r. r ∷ xs) (round_stays x y both.0)
 
--- a merge that brings something leaves fewer slots unmarked
+-- a merge leaves no more slots unmarked, and fewer if the second block marks more
 round_within : (x y : Outer) → unmarked_round (either_round x y) ≤ unmarked_round x
 round_within x y = omega (arith, either_within x.empty y.empty, either_within x.gone y.gone, either_within x.frozen y.frozen)
 

@@ -14,7 +14,7 @@ use Rattle.cw_verify.specs.Views.{frozen_by, with_loans}
 use Rattle.cw_verify.specs.Table.{either_empty, brings, has_all, any_empty, are_unmarked, unmarked, IsEither}
 use Rattle.cw_verify.proofs.Lists.{drop_at}
 
--- a row to which nothing is brought stays
+-- a merge with a row that marks no more leaves the row unchanged
 pub either_stays : (xs ys : Row) → brings xs ys ≡ false → either_empty xs ys ≡ xs
 either_stays [] ys h = refl
 either_stays (x ∷ xs) [] h = refl
@@ -27,7 +27,7 @@ either_stays (x ∷ xs) (y ∷ ys) h =
     stays false true h = cc
     stays false false h = refl
 
--- a merge that brings something leaves fewer slots unmarked
+-- a merge leaves no more slots unmarked, and fewer if the second row marks more
 pub either_within : (xs ys : Row) → unmarked (either_empty xs ys) ≤ unmarked xs
 either_within [] ys = omega arith
 either_within (x ∷ xs) [] = omega arith
@@ -56,7 +56,7 @@ either_comes (x ∷ xs) (y ∷ ys) e h =
     comes true false h = cc
     comes false y h = refl
 
--- rows merged according to what the second one brings
+-- the merged row, according to which of the rows marks more
 pub is_there : (xs ys : Row) → brings xs ys ≡ false → IsEither xs ys xs false
 is_there xs ys h = record { items = sym (either_stays xs ys h); same = λ e. refl; fewer = λ e. cc }
 
@@ -217,7 +217,7 @@ named_full n (a ∷ slots) h =
     both_true (is_full_in (slice_get (none_empty n) a)) (all_full (none_empty n) slots) (none_full n a (lt_of a n (first_true (nat_lt a n) (is_none_of a slots && names_arrays n slots) h)))
     (named_full n slots (second_true (is_none_of a slots) (names_arrays n slots) rest))
 
--- slots are marked in a row without a marked slot
+-- in a row of `n` slots without a mark, slots are unmarked exactly if they are distinct slots below `n`
 pub unmarked_from_none : (n : ℕ) (slots : List ℕ) → are_unmarked (none_empty n) slots ≡ names_arrays n slots
 unmarked_from_none n slots =
     unmarked_named (none_empty n) slots ∙ ap (λ m. all_full (none_empty n) slots && names_arrays m slots) (length-replicate n false) ∙ at (names_arrays n slots) refl

@@ -13,9 +13,9 @@ use std::collections::BinaryHeap;
 /// The pcs to visit, by their distance from the first one, in passes. In a pass the nearest pc comes first: in code
 /// without loops, all predecessors of a pc are visited before it, so it is visited once.
 ///
-/// What flows back to the head of a loop continues after the loop in the same pass, and into the body of the loop in
-/// the next pass, when what flows back from all enclosing loops is also known. So nested loops take two passes, and
-/// no pc in them is visited once for each of them.
+/// What flows back to the head of a loop continues after the loop in the same pass. It continues into the body of the
+/// loop in the next pass, when what flows back from all enclosing loops is also known. So nested loops take two
+/// passes, and the number of visits to a pc does not grow with the number of loops around it.
 #[derive(Drop)]
 pub struct WorkList {
     /// The pcs, each after its pass.

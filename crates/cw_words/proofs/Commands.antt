@@ -1,4 +1,4 @@
--- The command line, step by step.
+-- The definition of the command line, step by step.
 use Rattle.std.proofs.Common.{◌≡◌, ◌∙◌, ap, Option, Some, None}
 use Rattle.std.specs.Prelude.{IsSomeAnd}
 use Rattle.clap.specs.Words.{Rule}

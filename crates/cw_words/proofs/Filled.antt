@@ -1,4 +1,5 @@
--- A source that is given has a text: in a walk no row or pending argument of its id is without one.
+-- A source that is given has a text: during the traversal of the words, no row or pending argument with its id is
+-- without a text.
 use Rattle.std.proofs.Common.{◌≡◌, ◌++◌, ◌+◌, min, refl, subst, ℕ, zero, suc, Bool, true, false, cond, ◌&&◌, List, [], ◌∷◌, length, drop, Option, Some, None, codes, is_some}
 use Rattle.std.specs.Option.{option_map_or}
 use Rattle.std.specs.Prelude.{find, option_and_then, slice_get, encode_utf8, if◌then◌else◌}
@@ -21,7 +22,7 @@ use Rattle.clap.specs.declared.parser.matches.ValueSource.{ValueSource}
 use Rattle.clap.specs.declared.parser.matches.ValueSource.TheVariants.{CommandLine}
 use Rattle.std.proofs.lemmas.Bool.{false≢true}
 
--- the id is the source's
+-- the id is the id of the source
 abbrev pub IsSource : Text → Type 0
 IsSource id = bytes_eq id (codes "FILE") ≡ true
 
@@ -90,7 +91,7 @@ given_or_missing a (v ∷ vs) h = refl
 filled_used : (a : Rule) (values : List Text) (rows : List Row) → (IsSource a.id → HasFirst values) → Filled rows → Filled (used a values rows)
 filled_used a values rows v h = filled_used_as (action_of a) a.id (reading_by a) (values_or_missing a values) rows (λ is. given_or_missing a values (v is)) h
 
--- what is found passes the test
+-- the element that `find` returns passes the test
 found : {X : Type 0} (test : X → Bool) (xs : List X) (y : X) → find test xs ≡ Some y → test y ≡ true
 found test [] y e = absurd (none_some e)
   where
@@ -122,13 +123,13 @@ good_reacted c a values h v g = (filled_used a values (settled c h).rows v (good
 good_pushed : (id word : Text) (h : Held) → Good h → Good (pushed id word h)
 good_pushed id word h g = (g.0, λ is. first_of_last _ word)
 
--- ---- flags: none is the source
+-- ---- flags: no flag is the source
 
 abbrev pub NotSource : Option Rule → Type 0
 NotSource None = Unit {0}
 NotSource (Some a) = IsSource a.id → ⊥
 
--- no rule that a flag may name is the source's
+-- no rule that a flag can name is the rule of the source
 abbrev pub NamesNoSource : List Rule → Type 0
 NamesNoSource c = ((name : Text) → NotSource (arg_by_long c name)) × ((x : ℕ) → NotSource (arg_by_short c x))
 

@@ -1,4 +1,4 @@
--- The walk over the words behind `gain` that start with no hyphen.
+-- The traversal of the words after `gain` that do not begin with a hyphen.
 use Rattle.std.proofs.Common.{◌≡◌, ◌∙◌, ◌<◌, ◌^◌, ◌++◌, ap, ap₂, sym, refl, arith, false, List, [], ◌∷◌, length, Option, Some, None, codes}
 use Rattle.std.specs.List.{All, fold}
 use Rattle.std.proofs.lemmas.List.{append-nil, append_assoc}
@@ -12,7 +12,7 @@ use Rattle.cw_words.specs.WordLaws.{IsPlain, gaining}
 use Rattle.cw_words.specs.declared.verb.Verb.TheVariants as verb
 use Rattle.cw_words.proofs.Reading.{at, held, gain, step, turn, all_rest, level, command_level, range_fits, values_accepted, command_faults, command_rows}
 
--- what is held before the source: how many functions, where that is given
+-- the arguments before the source: the number of functions, if it is given
 abbrev before : Option Text → Held
 before None = held [] None
 before (Some n) = held [] (Some (codes "top", n ∷ []))
@@ -52,7 +52,7 @@ next_step g file v vs word plain = step gain.rules positional 2 word (args_met g
 next_turn : (g : Option Text) (file v : Text) (vs : List Text) (word : Text) → IsPlain word → turn_fault gain [] (args_met g file v vs) word ≡ []
 next_turn g file v vs word plain = turn gain positional 2 word (args_met g file v vs).held refl plain
 
--- ---- the words behind the source
+-- ---- the words after the source
 
 rest_walk : (g : Option Text) (file v : Text) (vs rest : List Text) → All IsPlain rest → fold (walked gain.rules []) (args_met g file v vs) rest ≡ args_met g file v (vs ++ rest)
 rest_walk g file v vs [] plain = ap (args_met g file v) (sym (append-nil vs))
@@ -67,7 +67,7 @@ rest_fault g file v vs (word ∷ rest) plain =
     ap₂ (λ k w. or_else k (walk_fault gain [] w rest)) (next_turn g file v vs word (plain 0 word (omega arith))) (next_step g file v vs word (plain 0 word (omega arith)))
     ∙ rest_fault g file v (vs ++ word ∷ []) rest (all_rest word rest plain)
 
--- the walk's end
+-- the end of the traversal
 abbrev end : Option Text → (file : Text) → List Text → Walk
 end g file [] = source_met g file
 end g file (v ∷ vs) = args_met g file v vs
@@ -91,7 +91,7 @@ unfolding walk_fault
 begun_fault g file args plain plains =
     ap₂ (λ k w. or_else k (walk_fault gain [] w args)) (source_turn g file plain) (source_step g file plain) ∙ args_fault g file args plains
 
--- ---- how many functions, before the source
+-- ---- the number of functions, before the source
 
 abbrev top_words : Option Text → List Text
 top_words None = []
@@ -144,7 +144,7 @@ end_level (Some n) file [] lt = refl
 end_level None file (v ∷ vs) lt = ap (level gain (end None file (v ∷ vs)) false [] []) (ap₂ or_else (range_fits (length (v ∷ vs)) lt) (values_accepted false (v ∷ vs)))
 end_level (Some n) file (v ∷ vs) lt = ap (level gain (end (Some n) file (v ∷ vs)) false [] []) (ap₂ or_else (range_fits (length (v ∷ vs)) lt) (values_accepted false (v ∷ vs)))
 
--- ---- what the words are read as
+-- ---- the meaning of the words
 
 abbrev top_given : Option Text → Text
 top_given None = top_row.usual

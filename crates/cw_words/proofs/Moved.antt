@@ -1,8 +1,9 @@
--- What is asked and what is left of the words behind some, by whether `--` was among these.
+-- The requests for explanations among the remaining words, and the words that remain, depending on whether `--` came
+-- before.
 use Rattle.std.proofs.Common.{ℕ, Bool, true, false, List}
 use Rattle.cw_words.specs.Explaining.{asks_explain, without_explain}
 
--- behind a word `--` no word asks, and all are left
+-- after a word `--`, no word asks for explanations, and all words remain
 abbrev pub asks_on : Bool → List (List ℕ) → Bool
 asks_on true words = false
 asks_on false words = asks_explain words

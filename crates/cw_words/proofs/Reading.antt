@@ -1,4 +1,4 @@
--- The walk over words that start with no hyphen.
+-- The traversal of words that do not begin with a hyphen.
 use Rattle.std.proofs.Common.{◌≡◌, ◌∙◌, ◌<◌, ◌^◌, ◌==◌, ◌++◌, ap, ap₂, sym, refl, subst, arith, ℕ, cond, slice_get, nat_eq, suc, Bool}
 use Rattle.std.proofs.Common.{false, List, [], ◌∷◌, drop, length, Option, Some, None, codes, unwrap_or, is_some}
 use Rattle.std.specs.List.{All, fold}
@@ -27,7 +27,7 @@ use Rattle.cw_words.specs.declared.verb.Verb.TheVariants as verb
 abbrev pub at : Waiting → ℕ → Held → Walk
 at waiting position h = record { held = h; waiting = waiting; position = position; is_trailing = false; stopped = None }
 
--- such a word is neither `--` nor a flag
+-- a word that does not begin with a hyphen is neither `--` nor a flag
 no_hyphen : (word : Text) → IsPlain word → (bytes_eq word (45 ∷ 45 ∷ []) ≡ false) × (long_of word ≡ None) × (short_of word ≡ None)
 no_hyphen [] plain = (refl, refl, refl)
 no_hyphen (x ∷ xs) plain = let e : (x == 45) ≡ false = ne_eqb x 45 (λ is. plain (ap Some is)) in (rw e refl, rw e refl, rw e refl)
@@ -113,7 +113,7 @@ held rows pending = record { rows = rows; pending = pending; skip = 0 }
 
 -- ---- the words after a command that takes a burden
 
--- what is given before the source: no number, a limit, a burden, a word for edges or workers
+-- the option before the source: none, a limit, a burden, a word for edges or a number of workers
 pub data Given : Type 0 where
   nothing : Given
   limited : Text → Given
@@ -121,7 +121,7 @@ pub data Given : Type 0 where
   edged : Text → Given
   worked : Text → Given
 
--- what is held before the source
+-- the arguments before the source
 abbrev before : Given → Held
 before nothing = held [] None
 before (limited n) = held [] (Some (codes "limit", n ∷ []))
@@ -187,7 +187,7 @@ rest_fault name g file v vs (word ∷ rest) plain =
     ap₂ (λ k w. or_else k (walk_fault (running name) [] w rest)) (next_turn name g file v vs word (plain 0 word (omega arith))) (next_step g file v vs word (plain 0 word (omega arith)))
     ∙ rest_fault name g file v (vs ++ word ∷ []) rest (all_rest word rest plain)
 
--- the walk's end
+-- the end of the traversal
 abbrev end : Given → Text → List Text → Walk
 end g file [] = source_met g file
 end g file (v ∷ vs) = args_met g file v vs
@@ -344,7 +344,7 @@ values_accepted b (v ∷ vs) = values_accepted b vs
 pub range_fits : (n : ℕ) → n < 2 ^ 64 → range_kinds 0 usize_max n ≡ []
 range_fits n lt = rw (le-ltb n 0 (omega arith), le-ltb usize_max n (omega (arith, lt))) refl
 
--- past the first steps of a level
+-- the faults of a level, without its first steps
 abbrev pub level : Shape → Walk → Bool → Kinds → Kinds → Kinds → Kinds
 level s w has walk below settle =
     or_else walk (or_else below (or_else settle (or_else (defaults_fault (settled s.rules w.held).rows s.rules) (check_fault s (finished s.rules w.held) has))))
@@ -412,7 +412,7 @@ top_fault m rest = ap₂ (λ k w. or_else k (walk_fault line.top (names_of line)
 abbrev top_level : Walk → Kinds → Kinds
 top_level w walk = level line.top w (is_some (entered line w.stopped)) walk (entered_fault line w.stopped) (settle_fault line.top.rules line.top.args_override_self w.held)
 
--- after the word for a command the words go to its own level
+-- after the word for a command, the words go to the level of this command
 pub command_faults : (m : Verb) (rest : List Text) → command_level (shape_of m) (walk (shape_of m).rules [] nothing_held rest) (walk_fault (shape_of m) [] (walk_from nothing_held) rest) ≡ []
     → faults (command_name m ∷ rest) ≡ []
 unfolding defaults_fault
@@ -432,7 +432,7 @@ command_rows verb.Sites rest = ap (λ w. entered line w.stopped) (top_walk verb.
 command_rows verb.Gain rest = ap (λ w. entered line w.stopped) (top_walk verb.Gain rest)
 command_rows verb.Greedy rest = ap (λ w. entered line w.stopped) (top_walk verb.Greedy rest)
 
--- ---- what the words are read as
+-- ---- the meaning of the words
 
 abbrev numbers_given : Given → List Text
 numbers_given nothing = usual_numbers
@@ -460,7 +460,7 @@ end_rows words m (burdened n) file (v ∷ vs) h = record { rows = _; command = h
 end_rows words m (edged n) file (v ∷ vs) h = record { rows = _; command = h; file_is = refl; args_are = refl; numbers_are = refl; edges_are = refl }
 end_rows words m (worked n) file (v ∷ vs) h = record { rows = _; command = h; file_is = refl; args_are = refl; numbers_are = refl; edges_are = refl }
 
--- what a level says of the words, and the rows that it ends with
+-- the faults of the words on a level
 abbrev pub level_of : Shape → List Text → Kinds
 level_of s rest = command_level s (walk s.rules [] nothing_held rest) (walk_fault s [] (walk_from nothing_held) rest)
 
@@ -496,7 +496,7 @@ check_is_read file plain =
       edges_are = refl;
     }
 
--- ---- what a request of the words is
+-- ---- the rows of a request
 
 abbrev rows_in : Option (Text × List Row) → List Row
 rows_in None = []
@@ -509,7 +509,7 @@ name_in (Some p) = p.0
 pub same_rows : (words : List Text) (m m' : Verb) (rows rows' : List Row) → HaveCommand words m rows → HaveCommand words m' rows' → rows ≡ rows'
 same_rows words m m' rows rows' h k = ap rows_in (sym h.1 ∙ k.1)
 
--- the command that a name is of, told by its length and its second letter
+-- the command with a name, determined by the length of the name and its second letter
 abbrev named : Text → Verb
 named name = cond (nat_eq (length name) 3) verb.Run (by_letter (slice_get name 1))
   where

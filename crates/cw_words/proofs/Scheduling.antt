@@ -1,4 +1,4 @@
--- The walk over the words behind `greedy` that start with no hyphen.
+-- The traversal of the words after `greedy` that do not begin with a hyphen.
 use Rattle.std.proofs.Common.{◌≡◌, ◌∙◌, ◌<◌, ◌^◌, ◌++◌, ap, ap₂, sym, refl, arith, false, List, [], ◌∷◌, length, Option, Some, None, codes}
 use Rattle.std.specs.List.{All, fold}
 use Rattle.std.proofs.lemmas.List.{append-nil, append_assoc}
@@ -12,7 +12,7 @@ use Rattle.cw_words.specs.WordLaws.{IsPlain, scheduling}
 use Rattle.cw_words.specs.declared.verb.Verb.TheVariants as verb
 use Rattle.cw_words.proofs.Reading.{at, held, greedy, step, turn, all_rest, level, command_level, range_fits, values_accepted, command_faults, command_rows}
 
--- what is held before the processors: a limit, where one is given
+-- the arguments before the processors: a limit, if it is given
 abbrev before : Option Text → Held
 before None = held [] None
 before (Some n) = held [] (Some (codes "limit", n ∷ []))
@@ -80,7 +80,7 @@ rest_fault g p file v vs (word ∷ rest) plain =
     ap₂ (λ k w. or_else k (walk_fault greedy [] w rest)) (next_turn g p file v vs word (plain 0 word (omega arith))) (next_step g p file v vs word (plain 0 word (omega arith)))
     ∙ rest_fault g p file v (vs ++ word ∷ []) rest (all_rest word rest plain)
 
--- the walk's end
+-- the end of the traversal
 abbrev end : Option Text → (p file : Text) → List Text → Walk
 end g p file [] = source_met g p file
 end g p file (v ∷ vs) = args_met g p file v vs
@@ -162,7 +162,7 @@ end_level (Some n) p file [] lt = refl
 end_level None p file (v ∷ vs) lt = ap (level greedy (end None p file (v ∷ vs)) false [] []) (ap₂ or_else (range_fits (length (v ∷ vs)) lt) (values_accepted false (v ∷ vs)))
 end_level (Some n) p file (v ∷ vs) lt = ap (level greedy (end (Some n) p file (v ∷ vs)) false [] []) (ap₂ or_else (range_fits (length (v ∷ vs)) lt) (values_accepted false (v ∷ vs)))
 
--- ---- what the words are read as
+-- ---- the meaning of the words
 
 abbrev limit_given : Option Text → Text
 limit_given None = limit_row.usual

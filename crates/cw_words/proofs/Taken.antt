@@ -1,4 +1,4 @@
--- Words that are taken have a command and a source.
+-- Words that are accepted have a command and a source.
 use Rattle.std.proofs.Common.{◌≡◌, ◌⊎◌, inl, inr, ap, sym, refl, subst, ◌∙◌, ℕ, zero, suc, Bool, true, false, cond, not, ◌&&◌, ◌||◌, drop, List, [], ◌∷◌, length, Option, Some, None, codes, is_some}
 use Rattle.std.specs.Prelude.{encode_utf8, find, slice_get, option_map, if◌then◌else◌}
 use Rattle.std.specs.Option.{option_map_or}
@@ -46,7 +46,7 @@ first (a ∷ rest) = a
 abbrev help : Rule
 help = first rules
 
--- the only flag is that for help
+-- the only flag is the one for help
 long_refused : (name : Text) (v : Option Text) → long_fault rules false (arg_by_long rules name) v nothing_held ≡ [] → ⊥
 long_refused name v h = elim (find_one (λ (a : Rule). not (is_some a.index) && has_long a name) help) [
   | inl none ↦ let e : long_fault rules false None v nothing_held ≡ [] = subst (λ o. long_fault rules false o v nothing_held ≡ []) none h in cc
@@ -57,7 +57,7 @@ long_refused name v h = elim (find_one (λ (a : Rule). not (is_some a.index) && 
     help_refused None h = cc
     help_refused (Some t) h = cc
 
--- what the step after a flag word comes to
+-- the faults of the step after a flag word
 abbrev after_fault : Text → Held × Outcome → Kinds
 after_fault word m = step_fault line.top 1 (after_flag rules idle word m.0 m.1).0 (after_flag rules idle word m.0 m.1).1
 
@@ -95,7 +95,7 @@ flag_refused (Some p) word h = long_refused p.0 p.1 (both_none _ _ h).0
 abbrev none_of : Kinds
 none_of = []
 
--- the walk stops at a command, or at no word
+-- the traversal stops at a command, or at no word
 abbrev Stops : Walk → Type 0
 Stops w = (w.stopped ≡ None) ⊎ ((m : Verb) × (rest : List Text) × (w ≡ stopped_at (command_name m) rest))
 
@@ -105,7 +105,7 @@ walk_on w words = fold (walked rules names) w words
 abbrev start : Walk
 start = walk_from nothing_held
 
--- after `--` no word is taken
+-- after `--` no word is accepted
 abbrev ended : Walk
 ended = record start { is_trailing = true }
 
@@ -117,7 +117,7 @@ trailing_stops (word ∷ words) h = absurd (no (both_none (turn_fault line.top n
     no : turn_fault line.top names ended word ≡ [] → ⊥
     no e = cc
 
--- the start, and a word of which the subcommand is this
+-- the faults of a word at the start, if its subcommand is this one
 abbrev turn_by : Option Text → Text → Kinds
 turn_by o word = or_else (other_fault line.top o word nothing_held) (step_of (subcommand_or_other rules o idle 1 word nothing_held))
 
@@ -243,7 +243,7 @@ source_given m rows h = of_verb m h
     go true e = refl
     go false e = cc
 
-    -- behind the processors
+    -- the check of the source after the check of the processors
     behind : (p g : Bool) → (if not p || (not g || false) then kind.MissingRequiredArgument ∷ [] else none_of) ≡ [] → g ≡ true
     behind p true e = refl
     behind true false e = cc
@@ -257,14 +257,14 @@ source_given m rows h = of_verb m h
     of_verb verb.Gain e = go (is_given (codes "FILE") rows) e
     of_verb verb.Greedy e = behind (is_given (codes "P") rows) (is_given (codes "FILE") rows) e
 
--- and a subcommand
+-- a subcommand is required
 stopped_somewhere : (rows : List Row) (w : Walk) → w.stopped ≡ None → check_fault line.top rows (is_some (entered line w.stopped)) ≡ [] → ⊥
 stopped_somewhere rows w none h = no (subst (λ o. check_fault line.top rows (is_some (entered line o)) ≡ []) none h)
   where
     no : check_fault line.top rows false ≡ [] → ⊥
     no e = cc
 
--- the checks after a walk find nothing wrong
+-- the checks after a traversal find no fault
 level_passes : (s : Shape) (w : Walk) (has : Bool) (walk below settle : Kinds) → level s w has walk below settle ≡ [] → (walk ≡ []) × (below ≡ []) × (check_fault s (finished s.rules w.held) has ≡ [])
 level_passes s w has walk below settle h =
     let defaults = defaults_fault (settled s.rules w.held).rows s.rules in
@@ -278,7 +278,7 @@ some_text : (o : Option Text) → is_some o ≡ true → (t : Text) × (o ≡ So
 some_text None h = cc
 some_text (Some t) h = (t, refl)
 
--- the level of a command, where the words enter it
+-- the level of a command that the words enter
 at_level : (s : Shape) (rest : List Text) → level s (walk s.rules [] nothing_held rest) false (walk_fault s [] start rest) []
     (settle_fault s.rules s.args_override_self (walk s.rules [] nothing_held rest).held) ≡ []
     → check_fault s (finished s.rules (walk s.rules [] nothing_held rest).held) false ≡ []

@@ -1,4 +1,4 @@
--- Texts that are lent.
+-- Texts that are borrowed.
 use Rattle.std.proofs.Common.{◌≡◌, ℕ, ℤ, List, [], ◌∷◌, map, pos, zero, suc, arith, refl, ap, sym, ◌∙◌, subst, Option, Some, None, option_map, unwrap_or, Bor}
 use Rattle.std.specs.List.{All}
 use Rattle.std.proofs.lemmas.List.Elements.{All-map}
@@ -14,7 +14,7 @@ use Rattle.cw_words.specs.declared.asked.Mode.{Mode}
 use Rattle.cw_text.specs.declared.fault.Fault.{Fault}
 use Rattle.cw_text.specs.declared.fault.Fault.TheVariants as fault
 
--- what the references lead to
+-- the texts to which the references point
 abbrev pub lent : List (Bor (List ℕ)) → List (List ℕ)
 lent ts = map (λ t. t.now) ts
 
@@ -46,7 +46,7 @@ texts_proper ts texts e a = let P : List (List ℕ) → Type 0 = λ xs. All IsAr
     all_lent (t ∷ ts) a zero d lt = a 0 t.now (omega arith)
     all_lent (t ∷ ts) a (suc k) d lt = all_lent ts (λ j e less. a (suc j) e (omega (arith, less))) k d (omega (arith, lt))
 
--- the text for an option, or the usual one
+-- the text for an option, or the default text
 pub word_given : (found : Found) (name text : Text) (r : Option (Bor (List ℕ))) (usual given : Bor (List ℕ))
     → option_map (λ s. s.now) r ≡ first_value found name → usual.now ≡ text → given ≡ unwrap_or r usual → given.now ≡ unwrap_or (first_of name (rows_of found)) text
 word_given found name text r usual given e u g = ap (λ s. s.now) g ∙ or_usual r usual u ∙ ap (λ o. unwrap_or o text) (e ∙ first_value-rows found name)
@@ -55,7 +55,7 @@ word_given found name text r usual given e u g = ap (λ s. s.now) g ∙ or_usual
     or_usual None usual u = u
     or_usual (Some s) usual u = refl
 
--- that for a number
+-- the text for a number, or the default text
 pub number_given : (found : Found) (row : NumberRow) (r : Option (Bor (List ℕ))) (usual given : Bor (List ℕ))
     → option_map (λ s. s.now) r ≡ first_value found row.name → usual.now ≡ row.usual → given ≡ unwrap_or r usual → given.now ≡ number_text (rows_of found) row
 number_given found row = word_given found row.name row.usual
@@ -64,7 +64,7 @@ number_given found row = word_given found row.name row.usual
 pub first_given : (found : Found) (id : List ℕ) (r : Option (Bor (List ℕ))) → option_map (λ s. s.now) r ≡ first_value found id → first_of id (rows_of found) ≡ option_map (λ s. s.now) r
 first_given found id r e = sym (e ∙ first_value-rows found id)
 
--- what is no argument makes no rows proper
+-- a fault that excludes a property excludes every stronger property
 pub unless_weaker : (P Q : Type 0) (f : Fault) → (Q → P) → IsFaultUnless P f → IsFaultUnless Q f
 unless_weaker P Q fault.Arguments w h = λ q. h (w q)
 unless_weaker P Q fault.Memory w h = h
@@ -79,7 +79,7 @@ unless_weaker P Q (fault.Trap t l o) w h = h
 unless_weaker P Q fault.Write w h = h
 unless_weaker P Q (fault.Strands n) w h = h
 
--- the options of numbers that the words write
+-- the options for which the words give numbers
 pub options_given : (v : Verb) (m : Mode) (limit charge processors top workers l b p t w : ℕ) (edges : Edges) (word : Text)
     → m ≡ mode_with v processors top → limit ≡ l → charge ≡ b → edges_name edges ≡ word → processors ≡ p → top ≡ t → workers ≡ w
     → AreOptionsOf v (l ∷ b ∷ p ∷ t ∷ w ∷ []) word (record { mode = m; limit = limit; burden = record { charge = charge; edges = edges } }) workers

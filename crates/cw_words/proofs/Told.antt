@@ -1,4 +1,4 @@
--- What is said of words, told by the rows of their command.
+-- The answer to words, determined by the rows of their command.
 use Rattle.std.proofs.Common.{◌≡◌, sym, subst, ap, List, [], is_some}
 use Rattle.std.specs.List.{All}
 use Rattle.clap.specs.Words.{Row, Text, subcommand_of}
@@ -11,11 +11,11 @@ use Rattle.cw_words.specs.declared.asked.Said.TheVariants as said
 use Rattle.cw_words.proofs.Reading.{same_rows}
 use Rattle.cw_words.proofs.Taken.{taken}
 
--- words that are taken enter a command
+-- words that are accepted enter a command
 pub has_command : (given : List Text) → faults given ≡ [] → NamesNoCommand (subcommand_of command_line given) → ⊥
 has_command given none nothing = let t = taken given none in nothing t.0.verb t.1.rows t.1.command.1
 
--- rows that make no request have a bad word
+-- words whose rows make no request contain a bad word
 bad_word : (given : List Text) (m : Verb) (rows : List Row) → HaveCommand given m rows → ¬ (AreProper rows) → HaveBadWord given
 bad_word given m rows h bad =
     let t = taken given h.0 in
@@ -34,7 +34,7 @@ bad_word given m rows h bad =
       ));
     }
 
--- a fault of the rows of a command is one of the words
+-- a fault of the rows of a command is a fault of the words
 pub fault_by_rows : (given : List Text) (m : Verb) (rows : List Row) (f : Fault) → HaveCommand given m rows → IsFaultUnless (AreProper rows) f → IsSaidOf given (said.Fault f)
 fault_by_rows given m rows fault.Arguments h bad = bad_word given m rows h bad
 fault_by_rows given m rows fault.Memory h bad = tt

@@ -6,20 +6,20 @@ use Rattle.cw_text.specs.declared.fault.Fault.TheVariants as fault
 use Rattle.cw_words.specs.declared.asked.Said.{Said}
 use Rattle.cw_words.specs.declared.asked.Said.TheVariants as said
 
--- a word `--explain` stands before the first word `--`
+-- a word `--explain` occurs before the first word `--`
 abbrev pub asks_explain : List Text → Bool
 asks_explain [] = false
 asks_explain (word ∷ words) =
     if bytes_eq word (codes "--") then false else if bytes_eq word (codes "--explain") then true else asks_explain words
 
--- the words without each such word
+-- the words without each `--explain` before the first `--`
 abbrev pub without_explain : List Text → List Text
 without_explain [] = []
 without_explain (word ∷ words) =
     if bytes_eq word (codes "--") then word ∷ words else
     if bytes_eq word (codes "--explain") then without_explain words else word ∷ without_explain words
 
--- the one word asks for the version
+-- the only word asks for the version
 abbrev pub asks_version : List Text → Bool
 asks_version [] = false
 asks_version (word ∷ []) = if bytes_eq word (codes "--version") then true else bytes_eq word (codes "-V")

@@ -3,10 +3,10 @@ use Rattle.std.specs.Prelude.{◌≡◌, ℕ, ◌^◌, ◌≤◌, ◌<◌, List,
 use Rattle.std.specs.List.{list_all}
 use Rattle.cw_model.specs.Pieces.{is_digit, decimal_value}
 
--- one or more digits and nothing else, of a number that 64 bits hold
+-- one or more digits and nothing else, whose value fits in 64 bits
 abbrev pub IsNumber : List ℕ → Type 0
 IsNumber text = (list_all is_digit text ≡ true) × (0 < length text) × (decimal_value text < 2 ^ 64)
 
--- such a number between two bounds, each of which is allowed
+-- a number between two bounds, inclusive
 abbrev pub IsNumberWithin : ℕ → ℕ → List ℕ → Type 0
 IsNumberWithin least most text = IsNumber text × (least ≤ decimal_value text) × (decimal_value text ≤ most)

@@ -1,4 +1,4 @@
-//! The word for the edges of a spawn that a burden is charged on.
+//! The option for the edges of a spawn on which a burden is charged.
 
 ghost use Rattle.std.specs.Prelude.{◌≡◌};
 ghost use Rattle.clap.specs.Words.{rows_of, found_of};
@@ -10,10 +10,10 @@ use cw_model::burden::Edges;
 /// The name of the option, without its hyphens.
 pub const EDGES: &str = "edges";
 
-/// The word where none is given.
+/// The default value of the option.
 pub const USUAL_EDGES: &str = "spawn";
 
-/// The edges that the word names, if it names any.
+/// Returns the edges that a word names, if it names any.
 pub fn edges_named(word: &str) -> Option<Edges>
     ensures { IsEdgesNamed word.now result }
 {
@@ -24,7 +24,7 @@ pub fn edges_named(word: &str) -> Option<Edges>
     }
 }
 
-/// The edges that are given, or the usual ones; none where the word names none.
+/// Returns the edges that the matches give, or the default edges. Returns `None` if the given word names no edges.
 pub fn edges_of(given: &ArgMatches<'_>) -> Option<Edges>
     ensures { IsEdgesNamed (edges_text (rows_of (found_of given.now))) result }
 {

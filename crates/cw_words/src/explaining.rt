@@ -3,7 +3,8 @@
 ghost use Rattle.std.specs.Prelude.{◌≡◌, map, string_bytes};
 ghost use Rattle.cw_words.specs.Explaining.{asks_explain, without_explain};
 
-/// Takes each word `--explain` away that stands before a word `--`; whether there was one. What is left is moved up once.
+/// Removes each word `--explain` before the first word `--`, and returns whether there was one. The other words keep
+/// their order, and each moves at most once.
 pub fn take_explain(words: &mut Vec<String>) -> bool
     ensures asked { result ≡ asks_explain (map string_bytes words.old.items) }
     ensures left { map string_bytes words.new.items

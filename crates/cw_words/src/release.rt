@@ -7,17 +7,17 @@ use crate::asked::Said;
 use cw_text::Fault;
 use std::alloc::Global;
 
-/// What `--version` and `-V` write.
+/// The output of `--version` and `-V`.
 const VERSION: &str = "cilkwork 0.1.0\n";
 
-/// Whether the words are `--version` or `-V` alone.
+/// Returns whether the words are `--version` or `-V` alone.
 pub fn is_version(words: &[String]) -> bool
     ensures { result ≡ asks_version (map string_bytes words.now) }
 {
     words.len() == 1 && (words[0].as_str() == "--version" || words[0].as_str() == "-V")
 }
 
-/// The version, for standard output; `Memory` where there is none for its text.
+/// Returns the version, as text for standard output, or `Fault::Memory` if there is no memory for the text.
 pub fn version(alloc: Global) -> Said
     ensures { IsVersion result }
 {

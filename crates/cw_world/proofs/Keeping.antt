@@ -9,7 +9,7 @@ use Rattle.cw_text.specs.declared.fault.Fault.TheVariants as fault
 use Rattle.cw_model.specs.declared.burden.Burden.{Burden}
 use Rattle.cw_runnable.specs.declared.verified.Verified.{Verified}
 use Rattle.cw_strand.specs.Holds.{has_failed, IsGoing, IsWaiting, HasFailed}
-use Rattle.cw_strand.specs.Losing.{MayLack, MayLose, TakesIn, TellsFailure}
+use Rattle.cw_strand.specs.Losing.{MayLose, TakesIn, TellsFailure}
 use Rattle.cw_world.specs.core.Board.{pushed, newest, but_newest, oldest, of_worker}
 use Rattle.cw_world.specs.declared.board.Cell.{Cell}
 use Rattle.cw_world.specs.declared.event.Event.{Event}
@@ -80,14 +80,10 @@ cases s s' w x board e h is cells f = by_stage (bool_cases (lacks_memory x))
 
 run_keeps : (v : Verified) (s s' : Scene) (w : ℕ) → Runs v s s' w → KeepsMemory (event.Run w) s s'
 run_keeps v s s' w d h =
-    cases s s' w d.stage s.board (event.Run w) h d.is h.1 (λ lacking. (loses s s' w d.at.post d.stage s.board d.at.is d.is lacking, went (d.lacks lacking)))
-  where
-    went : MayLack d.at.post.strand → IsGoing d.at.post.strand
-    went (inl going) = going
-    went (inr lost) = absurd (not_lost s w d.at.post h d.at.is lost)
+    cases s s' w d.stage s.board (event.Run w) h d.is h.1 (λ lacking. (loses s s' w d.at.post d.stage s.board d.at.is d.is lacking, (d.lacks lacking).0))
 
 spawn_keeps : (v : Verified) (s s' : Scene) (w : ℕ) → Spawns v s s' w → KeepsMemory (event.Run w) s s'
-spawn_keeps v s s' w d h = inl (subst (λ (t : Scene). LacksNone t) (sym d.is) (more (but_top s.begun w) w (Goes d.post) (less s.begun w h.0) d.goes, h.1))
+spawn_keeps v s s' w d h = inl (subst (λ (t : Scene). LacksNone t) (sym d.is) (more (but_top s.begun w) w (Goes d.post) (less s.begun w h.0) (ap has_failed d.goes), h.1))
 
 offer_keeps : (s s' : Scene) (w : ℕ) → Offers s s' w → KeepsMemory (event.Offer w) s s'
 offer_keeps s s' w d h =

@@ -3,6 +3,7 @@ pub mod Lists
 pub mod Boards
 pub mod Strands
 pub mod Lacking
+pub mod Exceeding
 pub mod Posts
 pub mod Sounds
 pub mod Turns

@@ -57,17 +57,17 @@ ends None old new n os of none flag even e =
 ends (Some x) old new n os of none flag even e = (n, e.0, none)
 
 -- it has done no more
-still_done : (e : Effect) (n : ℕ) → EndsStill e n → CountsIn e n
-still_done (effect.Ended value shown) n h = absurd h
-still_done (effect.Joined frame replaced shown) n h = h
-still_done (effect.Trapped trap line lines cost back) n h = h
-still_done (effect.OverLimit back) n h = h
-still_done (effect.Memory back) n h = h
-still_done (effect.GivenUp back) n h = h
+still_done : (e : Effect) (self : Strand) → EndsStill e self → CountsIn e self.count
+still_done (effect.Ended value shown) self h = absurd h
+still_done (effect.Joined frame replaced shown) self h = h
+still_done (effect.Trapped trap line lines cost back) self h = h
+still_done (effect.OverLimit back) self h = tt
+still_done (effect.Memory back) self h = tt
+still_done (effect.GivenUp back) self h = tt
 
 pub ends_done : (r : Option Effect) (old new : Strand) → EndsBy r old new → HasDone r new old.count
 ends_done None old new e = e.2
-ends_done (Some x) old new e = still_done x old.count e.2
+ends_done (Some x) old new e = still_done x old e.2
 
 -- one that may do no more, or has one instruction to do
 at_end : (n end : ℕ) → n ≤ end → (n < end → ⊥) → n ≡ end
@@ -77,19 +77,19 @@ at_end n end le not = by_test (nat_lt n end) refl
     by_test true e = absurd (not (grind (arith, nat_tests)))
     by_test false e = grind (arith, nat_tests)
 
-within_end : (self : Strand) → IsRunning self → self.count ≤ its_end self
+pub within_end : (self : Strand) → IsRunning self → self.count ≤ its_end self
 within_end self h = let w = h.keeps.within in omega (arith, w)
 
 pub paused_one : (old new : Strand) → IsRunning old → new.count ≡ old.count → (old.count < its_end old → ⊥) → DoesOneMore None old new
 paused_one old new h same not = inr (at_end old.count (its_end old) (within_end old h) not, same)
 
-pub ended_one : (e : Effect) (old new : Strand) → IsRunning old → EndsAfter e old.count → (old.count < its_end old → DoesOne (advance.Came (step.Ended e))) → DoesOneMore (Some e) old new
-ended_one (effect.Ended value shown) old new h after does = inl after
+pub ended_one : (e : Effect) (old new : Strand) → IsRunning old → EndsAfter e old → (old.count < its_end old → DoesOne (advance.Came (step.Ended e))) → DoesOneMore (Some e) old new
+ended_one (effect.Ended value shown) old new h after does = inl after.counted
 ended_one (effect.Joined frame replaced shown) old new h after does = inr (at_end old.count (its_end old) (within_end old h) does, after)
 ended_one (effect.Trapped trap line lines cost back) old new h after does = inr (at_end old.count (its_end old) (within_end old h) does, after)
-ended_one (effect.OverLimit back) old new h after does = inr (at_end old.count (its_end old) (within_end old h) does, after)
-ended_one (effect.Memory back) old new h after does = inr (at_end old.count (its_end old) (within_end old h) does, after)
-ended_one (effect.GivenUp back) old new h after does = inr (at_end old.count (its_end old) (within_end old h) does, after)
+ended_one (effect.OverLimit back) old new h after does = inr (at_end old.count (its_end old) (within_end old h) does, tt)
+ended_one (effect.Memory back) old new h after does = inr (at_end old.count (its_end old) (within_end old h) does, tt)
+ended_one (effect.GivenUp back) old new h after does = inr (at_end old.count (its_end old) (within_end old h) does, tt)
 
 -- given an effect
 pub given_done : (r : Option Effect) (e : Effect) (old mid new : Strand) → CountsGiven e old mid → HasDone r new mid.count → HasDoneWith r e old new

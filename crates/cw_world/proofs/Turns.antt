@@ -1,14 +1,15 @@
 -- What events do, by what a post came to and what was laid on its worker's list.
-use Rattle.std.proofs.Common.{◌≡◌, ◌⊎◌, ◌∙◌, ℕ, ◌+◌, Bool, true, List, [], ◌∷◌, ◌++◌, Option, Some, None, refl, sym, ap, subst, length, reverse, inl, inr}
+use Rattle.std.proofs.Common.{◌≡◌, ◌⊎◌, ◌∙◌, ℕ, ◌+◌, ◌<◌, Bool, true, List, [], ◌∷◌, ◌++◌, Option, Some, None, refl, sym, ap, subst, length, reverse, inl, inr}
 use Rattle.std.specs.Prelude.{map, slice_get, IfSome, Ok}
 use Rattle.cw_facts.specs.Lists.{get_last, reverse_pushed, each_pushed, get_before}
 use Rattle.cw_runnable.specs.declared.verified.Verified.{Verified}
 use Rattle.cw_jobs.specs.declared.effect.Effect.{Effect}
 use Rattle.cw_jobs.specs.declared.job.Job.{Job}
+use Rattle.cw_jobs.specs.Means.{IsMeaningOf}
 use Rattle.cw_machine.specs.Answering.{IsOfWhole}
 use Rattle.cw_strand.specs.declared.strand.Strand.{Strand}
-use Rattle.cw_strand.specs.Holds.{its_job, its_end, outs, has_failed}
-use Rattle.cw_strand.specs.Losing.{cost_in, MayLack, TakesIn}
+use Rattle.cw_strand.specs.Holds.{its_job, its_end, outs, IsGoing}
+use Rattle.cw_strand.specs.Losing.{cost_in, TakesIn}
 use Rattle.cw_strand.specs.Moves.{CountsIn}
 use Rattle.cw_world.specs.declared.post.Out.{Out}
 use Rattle.cw_world.specs.declared.post.Out.TheVariants as out
@@ -16,10 +17,12 @@ use Rattle.cw_world.specs.Boards.{Each, Boarded}
 use Rattle.cw_world.specs.Scenes.{Posted, Stage, Goes, Made, Answered, Scene, top}
 use Rattle.cw_world.specs.Posts.{Stays, Comes, HandsOut, Steps, HasDone, HasDoneWith, DoesOneMore}
 use Rattle.cw_world.specs.Sound.{IsJobOf, IsOwn, out_number, Works, HasRoot, Sound}
-use Rattle.cw_world.specs.Events.{with_top, but_top, GoesOn, ComesTo, Counts, IsBegun, Runs, Spawns}
+use Rattle.cw_world.specs.Events.{with_top, but_top, GoesOn, ComesTo, Counts, IsBegun, IsBelowLimit, Runs, Spawns}
+use Rattle.cw_world.specs.Exceeding.{Exceeds, ExceedsAfter}
 use Rattle.cw_world.proofs.Lists.{named, each_weaken, same_names}
 use Rattle.cw_world.proofs.Strands.{jobs_at, newest_out_of, comes_stays, comes_to, ended_stage, comes_whole}
 use Rattle.cw_world.specs.Lacking.{lacks_memory, LacksAfter}
+use Rattle.cw_world.proofs.Exceeding.{stage_exceeds}
 use Rattle.cw_world.proofs.Lacking.{stage_lacks}
 use Rattle.cw_world.proofs.Sounds.{top_stage, kept_job, kept_own}
 
@@ -32,46 +35,53 @@ same_scene jobs jobs' begun begun' board j b =
 abbrev pub scene_of : (jobs : List Job) (begun : List (List Stage)) (board : Boarded) → Scene
 scene_of jobs begun board = record { jobs = jobs; begun = begun; board = board }
 
--- so many instructions as a post has done, or what it has ended with
-pub counted : (v : Verified) (q : Posted) (ended : Option Effect) (x : Stage) (n : ℕ) → IsBegun v q ended x → HasDone ended q.strand n → Counts x n
-counted v q None x n b h = subst (λ y. Counts y n) (sym b) h
-counted v q (Some e) (Goes k) n b h = absurd b
-counted v q (Some e) (Made m d) n b h = subst (λ z. CountsIn z n) (sym b.2) h
-counted v q (Some e) (Answered r) n b h = tt
+-- an effect that a post ended with means its job
+pub meant : (ended : Option Effect) (p q : Posted) (left : List Job) → Comes ended p q left → IfSome ended (IsMeaningOf (its_job p.strand))
+meant None p q left c = tt
+meant (Some e) p q left c = c.1
 
-one_more : (v : Verified) (p q : Posted) (ended : Option Effect) (x : Stage) → IsBegun v q ended x → DoesOneMore ended p.strand q.strand
-    → Counts x (p.strand.count + 1) ⊎ ((p.strand.count ≡ its_end p.strand) × Counts x p.strand.count)
-one_more v p q ended x b (inl one) = inl (counted v q ended x (p.strand.count + 1) b one)
-one_more v p q ended x b (inr none) = inr (none.0, counted v q ended x p.strand.count b none.1)
+-- as many instructions as a post has executed, or what it has ended with
+pub counted : (v : Verified) (job : Job) (q : Posted) (ended : Option Effect) (x : Stage) (n : ℕ) → IfSome ended (IsMeaningOf job) → IsBegun v q ended x → HasDone ended q.strand n → Counts job x n
+counted v job q None x n m b h = subst (λ y. Counts job y n) (sym b) h
+counted v job q (Some e) (Goes k) n m b h = absurd b
+counted v job q (Some e) (Made k d) n m b h = subst (λ z. CountsIn z n) (sym b.2) h
+counted v job q (Some e) (Answered r) n m b h = (e, m, b.1, h)
+
+one_more : (v : Verified) (p q : Posted) (ended : Option Effect) (x : Stage) → IfSome ended (IsMeaningOf (its_job p.strand)) → IsBegun v q ended x → DoesOneMore ended p.strand q.strand
+    → Counts (its_job p.strand) x (p.strand.count + 1) ⊎ ((p.strand.count ≡ its_end p.strand) × Counts (its_job p.strand) x p.strand.count)
+one_more v p q ended x m b (inl one) = inl (counted v (its_job p.strand) q ended x (p.strand.count + 1) m b one)
+one_more v p q ended x m b (inr none) = inr (none.0, counted v (its_job p.strand) q ended x p.strand.count m b none.1)
 
 -- given an effect
-pub counted_with : (v : Verified) (q : Posted) (ended : Option Effect) (x : Stage) (e : Effect) (old : Strand) → IsBegun v q ended x → HasDoneWith ended e old q.strand
-    → Counts x old.count ⊎ (TakesIn old e × Counts x (old.count + cost_in e))
-counted_with v q ended x e old b (inl same) = inl (counted v q ended x old.count b same)
-counted_with v q ended x e old b (inr t) = inr (t.0, counted v q ended x (old.count + cost_in e) b t.1)
+pub counted_with : (v : Verified) (job : Job) (q : Posted) (ended : Option Effect) (x : Stage) (e : Effect) (old : Strand) → IfSome ended (IsMeaningOf job) → IsBegun v q ended x
+    → HasDoneWith ended e old q.strand → Counts job x old.count ⊎ (TakesIn old e × Counts job x (old.count + cost_in e))
+counted_with v job q ended x e old m b (inl same) = inl (counted v job q ended x old.count m b same)
+counted_with v job q ended x e old m b (inr t) = inr (t.0, counted v job q ended x (old.count + cost_in e) m b t.1)
 
 ran_on : (v : Verified) (s : Scene) (w : ℕ) (p q : Posted) (jobs' : List Job) (begun' : List (List Stage)) (x : Stage) → top s w ≡ Some (Goes p) → Works s.jobs p
-    → Stays p q p.outs (outs p.strand) → jobs' ≡ s.jobs → DoesOneMore None p.strand q.strand → (lacks_memory x ≡ true → MayLack p.strand)
+    → Stays p q p.outs (outs p.strand) → jobs' ≡ s.jobs → DoesOneMore None p.strand q.strand → (Exceeds x → p.strand.count ≡ its_end p.strand) → (lacks_memory x ≡ true → IsBelowLimit p)
     → x ≡ Goes q → begun' ≡ with_top (but_top s.begun w) w x → Runs v s (scene_of jobs' begun' s.board) w
-ran_on v s w p q jobs' begun' x at works stays same one lacks b is =
+ran_on v s w p q jobs' begun' x at works stays same one over lacks b is =
     record {
       at = record { post = p; is = at };
       stage = x;
       comes = subst (λ y. ComesTo v s.jobs p p.outs y) (sym b) (comes_stays v s.jobs p q p.outs (outs p.strand) stays works.named works.lent works.own);
-      one = one_more v p q None x b one;
+      one = one_more v p q None x tt b one;
+      over = over;
       lacks = lacks;
       is = same_scene jobs' s.jobs begun' (with_top (but_top s.begun w) w x) s.board same is;
     }
 
 ran_out : (v : Verified) (s : Scene) (w : ℕ) (p q : Posted) (e : Effect) (jobs' : List Job) (begun' : List (List Stage)) (x : Stage) → top s w ≡ Some (Goes p) → Works s.jobs p
-    → Comes (Some e) p q [] → jobs' ≡ s.jobs → DoesOneMore (Some e) p.strand q.strand → (lacks_memory x ≡ true → MayLack p.strand)
+    → Comes (Some e) p q [] → jobs' ≡ s.jobs → DoesOneMore (Some e) p.strand q.strand → (Exceeds x → p.strand.count ≡ its_end p.strand) → (lacks_memory x ≡ true → IsBelowLimit p)
     → IsBegun v q (Some e) x → begun' ≡ with_top (but_top s.begun w) w x → Runs v s (scene_of jobs' begun' s.board) w
-ran_out v s w p q e jobs' begun' x at works c same one lacks b is =
+ran_out v s w p q e jobs' begun' x at works c same one over lacks b is =
     record {
       at = record { post = p; is = at };
       stage = x;
       comes = ended_stage v s.jobs p q e x works.named c.0 c.1 c.2 b;
-      one = one_more v p q (Some e) x b one;
+      one = one_more v p q (Some e) x c.1 b one;
+      over = over;
       lacks = lacks;
       is = same_scene jobs' s.jobs begun' (with_top (but_top s.begun w) w x) s.board same is;
     }
@@ -95,7 +105,7 @@ spawned v s w p q jobs' begun' x at works h b is =
       at = record { post = p; is = at };
       job = h.job;
       post = q;
-      goes = ap has_failed h.goes;
+      goes = h.goes;
       one = h.one;
       comes = comes_stays v more p q (p.outs ++ o ∷ []) (h.job ∷ outs p.strand) h.stays (kept_job s.jobs h.job p.number (its_job p.strand) works.named) (spawned_names s.jobs p h.job works) own;
       is = same_scene jobs' more begun' (with_top (but_top s.begun w) w (Goes q)) s.board h.jobs_are (is ∙ ap (with_top (but_top s.begun w) w) b);
@@ -103,13 +113,14 @@ spawned v s w p q jobs' begun' x at works h b is =
 
 -- one instruction
 pub ran : (v : Verified) (s : Scene) (w : ℕ) (p q : Posted) (ended : Option Effect) (jobs' : List Job) (begun' : List (List Stage)) (x : Stage) → Sound v s → top s w ≡ Some (Goes p)
-    → Steps (Ok ended) p q s.jobs jobs' → (LacksAfter ended q.strand → MayLack p.strand) → IsBegun v q ended x → begun' ≡ with_top (but_top s.begun w) w x
+    → Steps (Ok ended) p q s.jobs jobs' → IsGoing p.strand → (ExceedsAfter ended q.strand → p.strand.count ≡ its_end p.strand)
+    → (LacksAfter ended q.strand → p.strand.count < its_end p.strand) → IsBegun v q ended x → begun' ≡ with_top (but_top s.begun w) w x
     → Runs v s (scene_of jobs' begun' s.board) w ⊎ Spawns v s (scene_of jobs' begun' s.board) w
-ran v s w p q None jobs' begun' x h at (inl c) l b is =
-    inl (ran_on v s w p q jobs' begun' x at (top_stage v s w (Goes p) h at) c.0 c.1 c.2 (λ m. l (stage_lacks v q None x b m)) b is)
-ran v s w p q None jobs' begun' x h at (inr c) l b is = inr (spawned v s w p q jobs' begun' x at (top_stage v s w (Goes p) h at) c b is)
-ran v s w p q (Some e) jobs' begun' x h at c l b is =
-    inl (ran_out v s w p q e jobs' begun' x at (top_stage v s w (Goes p) h at) c.0 c.1 c.2 (λ m. l (stage_lacks v q (Some e) x b m)) b is)
+ran v s w p q None jobs' begun' x h at (inl c) g o l b is =
+    inl (ran_on v s w p q jobs' begun' x at (top_stage v s w (Goes p) h at) c.0 c.1 c.2 (λ m. o (stage_exceeds v q None x b m)) (λ m. (g, l (stage_lacks v q None x b m))) b is)
+ran v s w p q None jobs' begun' x h at (inr c) g o l b is = inr (spawned v s w p q jobs' begun' x at (top_stage v s w (Goes p) h at) c b is)
+ran v s w p q (Some e) jobs' begun' x h at c g o l b is =
+    inl (ran_out v s w p q e jobs' begun' x at (top_stage v s w (Goes p) h at) c.0 c.1 c.2 (λ m. o (stage_exceeds v q (Some e) x b m)) (λ m. (g, l (stage_lacks v q (Some e) x b m))) b is)
 
 -- the root's effect is that of a whole run, by one instruction
 pub ran_whole : (v : Verified) (s : Scene) (w : ℕ) (p q : Posted) (ended : Option Effect) (jobs' : List Job) → Sound v s → top s w ≡ Some (Goes p)

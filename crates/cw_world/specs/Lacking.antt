@@ -1,4 +1,4 @@
--- Where memory was wanting in a world.
+-- Lack of memory in a world.
 use Rattle.std.specs.Prelude.{◌≡◌, ◌⊎◌, ℕ, Bool, true, false, Option, Some, None, Result, Err, slice_get}
 use Rattle.cw_text.specs.declared.fault.Fault.{Fault}
 use Rattle.cw_text.specs.declared.fault.Fault.TheVariants as fault
@@ -14,7 +14,7 @@ use Rattle.cw_world.specs.declared.event.Event.TheVariants as event
 use Rattle.cw_world.specs.Boards.{Each}
 use Rattle.cw_world.specs.Scenes.{Posted, Stage, Goes, Made, Answered, Scene, top}
 
--- an effect says that memory was wanting, or that its job was given up; a run answers so
+-- an effect says that memory was lacking, or that its job was given up; a run answers so
 abbrev pub is_memory : Effect → Bool
 is_memory (effect.Memory back) = true
 is_memory (effect.GivenUp back) = true
@@ -24,13 +24,13 @@ abbrev pub answers_memory : Result alone.Ended Fault → Bool
 answers_memory (Err fault.Memory) = true
 answers_memory _ = false
 
--- it has stopped for want of memory or was given up, or ended so
+-- it has stopped for lack of memory or was given up, or ended so
 abbrev pub lacks_memory : Stage → Bool
 lacks_memory (Goes p) = has_failed p.strand.mode
 lacks_memory (Made n e) = is_memory e
 lacks_memory (Answered r) = answers_memory r
 
--- MEMORY WAS WANTING NOWHERE IN A WORLD, and nothing was given up: in no strand, no effect and no answer of it
+-- NO MEMORY WAS LACKING IN A WORLD, and nothing was given up: in no strand, no effect and no answer
 abbrev pub LacksNone : Scene → Type 0
 LacksNone s = Each (Each (λ x. lacks_memory x ≡ false)) s.begun × Each (λ c. is_memory c.effect ≡ false) s.board.cells
 
@@ -39,20 +39,20 @@ abbrev pub HasEnded : Stage → Type 0
 HasEnded (Goes p) = ⊥
 HasEnded _ = Unit {0}
 
--- what memory may be answered of: an effect that says that it was wanting, or that its job was given up, and that of a whole call, which is still to
--- be told
+-- effects for which memory may be answered: an effect that says that memory was lacking or that its job was given up,
+-- and the effect of a whole call, whose answer needs memory
 abbrev pub IsAnsweredMemory : Effect → Type 0
 IsAnsweredMemory (effect.Ended value shown) = Unit {0}
 IsAnsweredMemory (effect.Memory back) = Unit {0}
 IsAnsweredMemory (effect.GivenUp back) = Unit {0}
 IsAnsweredMemory _ = ⊥
 
--- so a strand may have lacked memory that stands so, or has ended with this effect
+-- a strand that goes on in this state, or has ended with this effect, may have lacked memory
 abbrev pub LacksAfter : Option Effect → Strand → Type 0
 LacksAfter None self = HasFailed self
 LacksAfter (Some e) self = IsAnsweredMemory e
 
--- the newest of a worker, which was a strand, lacks memory now
+-- the newest entry of a worker, which was a strand, lacks memory now
 pub record Loses (s s' : Scene) (w : ℕ) : Type 0 where
   pub post : Posted
   pub was : top s w ≡ Some (Goes post)
@@ -60,8 +60,8 @@ pub record Loses (s s' : Scene) (w : ℕ) : Type 0 where
   pub is : top s' w ≡ Some stage
   pub lacks : lacks_memory stage ≡ true
 
--- MEMORY IS WANTING BY AN EVENT: in what a strand that goes on does by Run; in what a rest has shown that is given to a
--- strand by Collect; at the join of a job that Retake or Steal have led to its end at once. By no other
+-- MEMORY IS LACKING BY AN EVENT: by Run, in a strand that goes on; by Collect, if the strand takes in what the
+-- continuation has shown; by Retake or Steal, at the join of a strand that they end. By no other event
 abbrev pub LacksBy : Event → (s s' : Scene) → Type 0
 LacksBy (event.Run w) s s' = (l : Loses s s' w) × IsGoing l.post.strand
 LacksBy (event.Offer w) s s' = ⊥
@@ -74,6 +74,6 @@ LacksBy (event.Collect w) s s' =
     (l : Loses s s' w) × (place : ℕ) × (c : Cell) × (slice_get s.board.cells place ≡ Some c)
     × TakesIn l.post.strand c.effect
 
--- an event keeps that memory was wanting nowhere, or it was wanting by it
+-- if no memory was lacking before an event, none is lacking after it, or it is lacking by the event
 abbrev pub KeepsMemory : Event → (s s' : Scene) → Type 0
 KeepsMemory event s s' = LacksNone s → LacksNone s' ⊎ LacksBy event s s'

@@ -6,6 +6,7 @@ pub mod Posts
 pub mod Sound
 pub mod Places
 pub mod Lacking
+pub mod Exceeding
 pub mod Events
 pub mod Wants
 pub mod Copied

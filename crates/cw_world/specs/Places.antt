@@ -1,4 +1,4 @@
--- Where each job is.
+-- The place of each job.
 use Rattle.std.specs.Prelude.{◌≡◌, ℕ, ◌+◌, ◌≤◌, nat_eq, List, [], ◌∷◌, length, Option, Some, None}
 use Rattle.cw_world.specs.core.Board.{of_worker, oldest}
 use Rattle.cw_world.specs.core.Laws.{one_if}
@@ -9,7 +9,7 @@ use Rattle.cw_world.specs.declared.post.Out.TheVariants as out
 use Rattle.cw_world.specs.Scenes.{Stage, Goes, Made, Answered, Scene}
 use Rattle.cw_world.specs.Sound.{out_number}
 
--- once, if it is the same number
+-- 1 if the numbers are equal, otherwise 0
 abbrev pub once : (n m : ℕ) → ℕ
 once n m = one_if (nat_eq n m)
 
@@ -21,7 +21,7 @@ sum_of f (x ∷ xs) = f x + sum_of f xs
 abbrev pub sum_over : {A : Type 0} → (A → ℕ) → List (List A) → ℕ
 sum_over f ls = sum_of (λ l. sum_of f l) ls
 
--- how often a number is out of a strand
+-- how often a number is out at a strand
 abbrev pub out_at : ℕ → Out → ℕ
 out_at n o = once n (out_number o)
 
@@ -41,7 +41,7 @@ held_by n (Goes p) = sum_of (held_at n) p.outs
 held_by n (Made m e) = 0
 held_by n (Answered r) = 0
 
--- run by a strand, or run to its end by one and not settled; the root is number 0
+-- executed by a strand, or executed to its end and not settled; the root has number 0
 abbrev pub run_by : ℕ → Stage → ℕ
 run_by n (Goes p) = once n p.number
 run_by n (Made m e) = once n m
@@ -53,8 +53,7 @@ offered_at n o = once n o.number
 abbrev pub settled_at : ℕ → Cell → ℕ
 settled_at n c = once n c.number
 
--- in how many places a number is: undecided or kept, in a deque, run or run to its end by a worker,
--- in a cell
+-- in how many places a number is: undecided or kept, in a deque, executed or ended at a worker, in a cell
 abbrev pub places : Scene → (n : ℕ) → ℕ
 places s n =
     sum_over (held_by n) s.begun + sum_over (offered_at n) s.board.offers
@@ -64,19 +63,19 @@ places s n =
 abbrev pub owners : Scene → (n : ℕ) → ℕ
 owners s n = once n 0 + sum_over (out_of n) s.begun
 
--- EACH JOB IS IN ONE PLACE as long as it is out, at one strand, and in none before and after
+-- EACH JOB IS IN ONE PLACE while it is out, at one strand, and in none before and after
 pub record OnePlace (s : Scene) : Type 0 where
   pub placed : (n : ℕ) → places s n ≡ owners s n
   pub single : (n : ℕ) → owners s n ≤ 1
   pub later : (n : ℕ) → length s.jobs ≤ n → owners s n ≡ 0
 
--- what stands first with a worker is the root
+-- the oldest entry of a worker is the root
 abbrev pub IsRootStage : Option Stage → Type 0
 IsRootStage None = ⊥
 IsRootStage (Some (Goes p)) = p.number ≡ 0
 IsRootStage (Some (Made n e)) = ⊥
 IsRootStage (Some (Answered r)) = Unit {0}
 
--- THE ROOT STANDS FIRST WITH WORKER 0: its strand, or its answer
+-- THE ROOT IS THE OLDEST ENTRY OF WORKER 0: its strand, or its answer
 abbrev pub RootIsFirst : Scene → Type 0
 RootIsFirst s = IsRootStage (oldest (of_worker s.begun 0))

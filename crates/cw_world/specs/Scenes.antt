@@ -1,4 +1,4 @@
--- What matters of a world: all but the room in its lists, which no event tells.
+-- The state of a world: everything but the capacities of its lists.
 use Rattle.std.specs.Prelude.{ℕ, Bool, List, map, Option, Some, None, Result}
 use Rattle.std.specs.Borrow.{Bor}
 use Rattle.std.specs.Global.{Vec}
@@ -24,8 +24,8 @@ pub record Posted : Type 0 where
   pub at_join : Bool
   pub outs : List Out
 
--- what a worker has begun and not settled: a strand that has not ended; a stolen job that has, with
--- its effect; or the root, with what the run answers
+-- what a worker has begun and not settled: a strand that has not ended; a stolen job that has, with its effect; or the
+-- root, with the answer of the run
 pub data Stage : Type 0 where
   Goes : Posted → Stage
   Made : (number : ℕ) → Effect → Stage
@@ -57,11 +57,11 @@ jobs_of jobs = map (λ j. j.value) jobs.items
 abbrev pub scene : World → Scene
 scene w = record { jobs = jobs_of w.jobs; begun = stacks w.begun; board = boarded w.board }
 
--- what a worker has begun last and not settled
+-- the newest entry of a worker
 abbrev pub top : Scene → (w : ℕ) → Option Stage
 top s w = newest (of_worker s.begun w)
 
--- what is seen of one by a reference
+-- the value behind a reference
 abbrev pub staged : Option (Bor Begun) → Option Stage
 staged None = None
 staged (Some b) = Some (stage_of b.now)

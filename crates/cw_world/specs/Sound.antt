@@ -1,4 +1,4 @@
--- What each world keeps.
+-- The invariant of worlds.
 use Rattle.std.specs.Prelude.{◌≡◌, ℕ, ℤ, List, length, map, reverse, Some, Result, slice_get}
 use Rattle.cw_model.specs.declared.burden.Burden.{Burden}
 use Rattle.cw_text.specs.declared.fault.Fault.{Fault}
@@ -28,13 +28,13 @@ out_number (out.Undecided n job) = n
 out_number (out.Kept n job) = n
 out_number (out.Offered n) = n
 
--- a job that is still with its strand's worker is that of its number
+-- a job that is still with its strand's worker is the job of its number
 abbrev pub IsOwn : List Job → Out → Type 0
 IsOwn jobs (out.Undecided n job) = IsJobOf jobs n job
 IsOwn jobs (out.Kept n job) = IsJobOf jobs n job
 IsOwn jobs (out.Offered n) = Unit {0}
 
--- A STRAND OF THE JOB OF ITS NUMBER, BESIDE THE NUMBERS OF EXACTLY THE JOBS THAT IT HAS OUT
+-- A STRAND OF THE JOB OF ITS NUMBER, WITH THE NUMBERS OF EXACTLY THE JOBS THAT IT HAS OUT
 pub record Works (jobs : List Job) (p : Posted) : Type 0 where
   pub running : IsRunning p.strand
   pub named : IsJobOf jobs p.number (its_job p.strand)
@@ -49,7 +49,7 @@ pub record IsMade (jobs : List Job) (n : ℕ) (e : Effect) : Type 0 where
   pub named : IsJobOf jobs n job
   pub means : IsMeaningOf job e
 
--- THE ROOT'S ANSWER IS WHAT THE CODE GIVES, whatever the run is that it is the root of
+-- THE ANSWER OF THE ROOT IS WHAT THE CODE GIVES, for any run whose root it is
 abbrev pub IsAnswer : Verified → List Job → Result alone.Ended Fault → Type 0
 IsAnswer v jobs result =
     (args : List ℤ) (n : ℕ) (burden : Burden) (root : Job) → IsJobOf jobs 0 root
@@ -75,9 +75,8 @@ pub record HasRoot (v : Verified) (jobs : List Job) : Type 0 where
   pub named : IsJobOf jobs 0 root
   pub is : IsRoot v args limit burden root.parts.value
 
--- WHAT EACH WORLD KEEPS: what a worker has begun is a strand of its job or an effect that means it,
--- what lies in a deque is the job of its number, and what lies in a cell means the job of its
--- number
+-- THE INVARIANT OF EACH WORLD: what a worker has begun is a strand of its job or an effect that means the job, a job
+-- in a deque is the job of its number, and an effect in a cell means the job of its number
 pub record Sound (v : Verified) (s : Scene) : Type 0 where
   pub root : HasRoot v s.jobs
   pub begun : Each (Each (IsStage v s.jobs)) s.begun

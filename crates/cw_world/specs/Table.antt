@@ -23,7 +23,7 @@ abbrev pub is_undecided : Option Out → Bool
 is_undecided (Some (out.Undecided n job)) = true
 is_undecided _ = false
 
--- at a spawn to decide
+-- at a spawn whose continuation is neither offered nor kept yet
 abbrev pub is_at_spawn : Option Stage → Bool
 is_at_spawn t = is_undecided (newest_out t)
 
@@ -62,7 +62,7 @@ named (event.Steal w v) = table.Steal w v
 named (event.Settle w) = table.Settle w
 named (event.Collect w) = table.Collect w
 
--- what the table asks of a world
+-- what the table asks about a world
 abbrev pub sight : Scene → table.Sight
 sight s = record {
   is_there = λ w. is_some (slice_get s.begun w);
@@ -76,6 +76,6 @@ sight s = record {
   can_settle = λ w. has_made (top s w);
 }
 
--- WHICH EVENT IS POSSIBLE: the table of events says it
+-- WHICH EVENT IS POSSIBLE, by the table of events
 abbrev pub is_possible : Scene → Event → Bool
 is_possible s event = table.possible (sight s) (named event)

@@ -1,4 +1,4 @@
--- Where an event may want memory for the lists of its world.
+-- The events that may need memory for the lists of their world.
 use Rattle.std.specs.Prelude.{◌≡◌, ◌⊎◌, ℕ, Some, slice_get}
 use Rattle.std.specs.Global.{Vec}
 use Rattle.cw_world.specs.core.Board.{newest}
@@ -10,7 +10,7 @@ use Rattle.cw_world.specs.declared.world.Begun.TheVariants as begun
 use Rattle.cw_world.specs.declared.world.World.{World}
 use Rattle.cw_world.specs.Boards.{IsFull, IsDequeFull}
 
--- a worker has begun this last, and it goes on
+-- the newest entry of a worker is this post
 pub record IsLastPost (lists : Vec (Vec Begun)) (w : ℕ) (p : Post) : Type 0 where
   pub stack : Vec Begun
   pub there : slice_get lists.items w ≡ Some stack
@@ -22,10 +22,9 @@ pub record IsLastFull (lists : Vec (Vec Begun)) (w : ℕ) : Type 0 where
   pub last : IsLastPost lists w post
   pub full : IsFull post.outs
 
--- AN EVENT MAY WANT MEMORY only where a list that it may add to has no room for one more: Run, for
--- the jobs by number or for those that the strand has out; Offer, for the deque; Settle, for the
--- cells. Steal may want it for the strand that begins, whatever the lists. Inline, Retake and
--- Collect want none
+-- AN EVENT MAY NEED MEMORY only if a list that it may add to has no room for one more: Run, for the jobs by number or
+-- for the jobs that the strand has out; Offer, for the deque; Settle, for the cells. Steal may need it at any time,
+-- for the new strand. Inline, Retake and Collect need none
 abbrev pub MayWant : World → Event → Type 0
 MayWant w (event.Run k) = IsFull w.jobs ⊎ IsLastFull w.begun k
 MayWant w (event.Offer k) = IsDequeFull w.board k

@@ -27,8 +27,8 @@ use Rattle.cw_world.specs.Lacking.{KeepsMemory, LacksNone, LacksBy}
 use Rattle.cw_world.specs.Wants.{MayWant}
 use Rattle.cw_world.specs.Copied.{IsOptionCopy}
 
--- WHAT EACH WORLD KEEPS: its strands, jobs and effects are right, each job is in one place, and the
--- root is with worker 0
+-- THE INVARIANT OF EACH WORLD: its strands, jobs and effects are right, each job is in one place, and the root is with
+-- worker 0
 pub record IsSound (w : World) : Type 0 where
   pub right : Sound (arc_value w.code) (scene w)
   pub places : OnePlace (scene w)
@@ -53,20 +53,20 @@ answer_in _ = None
 abbrev pub has_ended : Scene → Bool
 has_ended s = is_answered (oldest (of_worker s.begun 0))
 
--- what the run answers, once the root has ended
+-- the answer of the run, once the root has ended
 abbrev pub answer_of : Scene → Option (Result alone.Ended Fault)
 answer_of s = answer_in (oldest (of_worker s.begun 0))
 
--- it stays, once it is there
+-- the answer does not change once it is there
 abbrev pub KeepsAnswer : (old new : Scene) → Type 0
 KeepsAnswer old new =
     (a : Result alone.Ended Fault) → answer_of old ≡ Some a → answer_of new ≡ Some a
 
--- so many workers that have begun nothing
+-- this many workers that have begun nothing
 abbrev pub idle : (others : ℕ) → List (List Stage)
 idle others = replicate others []
 
--- it has begun well: worker 0 has begun the root and done nothing of it, all others are idle, and nothing is offered
+-- a new world: worker 0 has begun the root and executed nothing, all others are idle, and nothing is offered
 pub record IsStarted (v : Verified) (args : List ℤ) (n : ℕ) (burden : Burden) (workers : ℕ)
     (w : World) : Type 0 where
   pub is : IsWorldOf v args n burden w
@@ -77,7 +77,7 @@ pub record IsStarted (v : Verified) (args : List ℤ) (n : ℕ) (burden : Burden
   pub begun : (scene w).begun ≡ (Goes post ∷ []) ∷ idle (workers - 1)
   pub board : (scene w).board ≡ opened workers
 
--- why there is no world: what was asked for is out of range; or memory ran out
+-- why there is no world: the request is out of range, or memory ran out
 abbrev pub IsNotStarted : Code → List ℤ → (n : ℕ) → Burden → (workers : ℕ) → Fault → Type 0
 IsNotStarted code args n burden workers fault.Arguments =
     (workers ≡ 0) ⊎ (MOST_WORKERS < workers) ⊎ (is_request code args n burden ≡ false)
@@ -92,14 +92,13 @@ Starts v args n burden workers r =
     MatchResult r (IsStarted v args n burden workers)
     (IsNotStarted (code_view v.code) args n burden workers)
 
--- what a world answers, if anything, is what the code gives, or memory, whatever the run is that it
--- is a world of
+-- the answer of a world, if there is one, is what the code gives, or memory, for any run that the world is a world of
 abbrev pub AnswersAsCode : World → Option (Result alone.Ended Fault) → Type 0
 AnswersAsCode w r =
     (v : Verified) (args : List ℤ) (n : ℕ) (burden : Burden) → IsWorldOf v args n burden w
     → IfSome r (RunsAsCode (code_view v.code) args n burden)
 
--- a world after an event: it was done, or refused and nothing is changed
+-- a world after an event: the event was done, or it was refused and nothing has changed
 abbrev pub Happens : (old : World) → Event → Result (Unit {0}) Refused → (new : World) → Type 0
 Happens old event r new = DoesOr (arc_value old.code) event r (scene old) (scene new)
 
@@ -107,16 +106,16 @@ Happens old event r new = DoesOr (arc_value old.code) event r (scene old) (scene
 abbrev pub HasHappened : (old : World) → Event → (new : World) → Type 0
 HasHappened old event new = Does (arc_value old.code) event (scene old) (scene new)
 
--- it is refused since it is not possible
+-- it is refused because it is not possible
 abbrev pub IsNotNow : Result (Unit {0}) Refused → Type 0
 IsNotNow r = r ≡ Err refused.NotNow
 
--- it is refused for want of memory
+-- it is refused for lack of memory
 abbrev pub IsForMemory : Result (Unit {0}) Refused → Type 0
 IsForMemory r = r ≡ Err refused.Memory
 
--- an event was tried: it was done, or nothing is changed, exactly where it is not possible, or for memory, where it may
--- want any
+-- an event was tried: it was done; or nothing has changed, if and only if it is not possible, or for lack of memory,
+-- only if it may need any
 pub record Tries (old : World) (event : Event) (new : World) : Type 0 where
   pub answer : Result (Unit {0}) Refused
   pub happens : Happens old event answer new
@@ -124,12 +123,12 @@ pub record Tries (old : World) (event : Event) (new : World) : Type 0 where
   pub wants : IsForMemory answer → MayWant old event
   pub memory : KeepsMemory event (scene old) (scene new)
 
--- EVENTS, ONE AFTER THE OTHER, lead from a world to another one
+-- EVENTS, IN ORDER, lead from a world to another one
 abbrev pub Leads : List Event → (old new : World) → Type 0
 Leads [] old new = new ≡ old
 Leads (event ∷ events) old new = (mid : World) × Tries old event mid × Leads events mid new
 
--- AND BY ONE OF THEM MEMORY IS WANTING, before which it was wanting nowhere
+-- AND MEMORY IS LACKING BY ONE OF THEM, before which none was lacking
 abbrev pub LeadsToLack : List Event → (old new : World) → Type 0
 LeadsToLack [] old new = ⊥
 LeadsToLack (event ∷ events) old new =
@@ -137,9 +136,8 @@ LeadsToLack (event ∷ events) old new =
     × ((LacksNone (scene old) × LacksBy event (scene old) (scene mid) × Leads events mid new)
     ⊎ LeadsToLack events mid new)
 
--- what a list of events comes to: what the world answers that they lead to from one that has begun, if it has
--- ended, and that is what the code gives, or memory; and the world answers memory only where it was wanting by one of
--- the events
+-- the outcome of a list of events: they lead from a new world to a last one, whose answer, if there is one, is what
+-- the code gives, or memory; and the answer is memory only if memory was lacking by one of the events
 pub record Played (v : Verified) (args : List ℤ) (n : ℕ) (burden : Burden) (workers : ℕ)
     (events : List Event) (outcome : Option (Result alone.Ended Fault)) : Type 0 where
   pub first : World

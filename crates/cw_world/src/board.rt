@@ -1,4 +1,4 @@
-//! The board: what each worker has offered and nobody has taken, and the effects that wait in their cells.
+//! The board: the jobs that workers have offered and nobody has taken, and the effects that wait in their cells.
 
 ghost use Rattle.std.specs.Prelude.{◌≡◌, ◌≢◌, ◌<◌, None, Some, length, is_some, IfOk, IfErr, OnOk, OnErr};
 ghost use Rattle.std.specs.Vec.{vec_len, vec_capacity};
@@ -25,7 +25,7 @@ pub struct Cell {
     pub(crate) effect: Effect,
 }
 
-/// The board.
+/// The deques of all workers, and the cells.
 #[derive(Drop)]
 pub struct Board {
     /// Each worker's deque, the oldest first.
@@ -35,7 +35,7 @@ pub struct Board {
 }
 
 impl Board {
-    /// The board of so many workers, with nothing offered.
+    /// Makes the board of this many workers, with nothing offered.
     pub(crate) fn open(alloc: Global, workers: usize) -> Result<Board, AllocError>
         ensures { IfOk result (λ b. boarded b ≡ opened workers) }
     {
@@ -49,7 +49,7 @@ impl Board {
         })
     }
 
-    /// The number at the back of a worker's deque.
+    /// Returns the number at the back of a worker's deque.
     pub(crate) fn newest(&self, w: usize) -> Option<usize>
         ensures { result ≡ newest_number (boarded self.now) w }
     {
@@ -62,7 +62,7 @@ impl Board {
         }
     }
 
-    /// Whether there is anything to steal from a worker.
+    /// Returns whether a job can be stolen from a worker.
     pub(crate) fn has_offer(&self, w: usize) -> bool
         ensures { result ≡ is_some (oldest (of_worker (boarded self.now).offers w)) }
     {
@@ -72,14 +72,15 @@ impl Board {
         }
     }
 
-    /// Where the cell of a number is, if its effect waits there.
+    /// Returns the index of the cell of a number, if its effect waits there.
     pub(crate) fn cell(&self, number: usize) -> Option<usize>
         ensures { result ≡ cell_of (boarded self.now) number }
     {
         self.cells.iter().position(|cell| cell.number == number)
     }
 
-    /// A job goes to the back of a worker's deque. The error is want of memory, and gives the job back.
+    /// Pushes a job to the back of a worker's deque. If memory runs out, the error returns the job, and the board is
+    /// unchanged.
     pub(crate) fn offer(&mut self, w: usize, number: usize, job: Job) -> Result<(), Job>
         requires worker { w < length self.old.lists.items }
         ensures offered { OnOk result (HasOffered self.old w number job self.new) }
@@ -93,7 +94,7 @@ impl Board {
         }
     }
 
-    /// The job at the back of a worker's deque comes back, which has this number.
+    /// Pops the job at the back of a worker's deque, which has this number.
     pub(crate) fn retake(&mut self, w: usize, number: usize) -> Job
         requires { newest_number (boarded self.old) w ≡ Some number }
         ensures job { IsNewest (boarded self.old) w number result }
@@ -105,7 +106,7 @@ impl Board {
         }
     }
 
-    /// The job at the front of a worker's deque goes to a thief.
+    /// Pops the job at the front of a worker's deque, for a thief.
     pub(crate) fn steal(&mut self, v: usize) -> Offer
         requires { oldest (of_worker (boarded self.old).offers v) ≢ None }
         ensures oldest { oldest (of_worker (boarded self.old).offers v) ≡ Some result }
@@ -118,7 +119,7 @@ impl Board {
         }
     }
 
-    /// The thief could not begin it: it stands at the front again.
+    /// Returns a stolen job to the front of the deque, because the thief could not begin it.
     pub(crate) fn unsteal(&mut self, v: usize, offer: Offer)
         requires { HasRoomAt self.old v }
         ensures { boarded self.new ≡ returned (boarded self.old) v offer }
@@ -135,7 +136,7 @@ impl Board {
         self.cells.reserve(1)
     }
 
-    /// The effect of a stolen job goes to its cell.
+    /// Puts the effect of a stolen job into its cell.
     pub(crate) fn settle(&mut self, number: usize, effect: Effect)
         requires { vec_len self.old.cells < vec_capacity self.old.cells }
         ensures { HasSettled self.old number effect self.new }
@@ -143,7 +144,7 @@ impl Board {
         self.cells.push_reserved(Cell { number, effect });
     }
 
-    /// The effect of a number leaves its cell, which is here.
+    /// Takes the effect of a number out of the cell at this index.
     pub(crate) fn collect(&mut self, place: usize, number: usize) -> Effect
         requires { cell_of (boarded self.old) number ≡ Some place }
         ensures cell { IsCellAt (boarded self.old) place number result }

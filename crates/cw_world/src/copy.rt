@@ -1,4 +1,4 @@
-//! Copies of what a run answers.
+//! Copies of the answer of a run.
 
 ghost use Rattle.std.specs.Prelude.{IfOk};
 ghost use Rattle.cw_world.specs.Copied.{IsCopy, IsFaultCopy, IsSameEnd};
@@ -22,7 +22,7 @@ fn copy_ended(alloc: Global, ended: &Ended) -> Result<Ended, AllocError>
     Ok(copy)
 }
 
-// A copy of why a run has no value; of a trap `Memory`, where there was none for what it printed.
+// A copy of the error of a run; for a trap `Memory`, if there is no memory for the printed values.
 fn copy_fault(alloc: Global, fault: &Fault) -> Fault
     ensures { IsFaultCopy fault.now result }
 {
@@ -52,7 +52,11 @@ fn copy_fault(alloc: Global, fault: &Fault) -> Fault
     }
 }
 
-/// A copy of what a run answered. The error is that of the run, or `Memory`, where there was none for the copy.
+/// Copies the answer of a run.
+///
+/// # Errors
+///
+/// The error of the run, or `Memory` if there is no memory for the copy.
 pub(crate) fn copy_of(alloc: Global, answer: &Result<Ended, Fault>) -> Result<Ended, Fault>
     ensures { IsCopy answer.now result }
 {

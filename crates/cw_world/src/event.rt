@@ -1,32 +1,32 @@
-//! What may happen in a world.
+//! The events of a world.
 
 use std::alloc::AllocError;
 
 /// One step of a worker; workers are numbered from 0.
 #[derive(Clone, Copy, Debug, PartialEq, Eq)]
 pub enum Event {
-    /// The worker's strand does one instruction.
+    /// The worker's strand executes one instruction.
     Run(usize),
-    /// The rest at a spawn goes to the back of the worker's deque, and its strand goes on with the call.
+    /// The continuation at a spawn goes to the back of the worker's deque, and its strand executes the call.
     Offer(usize),
-    /// The worker keeps the rest at a spawn, and its strand goes on with the call.
+    /// The worker keeps the continuation at a spawn, and its strand executes the call.
     Inline(usize),
-    /// The worker's strand takes back its newest rest, or skips it where it has stopped.
+    /// The worker's strand takes back its newest continuation, or skips it if the strand has stopped.
     Retake(usize),
-    /// The worker begins the oldest job in the deque of the other one.
+    /// The first worker begins the oldest job in the deque of the second one.
     Steal(usize, usize),
     /// The effect of the job that the worker stole last goes to its cell.
     Settle(usize),
-    /// The worker's strand is given the effect of its newest rest.
+    /// The worker's strand receives the effect of its newest continuation.
     Collect(usize),
 }
 
-/// Why an event did not happen.
+/// The reason why an event did not happen.
 #[derive(Clone, Copy, Debug, PartialEq, Eq)]
 pub enum Refused {
     /// It is not possible now.
     NotNow,
-    /// The world had no memory for its lists, or for a strand's beginning.
+    /// There was no memory for the lists of the world, or for a new strand.
     Memory,
 }
 

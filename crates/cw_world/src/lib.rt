@@ -1,4 +1,5 @@
-//! The scheduler's core by itself: worlds of workers in which one event happens at a time, over strands that really run.
+//! The core of the scheduler on its own: worlds of workers in which one event happens at a time, over strands that
+//! really execute code.
 #![tactic(auto)]
 
 pub mod board;

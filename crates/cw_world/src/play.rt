@@ -1,4 +1,4 @@
-//! Whole lists of events.
+//! Lists of events.
 
 ghost use Rattle.cw_world.specs.Worlds.{Plays};
 
@@ -11,11 +11,14 @@ use cw_text::Fault;
 use std::alloc::Global;
 use std::sync::Arc;
 
-/// What a run of this code on these arguments comes to by a list of events, if it ends by them, with so many workers:
-/// whatever the events and however many the workers, that is what the code's meaning gives, with all measures and the
-/// rows of all sites and regions, or `Memory`. An event that is not possible when it comes does nothing.
+/// Executes this code on these arguments by a list of events with this many workers, and returns the answer of the
+/// run, if the run ends by them. For any events and any number of workers, the answer is what the code's meaning
+/// gives, with all measures and the rows of all sites and regions, or `Memory`. An event that is not possible when its
+/// turn comes does nothing.
 ///
-/// The error is that of `World::start`.
+/// # Errors
+///
+/// Those of `World::start`.
 pub fn play(
     alloc: Global,
     code: Arc<Verified>,

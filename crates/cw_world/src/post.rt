@@ -1,14 +1,16 @@
-//! A strand that a worker has begun, beside the jobs that it has out.
+//! A strand that a worker has begun, with the jobs that it has out.
 
-ghost use Rattle.std.specs.Prelude.{◌≡◌, ◌≢◌, ◌⊎◌, ◌∷◌, [], List, IfOk, IsSome, MatchResult, OnErr};
+ghost use Rattle.std.specs.Prelude.{◌≡◌, ◌≢◌, ◌⊎◌, ◌<◌, ◌∷◌, [], List, IfOk, IsSome, MatchResult, OnErr};
 ghost use Rattle.cw_jobs.specs.declared.job.Job as jobs;
-ghost use Rattle.cw_strand.specs.Holds.{outs, IsAtSync, IsGoing, HasFailed, IsRunning, IsWaiting};
-ghost use Rattle.cw_strand.specs.Losing.{LeavesEnd, MayLack, MayLose};
+ghost use Rattle.cw_strand.specs.declared.strand.Mode.TheVariants as mode;
+ghost use Rattle.cw_strand.specs.Holds.{its_end, outs, IsAtSync, IsGoing, HasFailed, IsRunning, IsWaiting};
+ghost use Rattle.cw_strand.specs.Losing.{LeavesEnd, MayExceed, MayLose};
 ghost use Rattle.cw_strand.specs.Giving.{IsGiven};
 ghost use Rattle.cw_strand.specs.Moves.{IsUnended};
 ghost use Rattle.cw_world.specs.core.Board.{pushed};
 ghost use Rattle.cw_world.specs.Scenes.{jobs_of, posted};
 ghost use Rattle.cw_world.specs.Boards.{IsFull};
+ghost use Rattle.cw_world.specs.Exceeding.{ExceedsAfter};
 ghost use Rattle.cw_world.specs.Lacking.{LacksAfter};
 ghost use Rattle.cw_world.specs.Posts.{Begins, Comes, ComesBack, HasDone, HasDoneWith, HasRoom, HasStepped, IsBackIn, IsEven, Lacks, LacksOne, ListsNext, StandsRight};
 
@@ -21,15 +23,15 @@ use std::snapshot::Snapshot;
 /// A job that a strand has out, with its number.
 #[derive(Drop)]
 pub enum Out {
-    /// At a spawn, to be offered or kept.
+    /// At a spawn: to be offered or kept.
     Undecided(usize, Job),
     /// Kept by the strand's worker.
     Kept(usize, Job),
-    /// Offered: the board has it, or its effect, or who stole it.
+    /// Offered: the board has the job or its effect, or a thief has it.
     Offered(usize),
 }
 
-/// A strand that has not ended, and each job that it has out, the newest last.
+/// A strand that has not ended, and the jobs that it has out, the newest last.
 #[derive(Drop)]
 pub struct Post {
     /// The number of its job.
@@ -40,7 +42,7 @@ pub struct Post {
     pub(crate) outs: Vec<Out>,
 }
 
-// The newest job out is back unrun.
+// Takes the newest job out back into the strand; nobody ran it.
 fn unrun(strand: &mut Strand, rest: Job)
     requires at_sync { IsRunning strand.old × IsAtSync strand.old }
     requires newest { (others : List jobs.Job) × (outs strand.old ≡ rest ∷ others) }
@@ -58,7 +60,7 @@ fn unrun(strand: &mut Strand, rest: Job)
 }
 
 impl Post {
-    /// Begins a job. The error is want of memory, and gives the job back as it was.
+    /// Begins a job. If memory runs out, the error returns the job, unchanged.
     pub(crate) fn start(alloc: Global, number: usize, job: Job) -> Result<Post, Job>
         ensures { MatchResult result (Begins number job) (λ back. back ≡ job) }
     {
@@ -73,12 +75,14 @@ impl Post {
         }
     }
 
-    /// How it stands after an instruction, or after its newest job came back: with its effect, where it has ended.
+    /// Updates the post after an instruction, or after its newest job came back, and returns the effect if the strand
+    /// has ended.
     pub(crate) fn stand(&mut self) -> Option<Effect>
         requires running { IsRunning self.old.strand }
         requires even { IsEven self.old }
         ensures comes { Comes result (posted self.old) (posted self.new) (outs self.old.strand) }
         ensures counts { HasDone result self.new.strand self.old.strand.count }
+        ensures over { ExceedsAfter result self.new.strand → self.old.strand.mode ≡ mode.Over }
         ensures leaves { LeavesEnd result self.old.strand self.new.strand }
     {
         if self.outs.is_empty() {
@@ -89,7 +93,7 @@ impl Post {
         None
     }
 
-    // A job is out, and gets the next number; the strand goes on with the call that it stands beside.
+    // Lists a job that the strand has just handed out, with the next number; the strand goes on with the spawned call.
     fn hand_out(&mut self, jobs: &mut Vec<Snapshot<Job>>, job: Job)
         requires room { HasRoom self.old.outs × HasRoom jobs.old }
         requires goes { IsGoing self.old.strand }
@@ -106,8 +110,8 @@ impl Post {
         self.at_join = false;
     }
 
-    /// One instruction, with its effect, where it has ended. A rest that is handed out gets the next number. The error is
-    /// want of memory, and nothing was done.
+    /// Executes one instruction, and returns the effect if the strand has ended. A continuation that is handed out
+    /// gets the next number. If memory for the lists runs out, nothing is executed.
     pub(crate) fn step(
         &mut self,
         jobs: &mut Vec<Snapshot<Job>>,
@@ -117,7 +121,8 @@ impl Post {
         requires ready { IsGoing self.old.strand × IsUnended self.old.strand }
         ensures does { HasStepped result self.old self.new jobs.old jobs.new }
         ensures full { OnErr result (IsFull jobs.old ⊎ IsFull self.old.outs) }
-        ensures lacks { IfOk result (λ r. LacksAfter r self.new.strand → MayLack self.old.strand) }
+        ensures over { IfOk result (λ r. ExceedsAfter r self.new.strand → self.old.strand.count ≡ its_end self.old.strand) }
+        ensures lacks { IfOk result (λ r. LacksAfter r self.new.strand → self.old.strand.count < its_end self.old.strand) }
     {
         jobs.reserve(1)?;
         self.outs.reserve(1)?;
@@ -135,12 +140,13 @@ impl Post {
         }
     }
 
-    /// The newest job out is back unrun.
+    /// Takes the newest job out back; nobody ran it.
     pub(crate) fn take_in(&mut self, rest: Job) -> Option<Effect>
         requires at_sync { IsRunning self.old.strand × IsAtSync self.old.strand }
         requires lacks { Lacks self.old rest }
         ensures comes { ComesBack result self.old rest self.new }
         ensures counts { HasDone result self.new.strand self.old.strand.count }
+        ensures over { ExceedsAfter result self.new.strand → self.old.strand.mode ≡ mode.Over }
         ensures lacks { LacksAfter result self.new.strand
             → HasFailed self.old.strand ⊎ (IsWaiting self.old.strand × IsSome result) }
     {
@@ -148,13 +154,14 @@ impl Post {
         self.stand()
     }
 
-    /// The effect of the newest job out is given.
+    /// Gives the strand the effect of the newest job out.
     pub(crate) fn give(&mut self, effect: Effect) -> Option<Effect>
         requires at_sync { IsRunning self.old.strand × IsAtSync self.old.strand }
         requires lacks { LacksOne self.old }
         requires given { IsGiven self.old.strand effect }
         ensures comes { (out : jobs.Job) → ComesBack result self.old out self.new }
         ensures counts { HasDoneWith result effect self.old.strand self.new.strand }
+        ensures over { ExceedsAfter result self.new.strand → MayExceed self.old.strand effect }
         ensures lacks { LacksAfter result self.new.strand → MayLose self.old.strand effect }
     {
         self.strand.give(effect);

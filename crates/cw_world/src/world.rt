@@ -45,7 +45,7 @@ pub enum Begun {
     Goes(Post),
     /// A stolen job that has ended, by its number, with its effect.
     Made(usize, Effect),
-    /// The root has ended, and this is what the run answers.
+    /// The root has ended, with the answer of the run.
     Answered(Result<Ended, Fault>),
 }
 
@@ -54,15 +54,15 @@ pub enum Begun {
 pub struct World {
     /// A share of the code.
     pub(crate) code: Arc<Verified>,
-    /// The jobs by number, in the proof alone.
+    /// The jobs by number, in the proof only.
     pub(crate) jobs: Vec<Snapshot<Job>>,
     /// What each worker has begun and not settled, the newest last.
     pub(crate) begun: Vec<Vec<Begun>>,
-    /// What was offered, and what became of it.
+    /// The jobs that were offered, and the effects that wait.
     pub(crate) board: Board,
 }
 
-// A post that goes on, or what it ended with: of the root, what the run answers.
+// A post that goes on, or the effect by which it ended; for the root, the answer of the run.
 fn as_begun(alloc: Global, code: &Verified, post: Post, ended: Option<Effect>) -> Begun
     requires { post.number ≡ 0 → IfSome ended (λ e. ∥ IsOfWhole code.now e ∥₁) }
     ensures { IsBegun code.now (posted post) ended (stage_of result) }
@@ -79,7 +79,7 @@ fn as_begun(alloc: Global, code: &Verified, post: Post, ended: Option<Effect>) -
     }
 }
 
-// What a worker has begun last, which goes on.
+// Pops the newest strand of a worker, which has not ended.
 fn take(begun: &mut Vec<Vec<Begun>>, w: usize) -> Post
     requires { table.goes (newest (of_worker (stacks begun.old) w)) ≡ true }
     ensures top { newest (of_worker (stacks begun.old) w) ≡ Some (Goes (posted result)) }
@@ -95,7 +95,7 @@ fn take(begun: &mut Vec<Vec<Begun>>, w: usize) -> Post
     }
 }
 
-// A worker has begun this.
+// Pushes this to the list of a worker.
 fn put(begun: &mut Vec<Vec<Begun>>, w: usize, next: Begun)
     requires { HasRoomIn begun.old w }
     ensures { stacks begun.new ≡ with_top (stacks begun.old) w (stage_of next) }
@@ -103,7 +103,7 @@ fn put(begun: &mut Vec<Vec<Begun>>, w: usize, next: Begun)
     begun[w].push_reserved(next);
 }
 
-// The newest strand of a worker goes on from what it came to.
+// Pushes a post back to the list of its worker, or the effect by which it ended.
 fn turn(
     begun: &mut Vec<Vec<Begun>>,
     code: &Arc<Verified>,
@@ -120,7 +120,7 @@ fn turn(
     put(begun, w, next);
 }
 
-// What a worker has begun last, which is a stolen job that has ended: its number and its effect.
+// Pops the newest entry of a worker, a stolen job that has ended: its number and its effect.
 fn take_made(begun: &mut Vec<Vec<Begun>>, w: usize) -> (usize, Effect)
     requires { table.has_made (newest (of_worker (stacks begun.old) w)) ≡ true }
     ensures top { newest (of_worker (stacks begun.old) w) ≡ Some (Made result.0 result.1) }
@@ -143,7 +143,7 @@ fn first_jobs(alloc: Global, root: &Job) -> Result<Vec<Snapshot<Job>>, AllocErro
     Ok(jobs)
 }
 
-// The root's strand begins.
+// Begins the strand of the root.
 fn first_post(alloc: Global, root: Job) -> Result<Post, Fault>
     ensures { MatchResult result (Begins 0 root) (λ e. e ≡ fault.Memory) }
 {
@@ -153,7 +153,7 @@ fn first_post(alloc: Global, root: Job) -> Result<Post, Fault>
     }
 }
 
-// Worker 0 has begun this, all others are idle.
+// The lists of all workers: worker 0 has begun this post, the others are idle.
 fn first_begun(alloc: Global, workers: usize, post: Post) -> Result<Vec<Vec<Begun>>, AllocError>
     requires { 0 < workers }
     ensures { IfOk result (λ begun. stacks begun ≡ (Goes (posted post) ∷ []) ∷ idle (workers - 1)) }
@@ -168,7 +168,7 @@ fn first_begun(alloc: Global, workers: usize, post: Post) -> Result<Vec<Vec<Begu
     Ok(begun)
 }
 
-// Room for one more.
+// Makes room for one more entry in the list of a worker.
 fn room(begun: &mut Vec<Vec<Begun>>, w: usize) -> Result<(), AllocError>
     requires { w < length begun.old.items }
     ensures same { stacks begun.new ≡ stacks begun.old }
@@ -177,7 +177,7 @@ fn room(begun: &mut Vec<Vec<Begun>>, w: usize) -> Result<(), AllocError>
     begun[w].reserve(1)
 }
 
-// Whether it has not ended.
+// Whether it is a strand that has not ended.
 fn goes(top: Option<&Begun>) -> bool
     ensures { result ≡ table.goes (staged top.entry) }
 {
@@ -197,7 +197,7 @@ fn newest_out(top: Option<&Begun>) -> Option<&Out>
     }
 }
 
-// Whether it is at a spawn to decide.
+// Whether it is at a spawn whose continuation is neither offered nor kept yet.
 fn is_at_spawn(top: Option<&Begun>) -> bool
     ensures { result ≡ table.is_at_spawn (staged top.entry) }
 {
@@ -227,7 +227,7 @@ fn has_made(top: Option<&Begun>) -> bool
     }
 }
 
-// What the run answers, if this is the root and has ended.
+// The answer of the run, if this is the root and has ended.
 fn answered(first: Option<&Begun>) -> Option<&Result<Ended, Fault>>
     ensures { option_copied result ≡ answer_in (staged first.entry) }
 {
@@ -251,7 +251,7 @@ fn can_retake(board: &Board, w: usize, out: Option<&Out>) -> bool
     }
 }
 
-// A job at a spawn to decide, with its number.
+// The job at a spawn that is neither offered nor kept yet, with its number.
 fn undecided(latest: Option<Out>) -> (usize, Job)
     requires { table.is_undecided latest ≡ true }
     ensures { latest ≡ Some (out.Undecided result.0 result.1) }
@@ -264,7 +264,7 @@ fn undecided(latest: Option<Out>) -> (usize, Job)
     }
 }
 
-// A job that was kept, or lies at the back of the worker's deque, comes back unrun.
+// Takes back a job that was kept, or is at the back of the worker's deque; nobody ran it.
 fn unrun(board: &mut Board, w: usize, latest: Option<Out>) -> Job
     requires { table.can_retake (boarded board.old) w latest ≡ true }
     ensures job { IfSome latest (λ o. IsBack (boarded board.old) w o result) }
@@ -279,7 +279,7 @@ fn unrun(board: &mut Board, w: usize, latest: Option<Out>) -> Job
     }
 }
 
-// The number of a job whose effect is in its cell, and where the cell is.
+// The number of a job whose effect is in its cell, and the index of the cell.
 fn settled(board: &Board, latest: Option<Out>) -> (usize, usize)
     requires { table.is_settled (boarded board.now) latest ≡ true }
     ensures number { latest ≡ Some (out.Offered result.0) }
@@ -307,13 +307,15 @@ fn is_settled(board: &Board, out: Option<&Out>) -> bool
 }
 
 impl World {
-    /// A world in which worker 0 has begun the run of this code on these arguments within `n` instructions, and so many
-    /// workers in all, of which each other one is idle. `burden` is what is charged for a spawn, by which the burdened
-    /// spans alone are told.
+    /// Makes a world of `workers` workers, in which worker 0 has begun the run of this code on these arguments within
+    /// `n` instructions, and the others are idle. `burden` is the charge for a spawn; only the burdened spans depend
+    /// on it.
     ///
-    /// The error is `Arguments` exactly where the workers are not 1 to 64, or the count of the arguments is not that of
-    /// `main`'s parameters, or `n` is not in 1..=2^62, or more than 1,000,000,000 instructions are charged for an edge;
-    /// otherwise `Memory`, where memory runs out.
+    /// # Errors
+    ///
+    /// `Arguments` if and only if `workers` is not in 1..=64, the number of arguments is not that of `main`'s
+    /// parameters, `n` is not in 1..=2^62, or the charge is above 1,000,000,000 instructions; otherwise `Memory` if
+    /// memory runs out.
     pub fn start(
         alloc: Global,
         code: Arc<Verified>,
@@ -341,7 +343,7 @@ impl World {
         })
     }
 
-    // What a worker has begun last and not settled.
+    // The newest entry of a worker.
     fn top(&self, w: usize) -> Option<&Begun>
         ensures { staged result ≡ top (scene self.now) w }
     {
@@ -351,7 +353,7 @@ impl World {
         }
     }
 
-    // What worker 0 has begun first and not settled.
+    // The oldest entry of worker 0.
     fn first(&self) -> Option<&Begun>
         ensures { staged result ≡ oldest (of_worker (stacks self.now.begun) 0) }
     {
@@ -361,7 +363,7 @@ impl World {
         }
     }
 
-    /// Whether an event is possible now.
+    /// Returns whether an event is possible now.
     pub fn is_possible(&self, event: Event) -> bool
         ensures { result ≡ is_possible (scene self.now) event }
     {
@@ -389,7 +391,7 @@ impl World {
         }
     }
 
-    // One instruction of a worker's strand.
+    // Executes one instruction of a worker's strand.
     fn run(&mut self, w: usize) -> Result<(), Refused>
         requires sound { IsSound self.old }
         requires possible { is_possible (scene self.old) (event.Run w) ≡ true }
@@ -411,7 +413,7 @@ impl World {
         }
     }
 
-    // The rest at a spawn is offered.
+    // Offers the continuation at a spawn.
     fn offer(&mut self, w: usize) -> Result<(), Refused>
         requires sound { IsSound self.old }
         requires possible { is_possible (scene self.old) (event.Offer w) ≡ true }
@@ -437,7 +439,7 @@ impl World {
         }
     }
 
-    // The rest at a spawn is kept.
+    // Keeps the continuation at a spawn.
     fn inline(&mut self, w: usize)
         requires sound { IsSound self.old }
         requires possible { is_possible (scene self.old) (event.Inline w) ≡ true }
@@ -451,7 +453,7 @@ impl World {
         put(&mut self.begun, w, Begun::Goes(post));
     }
 
-    // The newest job out comes back unrun.
+    // Takes the newest job out back; nobody ran it.
     fn retake(&mut self, w: usize)
         requires sound { IsSound self.old }
         requires possible { is_possible (scene self.old) (event.Retake w) ≡ true }
@@ -465,7 +467,7 @@ impl World {
         turn(&mut self.begun, &self.code, w, post, ended);
     }
 
-    // The oldest job of a deque is begun, where there is room on the thief's list.
+    // Begins the oldest job of a deque, with room in the thief's list.
     fn begin_stolen(&mut self, w: usize, v: usize) -> Result<(), Refused>
         requires sound { Sound (arc_value self.old.code) (scene self.old) }
         requires there { w < length (scene self.old).begun }
@@ -489,7 +491,7 @@ impl World {
         }
     }
 
-    // The oldest job of a deque is begun.
+    // Begins the oldest job of a deque.
     fn steal(&mut self, w: usize, v: usize) -> Result<(), Refused>
         requires sound { IsSound self.old }
         requires possible { is_possible (scene self.old) (event.Steal w v) ≡ true }
@@ -503,7 +505,7 @@ impl World {
         }
     }
 
-    // The effect of a stolen job goes to its cell.
+    // Puts the effect of a stolen job into its cell.
     fn settle(&mut self, w: usize) -> Result<(), Refused>
         requires sound { IsSound self.old }
         requires possible { is_possible (scene self.old) (event.Settle w) ≡ true }
@@ -522,7 +524,7 @@ impl World {
         }
     }
 
-    // The effect of the newest job out is given.
+    // Gives a strand the effect of its newest job out.
     fn collect(&mut self, w: usize)
         requires sound { IsSound self.old }
         requires possible { is_possible (scene self.old) (event.Collect w) ≡ true }
@@ -537,13 +539,18 @@ impl World {
         turn(&mut self.begun, &self.code, w, post, ended);
     }
 
-    /// One event happens.
+    /// Applies one event.
     ///
-    /// The error is `NotNow` exactly where the event is not possible; otherwise `Memory`, where there was none for the
-    /// world's own lists or for a strand's beginning: only at `Run`, `Offer` and `Settle` where a list that the event may
-    /// add to is full, and at `Steal`. After either the world is as it was. Where memory is wanting in a strand the event
-    /// happens, and the strand stops for that: only by `Run`, by `Collect` of what a rest has shown, and at the join of a
-    /// job that `Retake` or `Steal` have led to its end.
+    /// If memory is lacking in a strand, the event happens, and the strand stops for lack of memory. Only these events
+    /// do that: `Run`; `Collect`, if the strand takes in what the continuation has shown; and `Retake` and `Steal`, if
+    /// they end a strand at its join.
+    ///
+    /// # Errors
+    ///
+    /// `NotNow` if and only if the event is not possible; otherwise `Memory` if there is no memory for the lists of
+    /// the world or for a new strand: for `Run`, `Offer` and `Settle` only if a list that the event may add to is
+    /// full, for `Steal` at any time, because no contract bounds the memory of a new strand, and for the other events
+    /// never. After an error the world is unchanged.
     pub fn apply(&mut self, event: Event) -> Result<(), Refused>
         requires { IsSound self.old }
         ensures sound { IsSound self.new }
@@ -578,9 +585,13 @@ impl World {
         }
     }
 
-    /// What the run answers, once the root has ended: as `run_alone` answers. It is a copy of what the world holds from
-    /// then on. The error is `OverLimit` or `Trap` as there, and `Memory` where memory was wanting in a strand, for the
-    /// answer or for its copy.
+    /// Returns a copy of the answer of the run, as `run_alone` answers, once the root has ended. The answer does not
+    /// change.
+    ///
+    /// # Errors
+    ///
+    /// `OverLimit` and `Trap` as in `run_alone`, and `Memory` if memory was lacking in a strand, for the answer or for
+    /// its copy.
     pub fn outcome(&self) -> Option<Result<Ended, Fault>>
         requires { IsSound self.now }
         ensures ended { IsSome result ↔ (has_ended (scene self.now) ≡ true) }

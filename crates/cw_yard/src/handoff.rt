@@ -110,7 +110,8 @@ pub fn retake(
     Ok((job, FreeCell { cell, token }))
 }
 
-/// Steals a job from another deque, with the duty to settle it. Returns `None` without memory for its effect.
+/// Steals a job from another deque, and returns it with the duty to settle it. Returns `None` if there is no job to
+/// steal, or no memory for its effect.
 pub fn steal(
     table: &Cells,
     other: &Victim,

@@ -1,11 +1,11 @@
--- The board: what each worker offered and nobody has taken, and what became of each number.
+-- The board: the jobs that workers offered and nobody has taken, and the state of each number.
 use Rattle.std.specs.Prelude.{ℕ, List, [], ◌∷◌, ◌++◌, Option, Some, None, slice_get, slice_set}
 
--- a deque's list, the oldest first: what is offered goes to its back
+-- the list of a deque, the oldest first: a job that is offered goes to its back
 abbrev pub pushed : {A : Type 0} → List A → A → List A
 pushed xs x = xs ++ x ∷ []
 
--- the newest stands at the back, where its owner takes
+-- the newest is at the back, where the owner takes
 abbrev pub newest : {A : Type 0} → List A → Option A
 newest [] = None
 newest (x ∷ []) = Some x
@@ -16,7 +16,7 @@ but_newest [] = []
 but_newest (x ∷ []) = []
 but_newest (x ∷ (y ∷ xs)) = x ∷ but_newest (y ∷ xs)
 
--- the oldest stands at the front, where thieves take
+-- the oldest is at the front, where thieves take
 abbrev pub oldest : {A : Type 0} → List A → Option A
 oldest [] = None
 oldest (x ∷ xs) = Some x
@@ -25,8 +25,8 @@ abbrev pub but_oldest : {A : Type 0} → List A → List A
 but_oldest [] = []
 but_oldest (x ∷ xs) = xs
 
--- what became of a number: it was not offered; it is out, in a deque or with who stole it; it was retaken; its effect
--- is in its cell; its effect was collected
+-- the state of a number: it was not offered; it is out, in a deque or with a thief; it was retaken; its effect is in
+-- its cell; its effect was collected
 pub data State : Type 0 where
   Unoffered : State
   Out : State
@@ -43,11 +43,11 @@ abbrev pub or_none : {A : Type 0} → Option (List A) → List A
 or_none None = []
 or_none (Some xs) = xs
 
--- the list of a worker; a worker that is not there has none
+-- the list of a worker; empty for a worker that does not exist
 abbrev pub of_worker : {A : Type 0} → List (List A) → ℕ → List A
 of_worker lists w = or_none (slice_get lists w)
 
--- the lists of all workers, after one was laid at the back of w's, and after the newest or the oldest has left it
+-- the lists of all workers after one was pushed to the back of w's list, and after the newest or the oldest was popped
 abbrev pub laid : {A : Type 0} → List (List A) → (w : ℕ) → A → List (List A)
 laid lists w x = slice_set lists w (pushed (of_worker lists w) x)
 
@@ -63,7 +63,7 @@ with_lists board lists = record { lists = lists; states = board.states }
 abbrev pub with_state : Board → ℕ → State → Board
 with_state board n state = record { lists = board.lists; states = slice_set board.states n state }
 
--- one function for each of the five events that touch the board
+-- one function for each of the five events that change the board
 abbrev pub offer : (worker n : ℕ) → Board → Board
 offer w n board = with_state (with_lists board (laid board.lists w n)) n Out
 

@@ -1,8 +1,8 @@
--- The ledger of one deque: all that was offered, in order, with what became of it; and that its list is the board's.
+-- The ledger of one deque: all that was offered, in order, with its state; its list is the board's list.
 use Rattle.std.specs.Prelude.{◌≡◌, ℕ, is_some, if◌then◌else◌, List, [], ◌∷◌, ◌++◌}
 use Rattle.cw_world.specs.core.Board.{pushed, oldest, but_newest, but_oldest}
 
--- what was offered lies in the deque, was retaken, or was stolen by this one
+-- an offered job is in the deque, was retaken, or was stolen by this worker
 pub data Fate : Type 0 where
   Lies : Fate
   Back : Fate
@@ -13,7 +13,7 @@ if_lies Lies x xs = x ∷ xs
 if_lies Back x xs = xs
 if_lies (Gone by) x xs = xs
 
--- what lies in the deque, the oldest first
+-- the jobs in the deque, the oldest first
 abbrev pub outs : {A : Type 0} → List (A × Fate) → List A
 outs [] = []
 outs (e ∷ es) = if_lies e.1 e.0 (outs es)
@@ -26,7 +26,7 @@ taken_back Lies = Back
 taken_back Back = Back
 taken_back (Gone by) = Gone by
 
--- the last that lies there is retaken
+-- the last job in the deque is retaken
 abbrev pub ledger_retake : {A : Type 0} → List (A × Fate) → List (A × Fate)
 ledger_retake [] = []
 ledger_retake (e ∷ es) = if is_some (oldest (outs es)) then e ∷ ledger_retake es else (e.0, taken_back e.1) ∷ es
@@ -36,12 +36,12 @@ steal_at p x Lies es rest = (x, Gone p) ∷ es
 steal_at p x Back es rest = (x, Back) ∷ rest
 steal_at p x (Gone by) es rest = (x, Gone by) ∷ rest
 
--- the first that lies there is stolen
+-- the first job in the deque is stolen
 abbrev pub ledger_steal : {A : Type 0} → ℕ → List (A × Fate) → List (A × Fate)
 ledger_steal p [] = []
 ledger_steal p (e ∷ es) = steal_at p e.0 e.1 es (ledger_steal p es)
 
--- a deque's list after each step is the board's
+-- after each step, the list of a deque is the board's list
 pub record LedgersAreLists : Type 0 where
   pub offers : (n : ℕ) (es : List (ℕ × Fate)) → outs (ledger_offer n es) ≡ pushed (outs es) n
   pub retakes : (es : List (ℕ × Fate)) → outs (ledger_retake es) ≡ but_newest (outs es)

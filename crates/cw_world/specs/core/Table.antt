@@ -1,4 +1,4 @@
--- The events of the scheduler: which is possible in a world, and what it does.
+-- The events of the scheduler: which ones are possible in a world, and what they do.
 use Rattle.std.specs.Prelude.{ℕ, zero, suc, Bool, true, false, ◌&&◌, ◌||◌, not, if◌then◌else◌, nat_eq, List, [], ◌∷◌}
 use Rattle.std.specs.Prelude.{◌++◌, length, Option, Some, None, is_some, slice_get, slice_set}
 use Rattle.cw_code.specs.Code.{Code}
@@ -21,9 +21,9 @@ pub data Event : Type 0 where
   Settle : (w : ℕ) → Event
   Collect : (w : ℕ) → Event
 
--- what the table asks of a world: of each worker whether it is there, has begun a strand and not settled it, and has a
--- job in its deque; and of its newest strand whether it has not ended, is at a spawn to decide, is at a join, could
--- take its newest job out back, could be given its effect, or was stolen and has ended
+-- what the table asks about a world: for each worker, whether it exists, has begun a strand and not settled it, and
+-- has a job in its deque; and for its newest strand, whether it has not ended, is at a spawn, is at a join, could take
+-- its newest job out back, could receive its effect, or was stolen and has ended
 pub record Sight : Type 0 where
   pub is_there : ℕ → Bool
   pub has_strand : ℕ → Bool
@@ -52,8 +52,8 @@ pub record Sched : Type 0 where
   pub begun : List (List ℕ)
   pub board : Board
 
--- w's strand, the one that it began last and has not settled: none; one that goes on, with its job and the numbers of
--- the jobs that it has out; or one that has ended
+-- w's newest strand: none; one that goes on, with its job and the numbers of the jobs that it has out; or one that has
+-- ended
 pub data Top : Type 0 where
   Idle : Top
   Busy : (i : ℕ) → Job → Strand → (outs : List ℕ) → Top
@@ -71,8 +71,8 @@ top_of world (i ∷ others) = top_at i (slice_get world.jobs i) (slice_get world
 abbrev pub top : Sched → (w : ℕ) → Top
 top s w = top_of s.world (of_worker s.begun w)
 
--- a spawned call in it has ended, or it has stopped with jobs out: the join is open until its newest job out was given,
--- skipped or taken back
+-- a spawned call in it has ended, or it has stopped with jobs out: the join is open until its newest job out was
+-- given, skipped or taken back
 abbrev pub at_join : Strand → Bool
 at_join (Going state count outs) = false
 at_join (Waits state count outs) = true
@@ -128,7 +128,7 @@ abbrev pub is_out : Option State → Bool
 is_out (Some Out) = true
 is_out _ = false
 
--- it ran a job that was offered, so it stole it
+-- it executed a job that was offered, so it stole it
 abbrev pub is_stolen : Sched → Top → Bool
 is_stolen s Idle = false
 is_stolen s (Busy i job strand outs) = is_out (slice_get s.board.states i)
@@ -170,7 +170,7 @@ abbrev pub run_or_made : ℕ → Strand → List ℕ → Option Effect → Place
 run_or_made w strand outs None = Runs w strand outs
 run_or_made w strand outs (Some e) = Made w e
 
--- a strand as it now stands: where it has come to its end, its effect is made
+-- a strand in its new state: if it has come to its end, its effect is made
 abbrev pub put : Code → World → (w i : ℕ) → Job → Strand → List ℕ → World
 put code world w i job strand outs = placed world i (run_or_made w strand outs (effect_of code job strand))
 
@@ -197,18 +197,18 @@ abbrev pub ran : Code → (short : Bool) → Sched → (w i : ℕ) → Job → S
 ran code true s w i job strand outs = told s (put code s.world w i job (out_of_memory strand) outs)
 ran code false s w i job strand outs = advanced code s w i job outs (advance code job strand)
 
--- Retake: where the call has ended its strand goes on, where it has stopped the rest is skipped
+-- Retake: if the call has ended, its strand goes on; if the strand has stopped, the continuation is skipped
 abbrev pub got_back : Strand → Strand
 got_back (Going state count outs) = Going state count outs
 got_back (Waits state count outs) = take_back (Waits state count outs)
 got_back (Halted e outs) = skip (Halted e outs)
 
--- what was kept never was on the board
+-- a job that was kept was never on the board
 abbrev pub retaken : (w n : ℕ) → Option Place → Board → Board
 retaken w n (Some (Offered w')) board = retake w n board
 retaken w n _ board = board
 
--- memory may be wanting in a strand
+-- memory may be lacking in a strand
 abbrev pub short_of : (short : Bool) → Strand → Strand
 short_of true strand = out_of_memory strand
 short_of false strand = strand
@@ -227,7 +227,7 @@ abbrev pub stolen_by : Code → Sched → (w v : ℕ) → Option ℕ → Sched
 stolen_by code s w v None = s
 stolen_by code s w v (Some n) = stole code s w v n (slice_get s.world.jobs n)
 
--- Settle: the effect goes to its cell, and the strand is the worker's no more
+-- Settle: the effect goes to its cell, and the worker no longer has the strand
 abbrev pub settled : Sched → (w i : ℕ) → Effect → Sched
 settled s w i e =
     record {
@@ -236,7 +236,7 @@ settled s w i e =
       board = settle i s.board;
     }
 
--- Collect: the strand is given the effect
+-- Collect: the strand receives the effect
 abbrev pub collected : Code → (short : Bool) → Sched → (w i n : ℕ) → Job → Strand → List ℕ → Option Effect → Sched
 collected code short s w i n job strand outs None = s
 collected code short s w i n job strand outs (Some e) =
@@ -246,7 +246,7 @@ abbrev pub effect_at : Option Place → Option Effect
 effect_at None = None
 effect_at (Some place) = effect_in place
 
--- what an event does at w's strand
+-- the effect of an event on w's strand
 abbrev pub does : Code → (short : Bool) → Sched → Event → Top → Sched
 does code short s (Run w) (Busy i job strand outs) = ran code short s w i job strand outs
 does code short s (Offer w) (Busy i job strand (n ∷ outs)) = noted s (placed s.world n (Offered w)) (offer w n s.board)
@@ -269,20 +269,20 @@ worker_of (Steal w v) = w
 worker_of (Settle w) = w
 worker_of (Collect w) = w
 
--- what an event does, where it is possible; short: memory was wanting in the strand
+-- the effect of an event that is possible; `short`: memory was lacking in the strand
 abbrev pub perform : Code → (short : Bool) → Sched → Event → Sched
 perform code short s event = does code short s event (top s (worker_of event))
 
--- an event that is not possible leaves the world as it was
+-- an event that is not possible changes nothing
 abbrev pub tried : Code → (short : Bool) → Sched → Event → Sched
 tried code short s event = if is_possible s event then perform code short s event else s
 
--- the world after a list of events, in their order, each with whether memory was wanting
+-- the world after a list of events, in order, each with whether memory was lacking
 abbrev pub world_run : Code → List (Event × Bool) → Sched → Sched
 world_run code [] s = s
 world_run code (e ∷ events) s = world_run code events (tried code e.1 s e.0)
 
--- so many workers, the first of which has begun the root job, number 0
+-- this many workers, the first of which has begun the root job, number 0
 abbrev pub none_begun : ℕ → List (List ℕ)
 none_begun zero = []
 none_begun (suc others) = [] ∷ none_begun others
@@ -294,7 +294,7 @@ first_sched root others = record {
   board = record { lists = [] ∷ none_begun others; states = Unoffered ∷ [] };
 }
 
--- the root's effect, there exactly when its strand has ended
+-- the root's effect, if and only if its strand has ended
 abbrev pub outcome : Sched → Option Effect
 outcome s = effect_at (slice_get s.world.places 0)
 

@@ -1,4 +1,4 @@
--- A rest that is taken back runs as it would in a strand of its own.
+-- A continuation that is taken back executes as it would in a strand of its own.
 use Rattle.std.specs.Prelude.{◌≡◌, ℕ, ◌+◌, ◌≤◌, false, List, []}
 use Rattle.cw_code.specs.Code.{Code}
 use Rattle.cw_code.specs.Run.{State}
@@ -8,7 +8,7 @@ use Rattle.cw_strand_laws.specs.Over.{under}
 use Rattle.cw_strand_laws.specs.Strands.{Going, Waits, Halted, rest_at, resumed, stopped_after}
 use Rattle.cw_strand_laws.specs.Steps.{Advanced, Ran, Handed, Unfit, advance}
 
--- the same job, but for the cost before it and the limit
+-- the same job, except for the cost before it and the limit
 pub record SameWork (a b : Job) : Type 0 where
   pub extent : a.extent ≡ b.extent
   pub place : a.place ≡ b.place
@@ -17,9 +17,8 @@ pub record SameWork (a b : Job) : Type 0 where
   pub readers : a.readers ≡ b.readers
   pub depth : a.depth ≡ b.depth
 
--- what an instruction is to the strand of a rest and to the strand that took the rest back, where the spawned call had
--- ended at b after count instructions: the one goes on over b, hands out a job, waits or stops exactly where the other
--- does
+-- an instruction to the strand of a continuation and to the strand that took it back, if the spawned call had ended at
+-- b after count instructions: the second goes on over b, hands out a job, waits or stops if and only if the first does
 abbrev pub Alike : (b : State) → (count : ℕ) → Advanced → Advanced → Type 0
 Alike b count (Ran (Going s n outs)) (Ran (Going t m outs')) = (t ≡ under b s) × (m ≡ count + n)
 Alike b count (Ran (Waits s n outs)) (Ran (Waits t m outs')) = (t ≡ under b s) × (m ≡ count + n)
@@ -29,8 +28,8 @@ Alike b count (Handed out (Going s n outs)) (Handed out' (Going t m outs')) =
 Alike b count Unfit Unfit = Unit {0}
 Alike b count _ _ = ⊥
 
--- one instruction of the rest before its join, in its own strand and in the one that took it back, both within their
--- limits
+-- one instruction of the continuation before its join, in its own strand and in the one that took it back, both within
+-- their limits
 abbrev pub RunsAlike : Type 0
 RunsAlike =
     (code : Code) (rest job : Job) (b s : State) (count n : ℕ) (outs outs' : List Job) → rest.extent ≡ ToJoin
@@ -38,8 +37,8 @@ RunsAlike =
     → rest.before + (n + 1) ≤ rest.limit → job.before + ((count + n) + 1) ≤ job.limit
     → Alike b count (advance code rest (Going s n outs)) (advance code job (Going (under b s) (count + n) outs'))
 
--- where the rest's own run comes to the join with so much left, the run that took it back goes on from the join as
--- given, with as much left
+-- if the continuation's own run reaches the join with this much left, the run that took it back continues from the
+-- join as given, with as much left
 abbrev pub JoinsAlike : Type 0
 JoinsAlike =
     (code : Code) (y : Extent) (s : State) (limit before n left : ℕ) (frame : Standing) (t : Trace) → s.operands ≡ []

@@ -7,7 +7,7 @@ use Rattle.cw_strand_laws.specs.Walks.{printing, prints, failing, fails, lines_o
 use Rattle.cw_world.specs.core.Table.{Event, Run, Offer, Inline, Retake, Steal, Settle, Collect, Sched, is_possible}
 use Rattle.cw_world.specs.core.Table.{world_run, first_sched, outcome, all_possible}
 
--- no memory is wanting
+-- no memory is lacking
 abbrev pub ample : List Event → List (Event × Bool)
 ample events = map (λ e. (e, false)) events
 
@@ -18,7 +18,7 @@ answer_at (Some e) = answered printing e
 abbrev pub printing_with : (others limit : ℕ) → Sched
 printing_with others limit = first_sched (root_job prints [] limit) others
 
--- what these events answer with so many further workers
+-- the answer after these events, with this many further workers
 abbrev pub printed_by : List Event → (others limit : ℕ) → Option Answer
 printed_by events others limit = answer_at (outcome (world_run printing (ample events) (printing_with others limit)))
 
@@ -28,14 +28,14 @@ after events others = world_run printing (ample events) (printing_with others 15
 abbrev pub are_possible : List Event → (others : ℕ) → Bool
 are_possible events others = all_possible printing (ample events) (printing_with others 15)
 
--- one worker keeps each rest and takes it back
+-- one worker keeps each continuation and takes it back
 abbrev pub inlined : List Event
 inlined =
     Run 0 ∷ Run 0 ∷ Inline 0 ∷ Run 0 ∷ Run 0 ∷ Run 0 ∷ Retake 0
     ∷ Run 0 ∷ Run 0 ∷ Inline 0 ∷ Run 0 ∷ Run 0 ∷ Run 0 ∷ Retake 0
     ∷ Run 0 ∷ Run 0 ∷ Run 0 ∷ Run 0 ∷ Run 0 ∷ []
 
--- of two workers each offers its rest, and the other one steals it
+-- each of two workers offers its continuation, and the other one steals it
 abbrev pub stolen : List Event
 stolen =
     Run 0 ∷ Run 0 ∷ Offer 0 ∷ Steal 1 0 ∷ Run 1 ∷ Run 1 ∷ Offer 1 ∷ Run 0 ∷ Run 0 ∷ Run 0
@@ -60,11 +60,11 @@ abbrev pub failed_by : List Event → (others limit : ℕ) → Option Answer
 failed_by events others limit =
     failed_at (outcome (world_run failing (ample events) (first_sched (root_job fails [] limit) others)))
 
--- the rest was kept, and is skipped
+-- the continuation was kept, and is skipped
 abbrev pub skipped : List Event
 skipped = Run 0 ∷ Run 0 ∷ Inline 0 ∷ Run 0 ∷ Run 0 ∷ Run 0 ∷ Retake 0 ∷ []
 
--- the rest has printed before the call beside it traps, and is dropped
+-- the continuation has printed before the spawned call traps, and is dropped
 abbrev pub dropped_rest : List Event
 dropped_rest = Run 0 ∷ Run 0 ∷ Offer 0 ∷ Steal 1 0 ∷ Run 1 ∷ Run 1 ∷ Settle 1 ∷ Run 0 ∷ Run 0 ∷ Run 0 ∷ Collect 0 ∷ []
 
@@ -73,8 +73,8 @@ pub record FailingWalks : Type 0 where
   pub as_dropped : failed_by dropped_rest 1 5 ≡ code_serial failing [] 5
   pub over : failed_by skipped 0 4 ≡ code_serial failing [] 4
 
--- moments of two workers: the first is at a spawn; its rest is kept; its call has ended beside a kept rest; beside an
--- offered one; the rest was stolen; and has ended; and is settled
+-- moments of two workers: the first is at a spawn; its continuation is kept; its call has ended, the continuation
+-- kept; the same, offered; the continuation was stolen; and has ended; and is settled
 abbrev pub at_spawn : Sched
 at_spawn = after (Run 0 ∷ Run 0 ∷ []) 1
 

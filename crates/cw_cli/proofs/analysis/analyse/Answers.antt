@@ -2,7 +2,7 @@ use Rattle.std.proofs.Common.{rules, ◌≢◌, subst}
 use Rattle.cw_words.specs.declared.asked.Mode.TheVariants as mode
 use Rattle.cw_cli.specs.Told.{HasTables}
 use Rattle.cw_cli.proofs.Modes.{gain_is_no_check, has_tables, run_is_no_check, running, schedule_is_no_check}
-use Rattle.cw_cli.proofs.Runs.{by_crew, by_crowd, checked, refusal, run_is}
+use Rattle.cw_cli.proofs.Runs.{by_crew, by_crowd, checked, refusal, run_is, sites_numbered}
 use Rattle.cw_cli.proofs.analysis.analyse.Goals as goal
 
 pub returns-then-len-gt-MOST_BODIES : goal.returns-then-len-gt-MOST_BODIES
@@ -45,3 +45,6 @@ returns-in-Greedy g c =
     let runs = running c.args.options.mode (mode.Greedy c.in-Greedy.processors) c.in-Greedy.is schedule_is_no_check in
     by_crew g.W.Sink.seen c.args.out.now c.run_greedy_with.new.out c.args.bytes.now c.args.args.now c.args.options _ _ (search rules)
     (run_is g.W.Sink.seen c.args.out.now c.run_greedy_with.new.out c.args.bytes.now c.args.args.now c.args.options runs c.run_greedy_with.result (c.run_greedy_with.ensures c.args.bytes.now c.in-Greedy.is c.in_ok-made.ensures.compiled))
+
+pub run_gain_with-requires-clause-numbered : goal.run_gain_with-requires-clause-numbered
+run_gain_with-requires-clause-numbered g c κs within = sites_numbered c.derived_sites_are_numbered.ensures c.args.bytes.now _ c.in_ok-made.ensures.compiled

@@ -2,7 +2,7 @@ use Rattle.std.proofs.Common.{rules, ◌≢◌, subst}
 use Rattle.cw_words.specs.declared.asked.Mode.TheVariants as mode
 use Rattle.cw_cli.specs.Told.{HasTables}
 use Rattle.cw_cli.proofs.Modes.{gain_is_no_check, has_tables, run_is_no_check, running, schedule_is_no_check}
-use Rattle.cw_cli.proofs.Runs.{checked, refusal, run_is}
+use Rattle.cw_cli.proofs.Runs.{checked, refusal, run_is, sites_numbered}
 use Rattle.cw_cli.proofs.analysis.analyse_alone.Goals as goal
 
 pub returns-in_err-made : goal.returns-in_err-made
@@ -31,3 +31,6 @@ pub returns-in-Greedy : goal.returns-in-Greedy
 returns-in-Greedy g c =
     let runs = running c.args.options.mode (mode.Greedy c.in-Greedy.processors) c.in-Greedy.is schedule_is_no_check in
     run_is g.W.Sink.seen c.args.out.now c.run_greedy.new.out c.args.bytes.now c.args.args.now c.args.options runs c.run_greedy.result (c.run_greedy.ensures c.args.bytes.now c.in-Greedy.is c.in_ok-made.ensures.compiled)
+
+pub run_gain-requires-clause-numbered : goal.run_gain-requires-clause-numbered
+run_gain-requires-clause-numbered g c = sites_numbered c.derived_sites_are_numbered.ensures c.args.bytes.now _ c.in_ok-made.ensures.compiled

@@ -3,6 +3,7 @@ use Rattle.cw_facts.specs.Options.{handed_on}
 use Rattle.cw_code.specs.Code.{code_view}
 use Rattle.cw_machine.specs.Runs.{RunsAsCode}
 use Rattle.cw_cli.specs.Analyses.{IsModeInRange}
+use Rattle.cw_gains.specs.Gains.{HasNumberedSites}
 use Rattle.cw_compile.specs.Compiled.{AreMade}
 use Rattle.cw_words.specs.declared.asked.Mode.TheVariants as mode
 use Rattle.cw_cli.proofs.Runs.{out_of_range}
@@ -26,3 +27,6 @@ returns g c = λ bytes is made.
     let of_heads = subst (λ hs. AreMade bytes c.in_ok-code.code.value hs) (sym c.as_slice-heads.ensures.value) of_code in
     c.write_gains.ensures bytes c.in_ok-code.code.value c.as_slice-heads.result.now c.in_ok-most.most of_most of_mode of_heads
     (c.gains_of_run_with-gains.ensures ran)
+
+pub gains_of_run_with-gains-requires : goal.gains_of_run_with-gains-requires
+gains_of_run_with-gains-requires g c = subst (λ v. HasNumberedSites (code_view v.code)) (sym c.in_ok-code.ensures.ok) c.requires.numbered

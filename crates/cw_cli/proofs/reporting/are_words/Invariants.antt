@@ -4,6 +4,6 @@ use Rattle.std.specs.List.{list_all}
 use Rattle.cw_model.specs.Ints.{fits}
 use Rattle.cw_cli.proofs.reporting.are_words.Given as goal
 
--- those that were read are words
+-- the arguments that were read are words
 abbrev pub invariant-loop-arg : goal.invariant-loop-arg
 invariant-loop-arg l = list_all fits (take l.arg-index l.args) ≡ true

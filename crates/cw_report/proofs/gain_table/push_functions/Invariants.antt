@@ -1,4 +1,4 @@
--- The lines so far, and those of the functions that are left.
+-- The lines so far, and the lines of the remaining functions.
 use Rattle.std.proofs.Common.{drop}
 use Rattle.cw_report.specs.Texts.{function_lines}
 use Rattle.cw_report.proofs.Lines.{Towards}

@@ -7,7 +7,7 @@ use Rattle.cw_report.specs.Texts.{row_line, site_lines}
 use Rattle.cw_report.proofs.Lines.{Towards, arrived, onward}
 use Rattle.cw_report.proofs.tables.push_sites.Goals as goal
 
--- where either list is at its end no line is left
+-- if either list is at its end, no line is left
 no_more : (sites : List Site) (rows : List SiteRow) → (length sites ≡ 0) ⊎ (length rows ≡ 0) → site_lines sites rows ≡ []
 no_more [] rows h = refl
 no_more (site ∷ sites) [] h = refl

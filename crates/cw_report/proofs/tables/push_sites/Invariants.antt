@@ -1,4 +1,4 @@
--- The lines so far, and those of the sites that are left.
+-- The lines so far, and the lines of the remaining sites.
 use Rattle.cw_report.specs.Texts.{site_lines}
 use Rattle.cw_report.proofs.Lines.{Towards}
 use Rattle.cw_report.proofs.tables.push_sites.Given as goal

@@ -1,4 +1,4 @@
--- The lines so far, and those of the tags that are left.
+-- The lines so far, and the lines of the remaining tags.
 use Rattle.cw_report.specs.Texts.{tag_lines}
 use Rattle.cw_report.proofs.Lines.{Towards}
 use Rattle.cw_report.proofs.tables.push_tags.Given as goal

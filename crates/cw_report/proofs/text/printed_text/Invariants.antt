@@ -1,4 +1,4 @@
--- The lines so far, and those of the values that are left.
+-- The lines so far, and the lines of the remaining values.
 use Rattle.std.proofs.Common.{◌≡◌, ◌++◌, drop, flat_map}
 use Rattle.cw_model.specs.Report.{value_line}
 use Rattle.cw_report.proofs.text.printed_text.Given as goal

@@ -6,7 +6,7 @@ use Rattle.cw_code.specs.declared.code.Reducer.{Reducer}
 use Rattle.cw_report.specs.Texts.{totals_text}
 use Rattle.cw_report.proofs.text.push_totals.Goals as goal
 
--- where either list is at its end no line is left
+-- if either list is at its end, no line is left
 no_more : (reducers : List Reducer) (totals : List Total) → (length reducers ≡ 0) ⊎ (length totals ≡ 0) → totals_text reducers totals ≡ []
 no_more [] totals h = refl
 no_more (r ∷ reducers) [] h = refl

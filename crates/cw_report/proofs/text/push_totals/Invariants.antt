@@ -1,4 +1,4 @@
--- The lines so far, and those of the reducers that are left.
+-- The lines so far, and the lines of the remaining reducers.
 use Rattle.std.proofs.Common.{◌≡◌, ◌++◌}
 use Rattle.cw_report.specs.Texts.{totals_text}
 use Rattle.cw_report.proofs.text.push_totals.Given as goal

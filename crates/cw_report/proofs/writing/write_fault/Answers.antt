@@ -17,7 +17,7 @@ returns-in-Ownership g c = rw (c.in-Ownership.is) c.write_line-in-Ownership.ensu
 pub returns-in-Size : goal.returns-in-Size
 returns-in-Size g c = rw (c.in-Size.is) c.write_line-in-Size.ensures
 
--- the same text, otherwise grouped
+-- one text, grouped in two ways
 trap_line : (xs ys : List ℕ) → xs ++ (codes " " ++ ys ++ codes "\n") ≡ xs ++ codes " " ++ ys ++ codes "\n"
 trap_line xs ys = sym (ap (λ l. l ++ codes "\n") (append_assoc xs (codes " ") ys) ∙ append_assoc xs (codes " " ++ ys) (codes "\n"))
 

@@ -1,4 +1,5 @@
--- What is gone from `rest` was appended, and no write failed so far; with no text nothing was done.
+-- The bytes that are no longer in `rest` were appended, and no write failed so far; if there is no text, nothing was
+-- done.
 use Rattle.std.proofs.Common.{◌≡◌, [], length}
 use Rattle.cw_report.specs.Sinks.{AppendsBefore}
 use Rattle.cw_report.proofs.writing.write_text.Given as goal

@@ -1,7 +1,7 @@
 use Rattle.std.proofs.Common.{◌-◌, ◌*◌, length}
 use Rattle.cw_schedule.proofs.rows.+set.Given as goal
 
--- rows, then a row and those above
+-- the measures of two functions that call each other: a call on rows, then a call on one row and the rows above it
 abbrev pub decreases-Rows::set : goal.decreases-Rows::set
 decreases-Rows::set l = 2 * length l.self.now
 

@@ -1,4 +1,4 @@
--- The arguments so far are those of the texts so far.
+-- The arguments so far are the arguments of the texts so far.
 use Rattle.std.proofs.Common.{◌≡◌, map, take, pos}
 use Rattle.std.specs.List.{All}
 use Rattle.cw_model.specs.Pieces.{decimal_value}

@@ -9,12 +9,12 @@ use Rattle.cw_words.proofs.Texts.{lent, texts_given, values_given, arguments_giv
 use Rattle.cw_words.proofs.words.asked_by.Goals.{in_default-via-in-Some+in-Some+in-Some+in-Some+in-Some+in-Some+in_default, in_default-via-in-Some+in-Some+in-Some+in-Some+in-Some+in_default, in_default-via-in-Some+in-Some+in-Some+in-Some+in_default, in_default-via-in-Some+in-Some+in-Some+in_default, in_default-via-in-Some+in-Some+in_default, in_default-via-in-Some+in_default, in_default-via-in_default}
 use Rattle.cw_words.proofs.words.asked_by.Goals as goal
 
--- a word that names edges is given
+-- a word that names edges yields edges
 no_edges : (o : Option Edges) (text : Text) → o ≡ None → IsEdgesNamed text o → NamesEdges text → ⊥
 no_edges None text e h n = h n.0 n.1
 no_edges (Some x) text e h n = cc
 
--- a number in range is given
+-- a word for a number in range yields a number
 not_none : (o : Option ℕ) (text : Text) (row : NumberRow) → o ≡ None → IsNumberOf text row o → IsNumberWithin row.least row.most text → ⊥
 not_none None text row e h n = h n
 not_none (Some x) text row e h n = cc

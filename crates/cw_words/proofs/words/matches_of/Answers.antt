@@ -4,7 +4,7 @@ use Rattle.clap.specs.declared.error.Error.{Error}
 use Rattle.cw_words.specs.Command.{command_line}
 use Rattle.cw_words.proofs.words.matches_of.Goals as goal
 
--- an error that is handed on
+-- an error that is passed on
 fails_so : {T : Type 0} (kinds : Kinds) (r : Result T Error) (e : Error) → IsErrAnd r (λ x. x ≡ e) → HasKind kinds e → FailsBy kinds r
 fails_so kinds (Ok x) e same h = absurd same
 fails_so kinds (Err f) e same h = subst (HasKind kinds) (sym same) h

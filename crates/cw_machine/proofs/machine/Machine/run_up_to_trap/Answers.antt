@@ -7,7 +7,8 @@ use Rattle.cw_machine.specs.Arrays.{alone}
 use Rattle.cw_machine.specs.Shows.{Follows}
 use Rattle.cw_machine.specs.declared.machine.Moved.TheVariants as moved
 use Rattle.cw_machine.proofs.AtTrap.{has_next, traps_as}
-use Rattle.cw_machine.proofs.BurstSteps.{alone_on, burst_on}
+use Rattle.cw_machine.specs.Standing.{state_after}
+use Rattle.cw_machine.proofs.BurstSteps.{alone_on, burst_on, one_further}
 use Rattle.cw_machine.proofs.Moves as moves
 use Rattle.cw_machine.proofs.Stepping.{goes_on, stood, stopped}
 use Rattle.cw_machine.proofs.Whole.{may_alone, none_above, none_frozen}
@@ -20,6 +21,7 @@ loop-left-init c = record {
   came = λ is s shows. record {
     state = s;
     shows = shows;
+    reached = (let e : c.args.limit - c.args.limit ≡ 0 = omega arith in ap (λ n. state_after (code_view c.args.code.now.code) n s) e);
     same = λ k. (let e : c.args.limit - c.args.limit + k ≡ k = omega arith in ap (λ n. run.steps (code_view c.args.code.now.code) n s) e);
   };
 }
@@ -83,7 +85,7 @@ returns-in-Trapped c = λ is s shows.
       done = c.args.limit - c.burst-left.result;
       within = omega (arith, some, within, less);
       state = now.state;
-      same = now.same;
+      reached = now.reached;
       traps = traps_as v ok c.burst-left.new.self now.state now.shows c.in-Trapped.trap c.in-Trapped.line m (run.step (code_view v.code) now.state) did;
       has = has_next v ok c.burst-left.new.self now.state now.shows c.had-had.result c.op_at.result.now (stood _ c.as_slice-ops.ensures.value c.op_at.ensures) c.had-had.ensures;
     }
@@ -109,6 +111,8 @@ loop-left-preserved c =
           record {
             state = went.state;
             shows = went.shows;
+            reached = (let e : c.args.limit - (c.burst-left.result - 1) ≡ suc (c.args.limit - c.burst-left.result) = omega (arith, some, within, less) in
+                ap (λ n. state_after (code_view v.code) n s) e ∙ one_further (code_view v.code) (c.args.limit - c.burst-left.result) s now.state went.state now.reached went.steps_to);
             same = λ k.
                 let e : c.args.limit - (c.burst-left.result - 1) + k ≡ c.args.limit - c.burst-left.result + suc k = omega (arith, some, within, less) in
                 ap (λ n. run.steps (code_view v.code) n s) e ∙ now.same (suc k) ∙ went.same k;

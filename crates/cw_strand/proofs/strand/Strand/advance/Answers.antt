@@ -2,7 +2,7 @@ use Rattle.std.proofs.Common.{◌<◌, sym, subst, ◌∙◌}
 use Rattle.std.specs.Prelude.{◌-◌}
 use Rattle.cw_strand.specs.Holds.{its_end}
 use Rattle.cw_strand.proofs.Losing.{going_not_up}
-use Rattle.cw_strand.proofs.Advanced.{advances_from, leaves_from, still_counts}
+use Rattle.cw_strand.proofs.Advanced.{advances_from, ends_now, leaves_from}
 use Rattle.cw_strand.proofs.strand.Strand.advance.Goals as goal
 
 pub step-requires-clause-running : goal.step-requires-clause-running
@@ -14,7 +14,7 @@ step-requires-clause-before c = c.in-None.ensures.joins.3
 pub returns-in-Some-clause-advances : goal.returns-in-Some-clause-advances
 returns-in-Some-clause-advances c =
     let h = c.in-Some.ensures.joins in
-    (h.0, still_counts c.in-Some.effect c.args.self.now.count h.1)
+    (h.0, ends_now c.in-Some.effect c.args.self.now (λ _. h.2) h.1)
 
 pub returns-in-Some-clause-does : goal.returns-in-Some-clause-does
 returns-in-Some-clause-does c = λ going unended lt.
@@ -24,7 +24,7 @@ returns-in-Some-clause-does c = λ going unended lt.
 pub returns-in-None-clause-advances : goal.returns-in-None-clause-advances
 returns-in-None-clause-advances c =
     let h = c.in-None.ensures.joins in
-    advances_from c.step.result c.args.self.now c.end_at_join.new.self c.step.new.self c.end_at_join.ensures.of h.1 h.2 c.step.ensures.advances
+    advances_from c.step.result c.args.self.now c.end_at_join.new.self c.step.new.self c.end_at_join.ensures.of h.1 c.in-None.ensures.leaves h.2 h.3 c.step.ensures.advances
 
 pub returns-in-None-clause-leaves : goal.returns-in-None-clause-leaves
 returns-in-None-clause-leaves c = leaves_from c.step.result c.args.self.now c.end_at_join.new.self c.step.new.self c.in-Going.is

@@ -3,8 +3,8 @@ use Rattle.std.specs.Prelude.{map, reverse}
 use Rattle.cw_machine.specs.declared.run.Stop.TheVariants as stop
 use Rattle.cw_jobs.specs.Means.{IsMeaningOf}
 use Rattle.cw_strand.specs.Holds.{outs}
-use Rattle.cw_strand.specs.Moves.{EndsStill, HasCome}
-use Rattle.cw_strand.proofs.Advanced.{over_count, over_of, stays}
+use Rattle.cw_strand.specs.Moves.{HasCome}
+use Rattle.cw_strand.proofs.Advanced.{over_count, over_of, stays, still_from}
 use Rattle.cw_strand.proofs.RunsOn.{over_goes}
 use Rattle.cw_strand.proofs.Losing.{comes_from}
 use Rattle.cw_strand.proofs.strand.Strand.end_at_join.Goals as goal
@@ -33,7 +33,7 @@ returns-in-Joined-clause-joins c =
     let same : outs mid ≡ outs self = ap (λ v. map (λ l. l.job.value) (reverse v.items)) c.run_on-stop.ensures.same.1 in
     let still = stays self mid true c.run_on-stop.result c.run_on-stop.ensures.ran in (
       (subst (λ o. IsMeaningOf o.value e) c.run_on-stop.ensures.same.0 c.join_effect.ensures.means, sym same ∙ c.join_effect.ensures.none),
-      subst (EndsStill e) still c.join_effect.ensures.counts,
+      still_from e self mid (c.run_on-stop.ensures.comes.going ∙ sym c.requires.going) still c.join_effect.ensures.counts,
       λ before. c.run_on-stop.ensures.ran.before before still c.in-Joined.is,
     )
 

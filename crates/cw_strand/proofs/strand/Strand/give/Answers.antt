@@ -22,3 +22,6 @@ give_stopped-requires c =
 
 pub returns-in_default-clause-counts : goal.returns-in_default-clause-counts
 returns-in_default-clause-counts c = inl c.give_stopped.ensures.counts
+
+pub returns-in_default-clause-over : goal.returns-in_default-clause-over
+returns-in_default-clause-over c = λ over. inl (c.give_stopped.ensures.over over)

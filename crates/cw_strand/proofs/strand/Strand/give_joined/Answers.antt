@@ -8,7 +8,7 @@ use Rattle.cw_strand.specs.Giving.{HasJoined, MayJoin}
 use Rattle.cw_strand.proofs.Same.{newest_of, others_left, pops}
 use Rattle.cw_strand.proofs.Gave.{lost_runs, may_waits, passes_runs, mode_back}
 use Rattle.cw_strand.proofs.GaveJoin.{may_join, join_runs}
-use Rattle.cw_strand.proofs.Losing.{lacks_not, waits_not, goes_not_waits}
+use Rattle.cw_strand.proofs.Losing.{failed_not_over, going_not_over, lacks_not, waits_not, goes_not_waits}
 use Rattle.cw_strand.proofs.strand.Strand.give_joined.Goals as goal
 
 pub pop_home-requires : goal.pop_home-requires
@@ -98,3 +98,12 @@ returns-in-Ok-clause-counts c = inr ((c.requires.waiting, sym c.passes.ensures �
 
 pub returns-clause-counts : goal.returns-clause-counts
 returns-clause-counts c = inl refl
+
+pub returns-then-passes-clause-over : goal.returns-then-passes-clause-over
+returns-then-passes-clause-over c = λ _. sym c.passes.ensures ∙ c.if-passes.true
+
+pub returns-in-Ok-clause-over : goal.returns-in-Ok-clause-over
+returns-in-Ok-clause-over c = λ over. absurd (going_not_over mode.Going refl over)
+
+pub returns-clause-over : goal.returns-clause-over
+returns-clause-over c = λ over. absurd (failed_not_over mode.Memory refl over)

@@ -1,8 +1,8 @@
 use Rattle.cw_strand.proofs.Same.{newest_of, others_left}
 use Rattle.cw_strand.proofs.Gave.{lost_runs, may_stopped, stopped_runs}
-use Rattle.std.proofs.Common.{◌∙◌, ap, inl, inr}
-use Rattle.cw_strand.specs.Holds.{stops}
-use Rattle.cw_strand.proofs.Losing.{lost_before, memory_fails, waits_not}
+use Rattle.std.proofs.Common.{◌∙◌, sym, ap, inl, inr}
+use Rattle.cw_strand.specs.Holds.{has_failed, stops}
+use Rattle.cw_strand.proofs.Losing.{failed_not_over, lost_before, memory_fails, waits_not}
 use Rattle.cw_strand.proofs.strand.Strand.give_stopped.Goals as goal
 
 pub pop_home-requires : goal.pop_home-requires
@@ -43,3 +43,9 @@ returns-in-None-clause-lacks c = λ _. inr (inl (memory_fails c.args.effect c.in
 
 pub returns-in-None-clause-back : goal.returns-in-None-clause-back
 returns-in-None-clause-back c = λ w. waits_not c.lose.new.self.mode (ap stops c.lose.ensures.mode) w
+
+pub returns-in-Some-clause-over : goal.returns-in-Some-clause-over
+returns-in-Some-clause-over c = λ over. sym c.pop_home.ensures.mode ∙ over
+
+pub returns-in-None-clause-over : goal.returns-in-None-clause-over
+returns-in-None-clause-over c = λ over. absurd (failed_not_over c.lose.new.self.mode (ap has_failed c.lose.ensures.mode) over)

@@ -3,12 +3,12 @@ use Rattle.cw_jobs.specs.declared.effect.Effect.TheVariants as effect
 use Rattle.cw_machine.specs.declared.machine.Machine.{Machine}
 use Rattle.cw_strand.specs.declared.strand.Mode.TheVariants as mode
 use Rattle.cw_strand.specs.declared.strand.Strand.{Strand}
-use Rattle.cw_strand.specs.Holds.{stops}
+use Rattle.cw_strand.specs.Holds.{has_failed, stops}
 use Rattle.cw_strand.specs.Moves.{MayPopHome, HasPoppedHome}
 use Rattle.cw_strand.proofs.Same.{newest_of, others_left}
 use Rattle.cw_strand.proofs.Gave.{lost_runs, may_waits, passes_runs, mode_back}
 use Rattle.cw_strand.proofs.GaveTrap.{may_trapped, trap_runs}
-use Rattle.cw_strand.proofs.Losing.{lacks_not, waits_not}
+use Rattle.cw_strand.proofs.Losing.{failed_not_over, lacks_not, trapped_not_over, waits_not}
 use Rattle.cw_strand.proofs.strand.Strand.give_trap.Goals as goal
 
 pub pop_home-requires : goal.pop_home-requires
@@ -98,3 +98,12 @@ returns-in-Ok-clause-counts c = inr ((c.requires.waiting, sym c.passes.ensures �
 
 pub returns-clause-counts : goal.returns-clause-counts
 returns-clause-counts c = inl c.lose.ensures.count
+
+pub returns-then-passes-clause-over : goal.returns-then-passes-clause-over
+returns-then-passes-clause-over c = λ _. sym c.passes.ensures ∙ c.if-passes.true
+
+pub returns-in-Ok-clause-over : goal.returns-in-Ok-clause-over
+returns-in-Ok-clause-over c = λ over. absurd (trapped_not_over (mode.Trapped c.args.trap c.args.line) c.args.trap c.args.line refl over)
+
+pub returns-clause-over : goal.returns-clause-over
+returns-clause-over c = λ over. absurd (failed_not_over c.lose.new.self.mode (ap has_failed c.lose.ensures.mode) over)

@@ -1,9 +1,10 @@
 use Rattle.cw_strand.proofs.Same.{newest_of, others_left}
 use Rattle.cw_strand.proofs.Gave.{lost_runs}
-use Rattle.std.proofs.Common.{sym, ap, subst, inl, inr}
+use Rattle.std.proofs.Common.{◌≡◌, true, sym, ap, subst, inl, inr}
 use Rattle.cw_strand.specs.Holds.{stops, has_failed}
-use Rattle.cw_strand.specs.Losing.{CountsGiven, TakesIn, TellsFailure}
-use Rattle.cw_strand.proofs.Losing.{lacks_not, waits_not}
+use Rattle.cw_strand.specs.Giving.{passes_limit}
+use Rattle.cw_strand.specs.Losing.{cost_in, CountsGiven, TakesIn, TellsFailure, TellsOver}
+use Rattle.cw_strand.proofs.Losing.{failed_not_over, lacks_not, waits_not}
 use Rattle.cw_strand.proofs.strand.Strand.give_waiting.Goals as goal
 
 pub returns-in-Memory-clause-running : goal.returns-in-Memory-clause-running
@@ -51,3 +52,20 @@ returns-in-GivenUp-clause-counts c = inl c.give_given_up.ensures.counts
 
 pub returns-in-Memory-clause-counts : goal.returns-in-Memory-clause-counts
 returns-in-Memory-clause-counts c = inl c.lose.ensures.count
+
+pub returns-in-Joined-clause-over : goal.returns-in-Joined-clause-over
+returns-in-Joined-clause-over c = λ over.
+    inr (c.requires.waiting, inr (subst (λ e. passes_limit c.args.self.now (cost_in e) ≡ true) (sym c.in-Joined.is) (c.give_joined.ensures.over over)))
+
+pub returns-in-Trapped-clause-over : goal.returns-in-Trapped-clause-over
+returns-in-Trapped-clause-over c = λ over.
+    inr (c.requires.waiting, inr (subst (λ e. passes_limit c.args.self.now (cost_in e) ≡ true) (sym c.in-Trapped.is) (c.give_trap.ensures.over over)))
+
+pub returns-in-OverLimit-clause-over : goal.returns-in-OverLimit-clause-over
+returns-in-OverLimit-clause-over c = λ _. inr (c.requires.waiting, inl (subst TellsOver (sym c.in-OverLimit.is) tt))
+
+pub returns-in-GivenUp-clause-over : goal.returns-in-GivenUp-clause-over
+returns-in-GivenUp-clause-over c = λ over. absurd (c.give_given_up.ensures.over over)
+
+pub returns-in-Memory-clause-over : goal.returns-in-Memory-clause-over
+returns-in-Memory-clause-over c = λ over. absurd (failed_not_over c.lose.new.self.mode (ap has_failed c.lose.ensures.mode) over)

@@ -1,9 +1,10 @@
-use Rattle.std.proofs.Common.{refl, ◌∙◌}
+use Rattle.std.proofs.Common.{refl, ap, ◌∙◌}
 use Rattle.cw_machine.specs.declared.run.Stop.TheVariants as stop
 use Rattle.cw_strand.proofs.Cutting.{cut_sound}
 use Rattle.cw_strand.proofs.Halts.{spared_runs}
 use Rattle.cw_strand.proofs.HandedOn.{lent_step}
-use Rattle.cw_strand.proofs.Losing.{memory_not_up}
+use Rattle.cw_strand.specs.Holds.{has_failed}
+use Rattle.cw_strand.proofs.Losing.{failed_not_over, going_not_over, memory_not_up}
 use Rattle.cw_strand.proofs.strand.Strand.lend.Goals as goal
 
 pub invariant_of-job : goal.invariant_of-job
@@ -30,3 +31,9 @@ returns-in-Err-clause-counts c = c.rest.ensures.counts ∙ c.in-Err.ensures.kept
 
 pub returns-in-Err-clause-goes : goal.returns-in-Err-clause-goes
 returns-in-Err-clause-goes c = c.rest.ensures.goes memory_not_up
+
+pub returns-in-Ok-clause-over : goal.returns-in-Ok-clause-over
+returns-in-Ok-clause-over c = going_not_over c.cut_out.new.self.mode (c.in-Ok.ensures.cut.mode ∙ c.requires.comes.going)
+
+pub returns-in-Err-clause-over : goal.returns-in-Err-clause-over
+returns-in-Err-clause-over c = failed_not_over c.rest.new.self.mode (ap has_failed c.rest.ensures.mode)

@@ -1,6 +1,7 @@
 use Rattle.std.proofs.Common.{refl, ap, inr}
 use Rattle.std.specs.Prelude.{map, reverse}
-use Rattle.cw_strand.proofs.Advanced.{comes_within}
+use Rattle.cw_strand.specs.Moves.{hands_out}
+use Rattle.cw_strand.proofs.Advanced.{comes_within, within_run, within_still}
 use Rattle.cw_strand.proofs.Losing.{leaves_going}
 use Rattle.cw_strand.proofs.strand.Strand.next_event.Goals as goal
 
@@ -20,3 +21,14 @@ returns-then-has_ended-clause-leaves c = inr refl
 
 pub returns-else-has_ended-clause-leaves : goal.returns-else-has_ended-clause-leaves
 returns-else-has_ended-clause-leaves c = inr refl
+
+pub returns-in-Going-clause-within : goal.returns-in-Going-clause-within
+returns-in-Going-clause-within c =
+    within_run c.args.most c.within-to.result c.end_of_job-end.result c.run_on-stop.result (hands_out c.args.spawns) c.args.self.now c.run_on-stop.new.self c.settle.new.self
+    c.run_on-stop.ensures.comes c.run_on-stop.ensures.ran c.within-to.ensures.most c.end_of_job-end.ensures.end c.settle.ensures.counts c.settle.ensures.halts
+
+pub returns-then-has_ended-clause-within : goal.returns-then-has_ended-clause-within
+returns-then-has_ended-clause-within c = within_still c.args.most c.args.self.now
+
+pub returns-else-has_ended-clause-within : goal.returns-else-has_ended-clause-within
+returns-else-has_ended-clause-within c = within_still c.args.most c.args.self.now

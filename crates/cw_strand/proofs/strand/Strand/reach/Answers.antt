@@ -12,4 +12,4 @@ returns-in-Gave-clause-leads c =
     )
 
 pub returns-in_default-clause-leads : goal.returns-in_default-clause-leads
-returns-in_default-clause-leads c = (end_goes c.args.end c.args.self.now c.requires c.in_default.not-Gave, refl, refl)
+returns-in_default-clause-leads c = (end_goes c.args.end c.args.self.now c.requires c.in_default.not-Gave, refl, refl, refl)

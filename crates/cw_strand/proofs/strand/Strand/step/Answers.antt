@@ -1,7 +1,7 @@
 use Rattle.std.proofs.Common.{◌≡◌, refl, ◌∙◌, arith}
 use Rattle.cw_strand.specs.declared.strand.Advance.TheVariants as advance
 use Rattle.cw_strand.specs.declared.strand.Mode.TheVariants as mode
-use Rattle.cw_strand.proofs.Advanced.{advances_from, leaves_from}
+use Rattle.cw_strand.proofs.Advanced.{counts_over, kept_over, leaves_from}
 use Rattle.cw_strand.proofs.Halts.{over_runs}
 use Rattle.cw_strand.proofs.Losing.{over_not_up}
 use Rattle.cw_strand.proofs.strand.Strand.step.Goals as goal
@@ -17,7 +17,10 @@ pause-requires-clause-running c =
 pub returns-clause-advances : goal.returns-clause-advances
 returns-clause-advances c =
     let self = c.args.self.now in
-    advances_from (advance.Came c.pause.result) self (record self { mode = mode.Over }) c.pause.new.self refl refl refl (c.pause.ensures.keeps, c.pause.ensures.counts)
+    let full = c.if-self-end.false in
+    let above = c.end_of_job-end.ensures.above in
+    let same : self.count ≡ c.end_of_job-end.result = omega (arith, full, above) in
+    (kept_over c.pause.result self c.pause.new.self c.pause.ensures.keeps, counts_over c.pause.result self c.pause.new.self (c.requires.before.going, same ∙ c.end_of_job-end.ensures.end) c.pause.ensures.counts)
 
 pub returns-clause-leaves : goal.returns-clause-leaves
 returns-clause-leaves c =

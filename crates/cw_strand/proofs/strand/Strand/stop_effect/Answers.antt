@@ -1,4 +1,4 @@
-use Rattle.std.proofs.Common.{length, refl, sym, ap, subst, inr}
+use Rattle.std.proofs.Common.{length, refl, sym, ap, subst, inl, inr}
 use Rattle.cw_jobs.specs.declared.call.Parts.{Parts}
 use Rattle.cw_jobs.specs.declared.effect.Effect.TheVariants as effect
 use Rattle.cw_machine.specs.JobRuns as runs
@@ -68,3 +68,12 @@ returns-in_default-clause-means c = memory_means (its_job c.args.self.now) (effe
 
 pub returns-in_default-clause-comes : goal.returns-in_default-clause-comes
 returns-in_default-clause-comes c = inr (stopped_lost c.args.self.now.mode c.requires.stopped c.in_default.not-Trapped c.in_default.not-Over c.in_default.not-GivenUp)
+
+pub returns-in-Trapped-clause-counts : goal.returns-in-Trapped-clause-counts
+returns-in-Trapped-clause-counts c = refl
+
+pub returns-in-Over-clause-counts : goal.returns-in-Over-clause-counts
+returns-in-Over-clause-counts c = c.in-Over.is
+
+pub returns-in_default-clause-counts : goal.returns-in_default-clause-counts
+returns-in_default-clause-counts c = inl (stopped_lost c.args.self.now.mode c.requires.stopped c.in_default.not-Trapped c.in_default.not-Over c.in_default.not-GivenUp)

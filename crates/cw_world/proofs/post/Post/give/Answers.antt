@@ -17,3 +17,6 @@ returns-clause-counts c = given_done c.stand.result c.args.effect c.args.self.no
 
 pub returns-clause-lacks : goal.returns-clause-lacks
 returns-clause-lacks c = λ l. c.give.ensures.lacks (after_end c.stand.result c.give.new.self c.stand.new.self.strand c.stand.ensures.leaves l)
+
+pub returns-clause-over : goal.returns-clause-over
+returns-clause-over c = λ over. c.give.ensures.over (c.stand.ensures.over over)

@@ -1,6 +1,7 @@
 use Rattle.std.proofs.Common.{◌∙◌, false, refl, sym, ap}
 use Rattle.cw_world.specs.Scenes.{Posted, posted}
 use Rattle.cw_world.proofs.Lists.{empty_from, some_from}
+use Rattle.cw_world.proofs.Exceeding.{ends_over}
 use Rattle.cw_world.proofs.Posts.{ends, ends_done, stands_paused}
 use Rattle.cw_world.proofs.post.Post.stand.Goals as goal
 
@@ -27,3 +28,9 @@ returns-clause-comes c =
       left_are = refl;
       stands = stands_paused new c.is_paused-self.ensures.yes c.is_paused-self.ensures.no some c.requires.even;
     }
+
+pub returns-then-is_empty-clause-over : goal.returns-then-is_empty-clause-over
+returns-then-is_empty-clause-over c = ends_over c.end.result c.args.self.now.strand c.end.new.self c.end.ensures.ends c.end.ensures.leaves
+
+pub returns-clause-over : goal.returns-clause-over
+returns-clause-over c = λ over. over

@@ -1,4 +1,4 @@
-use Rattle.std.proofs.Common.{◌≡◌, ◌∙◌, ◌++◌, ◌<◌, true, List, [], ◌∷◌, refl, sym, ap, subst, length, inl}
+use Rattle.std.proofs.Common.{◌≡◌, ◌∙◌, ◌++◌, ◌<◌, true, List, [], ◌∷◌, refl, sym, ap, subst, length}
 use Rattle.std.specs.Prelude.{map}
 use Rattle.cw_jobs.specs.declared.job.Job as jobs
 use Rattle.cw_strand.specs.declared.strand.Advance.TheVariants as advance
@@ -8,7 +8,8 @@ use Rattle.cw_strand.specs.Losing.{Leaves}
 use Rattle.cw_strand.specs.Moves.{AdvancesBy, DoesOne, KeptBy}
 use Rattle.cw_world.specs.declared.post.Out.TheVariants as out
 use Rattle.cw_world.specs.Scenes.{Posted, jobs_of, posted}
-use Rattle.cw_world.proofs.Lacking.{goes_not_lost, after_event, after_stop}
+use Rattle.cw_world.proofs.Lacking.{goes_not_lost}
+use Rattle.cw_world.proofs.Exceeding.{ended_below, goes_not_over, not_lost_paused, over_ended, over_paused, ran_below}
 use Rattle.cw_world.proofs.Posts.{ended_one, none_out, paused_one, some_not_none, steps_on, steps_to_join, steps_to_spawn}
 use Rattle.cw_world.proofs.post.Post.step.Goals as goal
 
@@ -45,7 +46,7 @@ returns-in-Came-AtSync-clause-does c =
     subst (λ e. DoesOne (advance.Came e)) c.in-Came-AtSync.field-0-is (subst DoesOne c.in-Came-AtSync.is (c.advance.ensures.does c.requires.ready.0 c.requires.ready.1 lt)) in
     steps_to_join (posted p) new (jobs_of c.args.jobs.now) (jobs_of c.reserve.new.self) refl c.reserve-2.ensures.items
     (ap (λ o. o.value) c.advance.ensures.of) c.requires.even refl by.0
-    (paused_one p.strand c.advance.new.self c.requires.running by.1 does)
+    (paused_one p.strand c.advance.new.self c.requires.running by.1.none does)
     (ap (map (λ j. j.value)) c.reserve.ensures.items)
 
 pub returns-in-Came-Ended-clause-does : goal.returns-in-Came-Ended-clause-does
@@ -68,8 +69,28 @@ hand_out-requires-clause-out c = λ none.
 pub hand_out-requires-clause-goes : goal.hand_out-requires-clause-goes
 hand_out-requires-clause-goes c = subst (λ e. Leaves e c.args.self.now.strand c.advance.new.self) c.in-Came-Spawned.field-0-is c.in-Came-Spawned.ensures.leaves
 
+pub returns-in-Ran-clause-over : goal.returns-in-Ran-clause-over
+returns-in-Ran-clause-over c = λ over. absurd (c.in-Ran.ensures.advances.3 (c.stand.ensures.over over))
+
+pub returns-in-Came-Spawned-clause-over : goal.returns-in-Came-Spawned-clause-over
+returns-in-Came-Spawned-clause-over c =
+    let goes = subst (λ e. Leaves e c.args.self.now.strand c.advance.new.self) c.in-Came-Spawned.field-0-is c.in-Came-Spawned.ensures.leaves in
+    λ over. absurd (goes_not_over c.hand_out.new.self.strand.mode (ap (λ t. t.mode) c.hand_out.ensures.strand ∙ goes) over)
+
+pub returns-in-Came-AtSync-clause-over : goal.returns-in-Came-AtSync-clause-over
+returns-in-Came-AtSync-clause-over c =
+    let p = c.args.self.now in
+    let by = subst (λ e. AdvancesBy (advance.Came e) p.strand c.advance.new.self) c.in-Came-AtSync.field-0-is c.in-Came-AtSync.ensures.advances in
+    over_paused p.strand c.advance.new.self c.requires.ready.0 by.1
+
+pub returns-in-Came-Ended-clause-over : goal.returns-in-Came-Ended-clause-over
+returns-in-Came-Ended-clause-over c =
+    let p = c.args.self.now in
+    let by = subst (λ s. AdvancesBy (advance.Came s) p.strand c.advance.new.self) c.in-Came-Ended.field-0-is c.in-Came-Ended.ensures.advances in
+    over_ended c.in-Came-Ended.effect p.strand c.requires.ready.0 by.1
+
 pub returns-in-Ran-clause-lacks : goal.returns-in-Ran-clause-lacks
-returns-in-Ran-clause-lacks c = λ _. inl c.in-Ran.ensures.leaves
+returns-in-Ran-clause-lacks c = λ _. ran_below c.args.self.now.strand c.advance.new.self c.advance.ensures.of c.in-Ran.ensures.advances
 
 pub returns-in-Came-Spawned-clause-lacks : goal.returns-in-Came-Spawned-clause-lacks
 returns-in-Came-Spawned-clause-lacks c =
@@ -78,8 +99,13 @@ returns-in-Came-Spawned-clause-lacks c =
 
 pub returns-in-Came-AtSync-clause-lacks : goal.returns-in-Came-AtSync-clause-lacks
 returns-in-Came-AtSync-clause-lacks c =
-    after_stop c.args.self.now.strand c.advance.new.self (subst (λ e. Leaves e c.args.self.now.strand c.advance.new.self) c.in-Came-AtSync.field-0-is c.in-Came-AtSync.ensures.leaves)
+    let p = c.args.self.now in
+    let by = subst (λ e. AdvancesBy (advance.Came e) p.strand c.advance.new.self) c.in-Came-AtSync.field-0-is c.in-Came-AtSync.ensures.advances in
+    λ lost. absurd (not_lost_paused p.strand c.advance.new.self c.requires.ready.0 by.1 lost)
 
 pub returns-in-Came-Ended-clause-lacks : goal.returns-in-Came-Ended-clause-lacks
 returns-in-Came-Ended-clause-lacks c =
-    after_event c.in-Came-Ended.effect c.args.self.now.strand (subst (λ e. Leaves e c.args.self.now.strand c.advance.new.self) c.in-Came-Ended.field-0-is c.in-Came-Ended.ensures.leaves)
+    let p = c.args.self.now in
+    let by = subst (λ s. AdvancesBy (advance.Came s) p.strand c.advance.new.self) c.in-Came-Ended.field-0-is c.in-Came-Ended.ensures.advances in
+    let comes = subst (λ e. Leaves e p.strand c.advance.new.self) c.in-Came-Ended.field-0-is c.in-Came-Ended.ensures.leaves in
+    ended_below c.in-Came-Ended.effect p.strand c.requires.ready.0 c.requires.ready.1 by.0.1 by.1 comes

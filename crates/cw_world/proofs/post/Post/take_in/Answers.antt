@@ -3,6 +3,7 @@ use Rattle.cw_world.specs.Posts.{HasDone}
 use Rattle.cw_world.specs.Scenes.{Posted, posted}
 use Rattle.cw_world.proofs.Lists.{tail_of}
 use Rattle.cw_world.proofs.Lacking.{after_back}
+use Rattle.cw_world.proofs.Exceeding.{over_back}
 use Rattle.cw_world.proofs.Posts.{comes_back}
 use Rattle.cw_world.proofs.post.Post.take_in.Goals as goal
 
@@ -19,3 +20,6 @@ returns-clause-counts c = subst (HasDone c.stand.result c.stand.new.self.strand)
 
 pub returns-clause-lacks : goal.returns-clause-lacks
 returns-clause-lacks c = after_back c.stand.result c.args.self.now.strand c.unrun.new.strand c.stand.new.self.strand c.unrun.ensures.back c.stand.ensures.leaves
+
+pub returns-clause-over : goal.returns-clause-over
+returns-clause-over c = λ over. over_back c.args.self.now.strand c.unrun.new.strand c.unrun.ensures.back (c.stand.ensures.over over)

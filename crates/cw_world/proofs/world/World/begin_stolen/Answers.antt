@@ -1,12 +1,14 @@
 use Rattle.std.proofs.Common.{◌≡◌, ◌∙◌, List, refl, sym, ap, subst, length}
 use Rattle.std.specs.Arc.{arc_value}
 use Rattle.cw_jobs.specs.declared.job.Job.{Job}
+use Rattle.cw_strand.specs.Holds.{its_job}
 use Rattle.cw_world.specs.declared.board.Offer.{Offer}
 use Rattle.cw_world.specs.Boards.{Boarded, returned, stolen}
 use Rattle.cw_world.specs.Scenes.{posted, scene, stacks}
 use Rattle.cw_world.specs.Events.{with_top, Counts}
 use Rattle.cw_world.proofs.Lacking.{fresh_lacks}
-use Rattle.cw_world.proofs.Turns.{counted}
+use Rattle.cw_world.proofs.Exceeding.{goes_not_over, stage_exceeds}
+use Rattle.cw_world.proofs.Turns.{counted, meant}
 use Rattle.cw_world.proofs.Doing.{scene_is, stolen_to, stolen_whole, offer_job, set_back}
 use Rattle.cw_world.proofs.world.World.begin_stolen.Goals as goal
 
@@ -42,7 +44,9 @@ returns-in-Ok-clause-does c =
       post = p;
       begins = (b.numbered, b.of, b.outs_are);
       comes = stolen_to v s.jobs p q c.stand-ended.result x o.number o.job job_is b.numbered b.of b.outs_are b.none c.stand-ended.ensures.comes c.turn.ensures.begun;
-      none = subst (Counts x) b.count (counted v q c.stand-ended.result x p.strand.count c.turn.ensures.begun c.stand-ended.ensures.counts);
+      none = subst (Counts (its_job p.strand) x) b.count
+          (counted v (its_job p.strand) q c.stand-ended.result x p.strand.count (meant c.stand-ended.result p q _ c.stand-ended.ensures.comes) c.turn.ensures.begun c.stand-ended.ensures.counts);
+      over = λ over. goes_not_over p.strand.mode b.fresh (c.stand-ended.ensures.over (stage_exceeds v q c.stand-ended.result x c.turn.ensures.begun over));
       lacks = fresh_lacks v p.strand q c.stand-ended.result x b.fresh c.stand-ended.ensures.leaves c.turn.ensures.begun;
       is = scene_is s.jobs s.jobs (stacks c.turn.new.begun) (with_top s.begun c.args.w x) _ _ refl
           c.turn.ensures.is c.steal-number.ensures.stolen;

@@ -2,10 +2,12 @@ use Rattle.std.proofs.Common.{refl}
 use Rattle.std.specs.Arc.{arc_value}
 use Rattle.cw_facts.specs.Tests.{first_true, second_true}
 use Rattle.cw_world.specs.declared.post.Out.TheVariants as out
+use Rattle.cw_strand.specs.Holds.{its_job}
 use Rattle.cw_world.specs.Scenes.{posted, scene, stacks, top}
 use Rattle.cw_world.specs.Table as table
 use Rattle.cw_world.proofs.Lacking.{stage_lacks}
-use Rattle.cw_world.proofs.Turns.{came_back, counted_with, back_whole}
+use Rattle.cw_world.proofs.Exceeding.{stage_exceeds}
+use Rattle.cw_world.proofs.Turns.{came_back, counted_with, meant, back_whole}
 use Rattle.cw_world.proofs.Doing.{turned_scene, taken_works, at_sync, gives, popped, popped_are, settled_out, join_goes}
 use Rattle.cw_world.proofs.world.World.collect.Goals as goal
 
@@ -97,7 +99,10 @@ returns-clause-does c =
       cell = c.collect-effect.ensures.cell;
       stage = x;
       comes = came_back v s.jobs p (posted c.give-ended.new.self) older (out.Offered n) p.at_join c.give-ended.result x works are (λ job others is _. c.give-ended.ensures.comes job others is) c.turn.ensures.begun;
-      counts = counted_with v (posted c.give-ended.new.self) c.give-ended.result x c.collect-effect.result p.strand c.turn.ensures.begun c.give-ended.ensures.counts;
+      counts = counted_with v (its_job p.strand) (posted c.give-ended.new.self) c.give-ended.result x c.collect-effect.result p.strand
+          (meant c.give-ended.result (record { number = p.number; strand = p.strand; at_join = p.at_join; outs = older }) (posted c.give-ended.new.self) g.others
+          (c.give-ended.ensures.comes g.out g.others g.are)) c.turn.ensures.begun c.give-ended.ensures.counts;
+      over = λ over. c.give-ended.ensures.over (stage_exceeds v (posted c.give-ended.new.self) c.give-ended.result x c.turn.ensures.begun over);
       lacks = λ l. c.give-ended.ensures.lacks (stage_lacks v (posted c.give-ended.new.self) c.give-ended.result x c.turn.ensures.begun l);
       is = turned_scene s c.args.w x x (stacks c.take-post.new.begun) (stacks c.turn.new.begun) _ _ c.take-post.ensures.left c.turn.ensures.is refl c.collect-effect.ensures.collected;
     }

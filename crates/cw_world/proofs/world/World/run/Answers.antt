@@ -1,7 +1,11 @@
-use Rattle.std.proofs.Common.{◌≡◌, ◌∙◌, false, List, refl, sym, ap}
+use Rattle.std.proofs.Common.{◌≡◌, ◌∙◌, ℕ, true, false, List, Some, refl, sym, ap}
 use Rattle.std.specs.Arc.{arc_value}
 use Rattle.cw_world.specs.Scenes.{Posted, Stage, Goes, posted, scene, stacks, jobs_of, top}
-use Rattle.cw_world.specs.Table.{is_at_join}
+use Rattle.cw_strand.specs.Holds.{IsGoing}
+use Rattle.cw_world.specs.declared.event.Event.TheVariants as event
+use Rattle.cw_world.specs.declared.world.World.{World}
+use Rattle.cw_world.specs.Table.{is_at_join, is_possible}
+use Rattle.cw_world.specs.Worlds.{IsSound}
 use Rattle.cw_world.specs.Events.{with_top}
 use Rattle.cw_world.proofs.Strands.{is_even}
 use Rattle.cw_world.proofs.Turns.{ran, ran_whole}
@@ -20,6 +24,14 @@ step-requires-clause-even c =
     let works = taken_works (arc_value c.args.self.now.code) s c.args.w (posted c.take-post.result) c.requires.sound.right c.take-post.ensures.top in
     is_even s.jobs c.take-post.result.outs.items _ works.lent
 
+-- the strand goes on
+ready : (self : World) (w : ℕ) (p : Posted) → IsSound self → top (scene self) w ≡ Some (Goes p) → is_possible (scene self) (event.Run w) ≡ true → IsGoing p.strand
+ready self w p sound at possible =
+    let t = top (scene self) w in
+    let works = taken_works (arc_value self.code) (scene self) w p sound.right at in
+    let away : is_at_join t ≡ false = not_at_join t possible in
+    works.stands.1 (sym (ap is_at_join at) ∙ away)
+
 pub step-requires-clause-ready : goal.step-requires-clause-ready
 step-requires-clause-ready c =
     let s = scene c.args.self.now in
@@ -37,7 +49,8 @@ turn-requires-clause-root c =
 pub returns-in-Ok-clause-does : goal.returns-in-Ok-clause-does
 returns-in-Ok-clause-does c =
     ran (arc_value c.args.self.now.code) (scene c.args.self.now) c.args.w (posted c.take-post.result) (posted c.step.new.self) c.in-Ok.ended (jobs_of c.step.new.jobs) (stacks c.turn.new.begun) c.turn.ensures.stage
-    c.requires.sound.right c.take-post.ensures.top c.in-Ok.ensures.does c.in-Ok.ensures.lacks c.turn.ensures.begun
+    c.requires.sound.right c.take-post.ensures.top c.in-Ok.ensures.does (ready c.args.self.now c.args.w (posted c.take-post.result) c.requires.sound c.take-post.ensures.top c.requires.possible)
+    c.in-Ok.ensures.over c.in-Ok.ensures.lacks c.turn.ensures.begun
     (c.turn.ensures.is ∙ ap (λ (l : List (List Stage)). with_top l c.args.w c.turn.ensures.stage) c.take-post.ensures.left)
 
 pub returns-in-Err-clause-does : goal.returns-in-Err-clause-does
