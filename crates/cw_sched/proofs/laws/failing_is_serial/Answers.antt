@@ -1,0 +1,5 @@
+use Rattle.cw_sched.proofs.core.Walks.{failing_walks}
+use Rattle.cw_sched.proofs.laws.failing_is_serial.Goals as goal
+
+pub returns : goal.returns
+returns c = failing_walks

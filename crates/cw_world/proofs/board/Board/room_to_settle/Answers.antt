@@ -1,6 +1,0 @@
-use Rattle.std.proofs.Common.{arith}
-use Rattle.cw_world.proofs.Wanting.{on_err}
-use Rattle.cw_world.proofs.board.Board.room_to_settle.Goals as goal
-
-pub returns-clause-full : goal.returns-clause-full
-returns-clause-full c = on_err c.reserve.result (λ less. omega (arith, less)) c.reserve.ensures.full

@@ -1,5 +1,0 @@
-use Rattle.cw_world.proofs.core.TakeBack.{runs_alike}
-use Rattle.cw_world.proofs.laws.a_rest_taken_back_runs_alike.Goals as goal
-
-pub returns : goal.returns
-returns c = runs_alike

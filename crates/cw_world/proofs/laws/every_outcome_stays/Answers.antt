@@ -1,5 +1,0 @@
-use Rattle.cw_world.proofs.core.Root.{outcomes_stay}
-use Rattle.cw_world.proofs.laws.every_outcome_stays.Goals as goal
-
-pub returns : goal.returns
-returns c = outcomes_stay

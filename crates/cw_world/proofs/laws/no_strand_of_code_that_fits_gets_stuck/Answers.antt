@@ -1,5 +1,0 @@
-use Rattle.cw_world.proofs.core.Outcomes.{none_is_unfit_here}
-use Rattle.cw_world.proofs.laws.no_strand_of_code_that_fits_gets_stuck.Goals as goal
-
-pub returns : goal.returns
-returns c = none_is_unfit_here c.no_strand_of_code_that_fits_gets_stuck.ensures

@@ -1,6 +1,0 @@
-use Rattle.std.proofs.Common.{drop}
-use Rattle.cw_world.proofs.Plays.{Playing}
-use Rattle.cw_world.proofs.play.play.Given as goal
-
-abbrev pub invariant-loop-event : goal.invariant-loop-event
-invariant-loop-event l = Playing l.fn.code.value l.fn.args l.fn.n l.fn.burden l.fn.workers l.events (drop l.event-index l.events) l.world
