@@ -369,7 +369,7 @@ def refusals(program):
 
 # what an explanation may take: so many times the seconds of the processor of the check alone, and so many more; so many
 # times its memory; bytes of text
-EXPLAIN_TIMES, EXPLAIN_SECONDS, EXPLAIN_MEMORY, EXPLAIN_BYTES = 3.0, 0.02, 1.5, 4096
+EXPLAIN_TIMES, EXPLAIN_SECONDS, EXPLAIN_MEMORY, EXPLAIN_BYTES = 3.0, 0.02, 1.5, 20480
 # shapes that the search tries
 EXPLAIN_TRIES = 80
 # how blocks begin, and how a spawn takes names: in the function's parameter, and what is passed
