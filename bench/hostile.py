@@ -405,10 +405,10 @@ def refusals(program):
     return wrong
 
 
-# limits of an explanation: processor time as a multiple of the time of `check`, plus seconds; memory as a multiple of the memory
-# of `check`; bytes of text
-EXPLAIN_TIMES, EXPLAIN_SECONDS, EXPLAIN_MEMORY, EXPLAIN_BYTES = 3.0, 0.02, 1.5, 4096
-# number of sources that the search tries
+# what an explanation may take: so many times the seconds of the processor of the check alone, and so many more; so many
+# times its memory; bytes of text
+EXPLAIN_TIMES, EXPLAIN_SECONDS, EXPLAIN_MEMORY, EXPLAIN_BYTES = 3.0, 0.02, 1.5, 20480
+# shapes that the search tries
 EXPLAIN_TRIES = 80
 # starts of blocks, and the parameter of the spawned function for each way to take a name
 BLOCKS = ["if(1){", "while(1){", "cilk_scope{", "region t{", "if(1){}else{"]

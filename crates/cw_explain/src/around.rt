@@ -1,39 +1,45 @@
-//! Where a source is refused: the tokens round that place, and what is open there.
+//! The tokens around the place where a source is rejected, and what is open there.
 
-use crate::near::is_declared;
-use crate::phrase::Marks;
+use crate::advice::advice_for;
+use crate::near::{is_declared, is_reducer};
 use crate::word::Word;
-use crate::words::{OPERATORS, STORAGE, TYPES};
+use crate::words::{KEYWORDS, OPERATORS, STORAGE, TYPES};
 use cw_model::token::{Kind, Token};
 use std::alloc::{AllocError, Global};
-use std::fmt;
 
-/// A bracket that is open: its token, the place of it, and the first token of its statement.
+/// The most words of a type that are read.
+const MOST_TYPES: usize = 8;
+
+/// The most tokens that are searched for the declaration of a name.
+const MOST_SEARCHED: usize = 8_192;
+
+/// An open bracket: its token and place, and the place and kind of the first token of its statement.
 #[derive(Clone, Copy)]
 struct Bracket {
     token: Token,
     place: usize,
+    first: usize,
     front: Option<Kind>,
 }
 
-/// The brackets that are open behind some tokens, and the statement there.
+/// The brackets that are open after some tokens, and the statement there.
 #[derive(Drop)]
 pub struct Opened {
-    /// The tokens so far.
+    /// The number of tokens so far.
     count: usize,
-    /// Those that open a bracket which is not closed yet, the outermost first.
+    /// The brackets that are open, the outermost first.
     brackets: Vec<Bracket>,
-    /// How many of them are braces.
+    /// The number of braces among them.
     braces: usize,
-    /// The place of the first token of the statement that is not complete.
+    /// The place of the first token of the incomplete statement.
     first: usize,
     /// That token, if there is one.
     front: Option<Kind>,
-    /// Whether the last token closes the bracket right behind that one.
+    /// Whether the last token closes the bracket right after that one.
     is_headed: bool,
 }
 
-// Whether a statement of this kind has a block which is left at its end only.
+// Whether a statement of this kind has a block that ends only at its end.
 fn is_left_at_its_end(kind: Option<Kind>) -> bool {
     matches!(
         kind,
@@ -42,7 +48,7 @@ fn is_left_at_its_end(kind: Option<Kind>) -> bool {
 }
 
 impl Opened {
-    /// Before all tokens.
+    /// Returns the state before all tokens.
     pub fn new(alloc: Global) -> Opened {
         Opened {
             count: 0,
@@ -62,17 +68,17 @@ impl Opened {
         }
     }
 
-    /// How many braces are open.
+    /// Returns the number of open braces.
     pub fn braces(&self) -> usize {
         self.braces
     }
 
-    /// The first token of the statement that is not complete, if there is one.
+    /// Returns the first token of the incomplete statement, if there is one.
     pub fn front(&self) -> Option<Kind> {
         self.front
     }
 
-    /// Whether a block is open that is left at its end only.
+    /// Returns whether a block is open that ends only at its end.
     pub fn is_in_closed_block(&self) -> bool {
         for bracket in self.brackets.as_slice() {
             if bracket.token.kind == Kind::LeftBrace && is_left_at_its_end(bracket.front) {
@@ -82,7 +88,18 @@ impl Opened {
         false
     }
 
-    /// Whether a bracket is open behind the last brace.
+    // The place of the innermost `cilk_for` whose block is open.
+    fn loop_around(&self) -> Option<usize> {
+        let mut found = None;
+        for bracket in self.brackets.as_slice() {
+            if bracket.token.kind == Kind::LeftBrace && bracket.front == Some(Kind::For) {
+                found = Some(bracket.first);
+            }
+        }
+        found
+    }
+
+    /// Returns whether a bracket is open after the last brace.
     pub fn is_in_brackets(&self) -> bool {
         match self.innermost() {
             Some(token) => token.kind != Kind::LeftBrace,
@@ -90,30 +107,31 @@ impl Opened {
         }
     }
 
-    // A bracket opens.
+    // Opens a bracket.
     fn open(&mut self, token: Token) -> Result<(), AllocError> {
         self.brackets.push(Bracket {
             token,
             place: self.count,
+            first: self.first,
             front: self.front,
         })?;
         Ok(())
     }
 
-    // The innermost bracket is closed.
+    // Closes the innermost bracket.
     fn close(&mut self) {
         if let Some(bracket) = self.brackets.pop() {
             self.is_headed = bracket.place == self.first.saturating_add(1);
         }
     }
 
-    // The statement ends with the last token.
+    // Ends the statement with the last token.
     fn end(&mut self) {
         self.first = self.count.saturating_add(1);
         self.front = None;
     }
 
-    /// One token more.
+    /// Adds one token.
     pub fn add(&mut self, token: Token) -> Result<(), AllocError> {
         self.is_headed = false;
         self.front = self.front.or(Some(token.kind));
@@ -138,24 +156,26 @@ impl Opened {
     }
 }
 
-/// The tokens of a text round the first that cannot stand.
+/// The tokens of a text around the first that cannot be there.
 #[derive(Clone, Copy)]
 pub struct Around<'a> {
-    text: &'a [u8],
-    tokens: &'a [Token],
-    /// The place of the token that cannot stand; the number of tokens where the source ends too early.
-    place: usize,
+    pub text: &'a [u8],
+    pub tokens: &'a [Token],
+    /// The place of the token that cannot be there; the number of tokens if the source ends too early.
+    pub place: usize,
     /// The place of the first token of its statement or item.
-    first: usize,
-    /// Whether it stands in a function.
+    pub first: usize,
+    /// Whether it is in a function.
     pub is_inside: bool,
     /// The innermost bracket that is open there.
     pub open: Option<Token>,
-    /// Whether the brackets right behind the first token of the statement end right before it.
+    /// Whether the brackets right after the first token of the statement end right before it.
     is_headed: bool,
+    /// The place of the innermost `cilk_for` around it.
+    pub loop_around: Option<usize>,
 }
 
-/// The text of a token.
+/// Returns the text of a token.
 pub fn word_of<'a>(text: &'a [u8], token: Token) -> Word<'a> {
     let end = (token.end as usize).min(text.len());
     let start = (token.start as usize).min(end);
@@ -175,7 +195,7 @@ fn is_among(word: Word<'_>, words: &[&str]) -> bool {
 }
 
 impl<'a> Around<'a> {
-    /// Round the token at this place.
+    /// Returns the tokens around the one at this place.
     pub fn new(
         alloc: Global,
         text: &'a [u8],
@@ -190,7 +210,7 @@ impl<'a> Around<'a> {
         Ok(Around::behind(text, tokens, &opened))
     }
 
-    /// Round the token behind those which were told.
+    /// Returns the tokens around the one after those that were added.
     pub fn behind(text: &'a [u8], tokens: &'a [Token], opened: &Opened) -> Around<'a> {
         Around {
             text,
@@ -200,15 +220,16 @@ impl<'a> Around<'a> {
             is_inside: opened.braces > 0,
             open: opened.innermost(),
             is_headed: opened.is_headed,
+            loop_around: opened.loop_around(),
         }
     }
 
-    /// Whether it is the first of its statement.
+    /// Returns whether the token is the first of its statement.
     pub fn is_at_front(&self) -> bool {
         self.place == self.first
     }
 
-    /// Whether it stands where the block of an `if`, an `else` or a `while` begins, and is no brace.
+    /// Returns whether the token is where the block of an `if`, an `else` or a `while` begins, and is not a brace.
     pub fn is_bare(&self) -> bool {
         let Some(found) = self.found() else {
             return false;
@@ -223,27 +244,27 @@ impl<'a> Around<'a> {
         }
     }
 
-    /// The token that cannot stand, if the source does not end there.
+    /// Returns the token that cannot be there, if the source does not end there.
     pub fn found(&self) -> Option<Token> {
         self.at(self.place)
     }
 
-    /// The token so many places before it.
+    /// Returns the token at a distance before it.
     pub fn before(&self, back: usize) -> Option<Token> {
         self.at(self.place.checked_sub(back)?)
     }
 
-    /// The first token of its statement.
+    /// Returns the first token of its statement.
     pub fn front(&self) -> Option<Token> {
         self.at(self.first)
     }
 
-    // The token at a place.
-    fn at(&self, place: usize) -> Option<Token> {
+    /// Returns the token at a place.
+    pub fn at(&self, place: usize) -> Option<Token> {
         self.tokens.get(place).copied()
     }
 
-    /// The text of a token that is a name which is declared nowhere.
+    /// Returns the text of a token that is a name without a declaration.
     pub fn unknown(&self, token: Option<Token>) -> Option<Word<'a>> {
         let token = token?;
         let name = self.word(token);
@@ -253,77 +274,154 @@ impl<'a> Around<'a> {
         Some(name)
     }
 
-    /// The text of a token.
+    /// Returns the text of a token.
     pub fn word(&self, token: Token) -> Word<'a> {
         word_of(self.text, token)
     }
 
-    // Whether the token at a place is what a word of a pattern stands for.
-    fn is_at(&self, place: usize, pattern: &str) -> bool {
+    // The place after these types of C and words before them, if there is a type.
+    fn after_types(&self, place: usize) -> Option<usize> {
+        let mut found = None;
+        for at in place..self.tokens.len().min(place.saturating_add(MOST_TYPES)) {
+            let token = self.at(at)?;
+            let word = self.word(token);
+            if is_among(word, TYPES) || (token.kind == Kind::Int && found.is_some()) {
+                found = Some(at.saturating_add(1));
+            } else if !is_among(word, STORAGE) {
+                return found;
+            }
+        }
+        found
+    }
+
+    /// Returns whether the token at a place is a type of C or a word before one.
+    pub fn is_like_type(&self, place: usize) -> bool {
+        self.is_at(place, b"type") || self.is_at(place, b"storage")
+    }
+
+    /// Returns the place after the parenthesis that closes the one at a place, if it is closed in its statement.
+    pub fn after_group(&self, place: usize) -> Option<usize> {
+        if self.at(place)?.kind != Kind::LeftParen {
+            return None;
+        }
+        let mut depth: usize = 0;
+        for at in place..self.tokens.len() {
+            match self.at(at)?.kind {
+                Kind::LeftParen => depth = depth.saturating_add(1),
+                Kind::RightParen if depth > 1 => depth -= 1,
+                Kind::RightParen => return Some(at.saturating_add(1)),
+                Kind::Semicolon | Kind::LeftBrace | Kind::RightBrace => return None,
+                _ => {}
+            }
+        }
+        None
+    }
+
+    // Whether the token at a place is what a word of a pattern denotes.
+    fn is_at(&self, place: usize, pattern: &[u8]) -> bool {
         let Some(token) = self.at(place) else {
             return false;
         };
         let word = self.word(token);
         match pattern {
-            "" => true,
-            "first" => place == self.first,
-            "x" => token.kind == Kind::Name,
-            "1" => matches!(token.kind, Kind::Number(_)),
-            "operator" => is_among(word, OPERATORS),
-            "type" => is_among(word, TYPES),
-            "storage" => is_among(word, STORAGE),
-            _ => word.is(pattern.as_bytes()),
+            b"?" => true,
+            b"first" => place == self.first,
+            b"x" => token.kind == Kind::Name,
+            b"1" => matches!(token.kind, Kind::Number(_)),
+            b"operator" => is_among(word, OPERATORS),
+            b"keyword" => is_among(word, KEYWORDS),
+            b"type" => is_among(word, TYPES),
+            b"storage" => is_among(word, STORAGE),
+            b"library" => self.advice(token).is_some(),
+            b"outer" => self.is_outer(token),
+            b"total" => self.is_total(token),
+            _ => word.is(pattern),
         }
     }
 
-    // Whether the tokens from a place on are what a pattern stands for.
-    fn are_from(&self, place: usize, pattern: &[&str]) -> bool {
-        let mut at = place;
-        for word in pattern {
-            if !self.is_at(at, word) {
-                return false;
-            }
-            at = at.saturating_add(1);
+    /// Returns what to write instead of a name of a library, unless the source declares it.
+    pub fn advice(&self, token: Token) -> Option<&'static str> {
+        if token.kind != Kind::Name {
+            return None;
         }
-        true
+        let says = advice_for(self.word(token))?;
+        if self.tokens.len() > MOST_SEARCHED || self.unknown(Some(token)).is_none() {
+            return None;
+        }
+        Some(says)
     }
 
-    /// Whether the statement begins by `front`, the tokens right before the one that cannot stand are `before`, and those from
-    /// it on `from`.
-    pub fn is_like(&self, front: &[&str], before: &[&str], from: &[&str]) -> bool {
-        let Some(start) = self.place.checked_sub(before.len()) else {
+    // Whether a token is a name from outside of the `cilk_for` around it.
+    fn is_outer(&self, token: Token) -> bool {
+        let Some(start) = self.loop_around else {
             return false;
         };
-        self.are_from(self.first, front)
-            && self.are_from(start, before)
-            && self.are_from(self.place, from)
+        let inner = self.tokens.get(start..self.place).unwrap_or(&[]);
+        inner.len() <= MOST_SEARCHED
+            && token.kind == Kind::Name
+            && !is_declared(self.text, inner, self.word(token))
     }
 
-    // The token that a mark in a text stands for: `^` for the first of the statement, `&` for the one behind it, `+` for the one behind the one that
-    // cannot stand, and a digit for the one so many places before it.
-    fn marked(&self, mark: u8) -> Option<Token> {
-        match mark {
-            b'^' => self.front(),
-            b'&' => self.at(self.first.saturating_add(1)),
-            b'+' => self.at(self.place.saturating_add(1)),
-            _ => self.before(mark.wrapping_sub(b'0') as usize),
+    // Whether a token is the name of a reducer.
+    fn is_total(&self, token: Token) -> bool {
+        token.kind == Kind::Name
+            && self.tokens.len() <= MOST_SEARCHED
+            && is_reducer(self.text, self.tokens, self.word(token))
+    }
+
+    // The place after the token or tokens at a place that a word of a pattern denotes, if they are there.
+    fn after(&self, place: Option<usize>, pattern: &[u8]) -> Option<usize> {
+        let place = place?;
+        match pattern {
+            b"(..)" => self.after_group(place),
+            b"type" => self.after_types(place),
+            _ if self.is_at(place, pattern) => Some(place.saturating_add(1)),
+            _ => None,
         }
+    }
+
+    // Whether the tokens from a place on are what a pattern denotes.
+    fn are_from(&self, place: usize, pattern: &str) -> bool {
+        let words = pattern.as_bytes();
+        if words.is_empty() {
+            return true;
+        }
+        let mut at = Some(place);
+        let mut start = 0;
+        for end in 0..words.len() {
+            if words[end] == b' ' {
+                at = self.after(at, words.get(start..end).unwrap_or(&[]));
+                if at.is_none() {
+                    return false;
+                }
+                start = end.saturating_add(1);
+            }
+        }
+        self.after(at, words.get(start..).unwrap_or(&[])).is_some()
+    }
+
+    /// Returns whether the statement begins with `front`, the tokens right before the one that cannot be there are `before`, and
+    /// those from it on `from`.
+    pub fn is_like(&self, front: &str, before: &str, from: &str) -> bool {
+        let Some(start) = self.place.checked_sub(count_words(before)) else {
+            return false;
+        };
+        self.are_from(self.place, from)
+            && self.are_from(start, before)
+            && self.are_from(self.first, front)
     }
 }
 
-/// The words of tokens and, for the mark `{`, the line of the open bracket.
-impl Marks for Around<'_> {
-    fn write_mark<W: fmt::Write>(&self, f: &mut fmt::Formatter<W>, mark: u8) -> fmt::Result {
-        if mark == b'{' {
-            let line = self.open.map(|token| token.line).unwrap_or(1);
-            return write!(f, "{line}");
-        }
-        match self.marked(mark) {
-            Some(token) => {
-                let word = self.word(token);
-                write!(f, "{word}")
-            }
-            None => Ok(()),
+// The number of words of a pattern.
+fn count_words(pattern: &str) -> usize {
+    if pattern.is_empty() {
+        return 0;
+    }
+    let mut count: usize = 1;
+    for byte in pattern.as_bytes() {
+        if *byte == b' ' {
+            count = count.saturating_add(1);
         }
     }
+    count
 }

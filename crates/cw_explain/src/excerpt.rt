@@ -6,10 +6,10 @@ ghost use Rattle.cw_explain.specs.Lines.{after_line, first_line, line_text};
 use crate::word::Shown;
 use std::alloc::AllocError;
 
-/// The most columns of a line, with its number in front and `..` behind it.
+/// The maximum number of columns of a line, with its number before it and `..` after it.
 const MOST_COLUMNS: usize = 160;
 
-/// The text of a line of a source, counted from 1, without its line feed; empty where there is no such line.
+/// Returns the text of a line of a source, counted from 1, without its line feed; empty if there is no such line.
 pub fn line_of(source: &[u8], line: u32) -> &[u8]
     ensures { result.now ≡ line_text line source.now }
 {
@@ -20,8 +20,8 @@ pub fn line_of(source: &[u8], line: u32) -> &[u8]
     first_line(rest)
 }
 
-// The first line of a text, without its line feed.
-fn first_line(text: &[u8]) -> &[u8]
+/// Returns the first line of a text, without its line feed.
+pub fn first_line(text: &[u8]) -> &[u8]
     ensures { result.now ≡ first_line text.now }
 {
     for i in 0..text.len() {
@@ -60,7 +60,7 @@ fn is_space(byte: u8) -> bool {
     byte == b' ' || byte == b'\t' || byte == b'\r'
 }
 
-// How many digits a number has.
+// The number of digits of a number.
 fn digits(number: u32) -> usize {
     match number {
         0..=9 => 1,
@@ -74,24 +74,78 @@ fn digits(number: u32) -> usize {
     }
 }
 
-/// Adds these lines of the source, each once, the least first, with their numbers before them.
-pub fn add_lines(
-    out: &mut String,
-    source: &[u8],
-    one: u32,
-    other: Option<u32>,
-) -> Result<(), AllocError> {
-    let other = other.unwrap_or(one);
-    let first = one.min(other);
-    let last = one.max(other);
-    add_line(out, source, first, digits(last))?;
-    if first < last {
-        add_line(out, source, last, digits(last))?;
+/// Returns the number of bytes between the start of a line and a place in it.
+pub fn column_of(source: &[u8], place: usize) -> usize {
+    let mut column: usize = 0;
+    for byte in source.get(..place).unwrap_or(source) {
+        column = if *byte == b'\n' {
+            0
+        } else {
+            column.saturating_add(1)
+        };
+    }
+    column
+}
+
+/// The lines that an explanation shows.
+#[derive(Clone, Copy)]
+pub struct Lines {
+    /// The line that has the error.
+    pub line: u32,
+    /// The other line that matters, if there is one.
+    pub other: Option<u32>,
+    /// The number of bytes of the line before the error, if it is known.
+    pub before: Option<usize>,
+}
+
+/// Adds these lines of the source, each once, the least first, with their numbers before them, and a caret below the error.
+pub fn add_lines(out: &mut String, source: &[u8], lines: Lines) -> Result<(), AllocError> {
+    let other = lines.other.unwrap_or(lines.line);
+    let columns = digits(lines.line.max(other));
+    if other < lines.line {
+        add_line(out, source, other, columns)?;
+    }
+    add_line(out, source, lines.line, columns)?;
+    if let Some(before) = lines.before {
+        add_caret(out, line_of(source, lines.line), before, columns)?;
+    }
+    if other > lines.line {
+        add_line(out, source, other, columns)?;
     }
     Ok(())
 }
 
-// Adds a line of the source, its number in so many columns.
+// The number of columns of a line whose number takes some.
+fn columns_beside(columns: usize) -> usize {
+    MOST_COLUMNS.saturating_sub(columns).saturating_sub(7)
+}
+
+// Adds a caret below a line, after its first bytes, if the line is shown that far.
+fn add_caret(
+    out: &mut String,
+    text: &[u8],
+    before: usize,
+    columns: usize,
+) -> Result<(), AllocError> {
+    let before = Shown {
+        text: text.get(..before).unwrap_or(text),
+        columns: columns_beside(columns),
+    };
+    let width = before.width();
+    if width >= before.columns {
+        return Ok(());
+    }
+    for _ in 0..columns {
+        out.push(' ')?;
+    }
+    out.push_str("   | ")?;
+    for _ in 0..width {
+        out.push(' ')?;
+    }
+    out.push_str("^\n")
+}
+
+// Adds a line of the source, with its number in this number of columns.
 fn add_line(out: &mut String, source: &[u8], line: u32, columns: usize) -> Result<(), AllocError> {
     let text = trimmed(line_of(source, line));
     if text.is_empty() {
@@ -102,7 +156,7 @@ fn add_line(out: &mut String, source: &[u8], line: u32, columns: usize) -> Resul
     }
     let shown = Shown {
         text,
-        columns: MOST_COLUMNS.saturating_sub(columns).saturating_sub(7),
+        columns: columns_beside(columns),
     };
     write!(out, "  {line} | {shown}\n")?;
     Ok(())

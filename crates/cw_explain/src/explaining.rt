@@ -3,17 +3,16 @@
 ghost use Rattle.std.specs.Prelude.{IfOk};
 ghost use Rattle.cw_model.specs.Tokens.{IsTokenCut};
 
-use crate::excerpt::add_lines;
+use crate::calling::Text;
+use crate::excerpt::{Lines, add_lines, column_of, line_of};
 use crate::further::{add_refusals, add_text, add_tokens};
 use crate::hinting::{closed_return, hint_in, near_main};
 use crate::lexical::OfText;
 use crate::limits;
 use crate::others::{Named, of_run, parameters_of_main};
-use crate::owning::Text;
 use crate::refusals::{OfOwnership, OfTypes, Refusals};
 use crate::traps::trapped;
 use crate::unparsed::first_unparsed;
-use crate::words::BYTES;
 use cw_gen::excess_of;
 use cw_lex::{Uncut, first_uncut, lex};
 use cw_loops::lower;
@@ -28,25 +27,25 @@ use cw_types::{IllTyped, check, ill_typed, too_large};
 use std::alloc::{AllocError, Global};
 use std::fmt;
 
-/// What is said where it is not known which rule.
-const BROKEN: &str = "a rule is broken here";
+/// The text if the rule is not known.
+const BROKEN: &str = "this line breaks a rule";
 
-/// What is refused: a source, with the words that it was run with.
+/// A source that is rejected, with the words that it was run with.
 #[derive(Clone, Copy)]
 pub struct Refused<'a> {
     /// The path of the source; empty for standard input.
     pub file: &'a str,
-    /// The bytes that were read of it.
+    /// The bytes that were read from it.
     pub bytes: &'a [u8],
-    /// How many arguments are given.
+    /// The number of arguments that are given.
     pub args: usize,
-    /// The greatest cost of the run in instructions.
+    /// The maximum cost of the run in instructions.
     pub limit: u64,
-    /// The most strands of a run that a schedule is made of.
+    /// The maximum number of strands of a schedule.
     pub strands: u64,
 }
 
-/// What is told of: a line of a source.
+/// The line of a source that is explained.
 #[derive(Clone, Copy)]
 pub struct Subject<'a> {
     pub file: Named<'a>,
@@ -65,19 +64,24 @@ impl<'a> Refused<'a> {
     }
 }
 
-/// Why a source is refused with this fault, or its run: the rule that is broken, in words, with its names, on one line that begins
-/// with the source and its line, and below it the lines of the source that matter, with their numbers. Behind that what else the
-/// stage refuses, a line for each line of the source, rising: twenty lines at most with the first, and about 4 KB. Each line ends
-/// with a line feed.
+/// Explains why a source, or its run, has this fault.
 ///
-/// Nothing is told of want of memory, nor of code that the verifier refuses. `Memory` where memory runs out.
+/// Returns the rule that is broken and what to write instead, on one line that begins with the source and its line; then the
+/// lines of the source that matter, with their numbers and a caret if the column is known; then the other lines that the stage
+/// rejects, in order, with their reasons: at most fifty with the first (twenty for names, types and ownership) and their
+/// number, with at most 4 KiB for each ten. Each line ends with a line feed. The text is empty if memory ran out or the
+/// verifier rejected code.
+///
+/// # Errors
+///
+/// `Memory` if memory runs out.
 pub fn explain(alloc: Global, refused: &Refused<'_>, fault: &Fault) -> Result<String, Fault> {
     let mut out = String::new(alloc);
     add_reason(alloc, &mut out, refused, fault)?;
     Ok(out)
 }
 
-// Adds why a source is refused with this fault, or its run.
+// Adds why a source, or its run, has this fault.
 fn add_reason(
     alloc: Global,
     out: &mut String,
@@ -96,7 +100,7 @@ fn add_reason(
     }
 }
 
-// Adds the source and a line of it, as editors read it.
+// Adds the source and a line of it, in the form that editors read.
 fn add_place(out: &mut String, file: Named<'_>, line: u32) -> Result<(), Fault> {
     write!(out, "{file}:{line}: ")?;
     Ok(())
@@ -107,20 +111,37 @@ fn add_rule<D: fmt::Display>(
     out: &mut String,
     subject: &Subject<'_>,
     rule: &D,
-    other_line: Option<u32>,
+    other: Option<u32>,
+) -> Result<(), Fault> {
+    add_rule_at(out, subject, rule, other, None)
+}
+
+// Adds the rule that is broken, the lines that matter, and a caret after the first bytes of the line.
+fn add_rule_at<D: fmt::Display>(
+    out: &mut String,
+    subject: &Subject<'_>,
+    rule: &D,
+    other: Option<u32>,
+    before: Option<usize>,
 ) -> Result<(), Fault> {
     write!(out, "{rule}\n")?;
-    add_lines(out, subject.bytes, subject.line, other_line)?;
+    let line = subject.line;
+    let lines = Lines {
+        line,
+        other,
+        before,
+    };
+    add_lines(out, subject.bytes, lines)?;
     Ok(())
 }
 
-// Of a trap.
+// Explains a trap.
 fn of_trap(out: &mut String, subject: &Subject<'_>, code: Trap) -> Result<(), Fault> {
     add_place(out, subject.file, subject.line)?;
     add_rule(out, subject, &trapped(code), None)
 }
 
-// Of the arguments of main.
+// Explains a wrong number of arguments of main.
 fn of_arguments(alloc: Global, out: &mut String, refused: &Refused<'_>) -> Result<(), Fault> {
     let (_source, tokens) = tokens_of(alloc, refused.bytes)?;
     if let Some((count, line)) = parameters_of_main(refused.bytes, tokens.as_slice()) {
@@ -128,13 +149,13 @@ fn of_arguments(alloc: Global, out: &mut String, refused: &Refused<'_>) -> Resul
         add_place(out, Named { path: refused.file }, line)?;
         write!(
             out,
-            "main has parameters: {count}, and arguments are given behind the source: {given}\n"
+            "wrong number of arguments: main takes {count}, and {given} follow the source\n"
         )?;
     }
     Ok(())
 }
 
-// Of bytes that are not cut into tokens.
+// Explains bytes that are not cut into tokens.
 fn of_text(out: &mut String, subject: &Subject<'_>) -> Result<(), Fault> {
     add_place(out, subject.file, subject.line)?;
     match first_uncut(subject.bytes) {
@@ -144,29 +165,21 @@ fn of_text(out: &mut String, subject: &Subject<'_>) -> Result<(), Fault> {
     add_text(out, subject)
 }
 
-// Adds why bytes are not cut into tokens, and the line that matters, unless they are too many.
+// Adds why bytes are not cut into tokens, and the line that matters, unless there are too many bytes.
 fn add_uncut(out: &mut String, bytes: &[u8], found: &At<Uncut<'_>>) -> Result<(), Fault> {
     let reason = found.reason;
-    let said = OfText { reason };
-    write!(out, "{said}")?;
-    if let Uncut::NoToken(byte) = reason {
-        of_byte(out, byte)?;
-    }
-    out.push('\n')?;
+    let line = line_of(bytes, found.line);
+    let said = OfText { reason, line };
+    write!(out, "{said}\n")?;
     if let Uncut::TooLong(_) = reason {
         return Ok(());
     }
-    add_lines(out, bytes, found.line, None)?;
-    Ok(())
-}
-
-// What C writes with a byte that starts no token.
-fn of_byte(out: &mut String, byte: u8) -> Result<(), Fault> {
-    for (mark, says) in BYTES {
-        if *mark == byte {
-            write!(out, "{says}")?;
-        }
-    }
+    let lines = Lines {
+        line: found.line,
+        other: None,
+        before: said.before(),
+    };
+    add_lines(out, bytes, lines)?;
     Ok(())
 }
 
@@ -179,19 +192,24 @@ fn tokens_of(alloc: Global, bytes: &[u8]) -> Result<(Source, Vec<Token>), Fault>
     Ok((source, tokens))
 }
 
-// Of the grammar.
+// Explains a syntax error.
 fn of_grammar(alloc: Global, out: &mut String, subject: &Subject<'_>) -> Result<(), Fault> {
     add_place(out, subject.file, subject.line)?;
     let (source, tokens) = tokens_of(alloc, subject.bytes)?;
     let tokens = tokens.as_slice();
     match first_unparsed(alloc, &source, subject.bytes, tokens)? {
-        Some(reason) => add_rule(out, subject, &reason, reason.other_line())?,
-        None => out.push_str("a token cannot stand here\n")?,
+        Some(reason) => {
+            let column = reason
+                .found()
+                .map(|token| column_of(subject.bytes, token.start as usize));
+            add_rule_at(out, subject, &reason, reason.other_line(), column)?;
+        }
+        None => out.push_str("unexpected token\n")?,
     }
     add_tokens(alloc, out, subject, tokens)
 }
 
-// Adds what the tokens say of a name behind the first reason of names and types, if something.
+// Adds what the tokens say about a name after the first reason of names and types, if anything.
 fn add_hint(
     alloc: Global,
     out: &mut String,
@@ -210,7 +228,7 @@ fn add_hint(
     Ok(())
 }
 
-// The line of a return inside of a block, where it is why a function in this line may end without one.
+// The line of a return in a block, if a function in this line may end without a return because of it.
 fn inside_of(
     alloc: Global,
     first: Option<At<IllTyped<'_>>>,
@@ -223,7 +241,7 @@ fn inside_of(
     }
 }
 
-// Of names and types.
+// Explains an error of names or types.
 fn of_types(alloc: Global, out: &mut String, subject: &Subject<'_>) -> Result<(), Fault> {
     add_place(out, subject.file, subject.line)?;
     let (source, tokens) = tokens_of(alloc, subject.bytes)?;
@@ -232,7 +250,11 @@ fn of_types(alloc: Global, out: &mut String, subject: &Subject<'_>) -> Result<()
     let told = ill_typed(alloc, &ast)?;
     let first = told.first();
     let inside = inside_of(alloc, first, tokens, subject.line)?;
-    let told = OfTypes { told, inside };
+    let text = Text {
+        bytes: subject.bytes,
+        tokens,
+    };
+    let told = OfTypes { told, inside, text };
     add_first(out, subject, &told)?;
     if let Some(at) = first {
         add_hint(alloc, out, subject, tokens, &at.reason)?;
@@ -240,7 +262,7 @@ fn of_types(alloc: Global, out: &mut String, subject: &Subject<'_>) -> Result<()
     add_refusals(out, subject.file, &told)
 }
 
-// Of ownership.
+// Explains an error of ownership.
 fn of_ownership(alloc: Global, out: &mut String, subject: &Subject<'_>) -> Result<(), Fault> {
     add_place(out, subject.file, subject.line)?;
     let bytes = subject.bytes;
@@ -267,7 +289,7 @@ fn add_first<R: Refusals>(out: &mut String, subject: &Subject<'_>, told: &R) -> 
     }
 }
 
-// Of limits: of the bytes, a name, the tokens, the program's parts, and its code, in this order.
+// Explains a limit: of the bytes, a name, the tokens, the program's parts, and its code, in this order.
 fn of_size(alloc: Global, out: &mut String, subject: &Subject<'_>) -> Result<(), Fault> {
     add_place(out, subject.file, subject.line)?;
     if let Some(found) = first_uncut(subject.bytes) {
@@ -281,7 +303,7 @@ fn of_size(alloc: Global, out: &mut String, subject: &Subject<'_>) -> Result<(),
     of_parts(alloc, out, subject, ast)
 }
 
-// Of parts, loops and code.
+// Explains a limit of parts, loops and code.
 fn of_parts(alloc: Global, out: &mut String, subject: &Subject<'_>, ast: Ast) -> Result<(), Fault> {
     let is_told = add_parts(alloc, out, subject, &ast)?;
     if is_told {
@@ -290,7 +312,7 @@ fn of_parts(alloc: Global, out: &mut String, subject: &Subject<'_>, ast: Ast) ->
     of_code(alloc, out, subject, ast)
 }
 
-// Adds the limit of parts that is passed, and says whether there is one.
+// Adds the limit of parts that is exceeded, and returns whether there is one.
 fn add_parts(
     alloc: Global,
     out: &mut String,
@@ -306,7 +328,7 @@ fn add_parts(
     }
 }
 
-// Of loops and code.
+// Explains a limit of loops and code.
 fn of_code(alloc: Global, out: &mut String, subject: &Subject<'_>, ast: Ast) -> Result<(), Fault> {
     let typed = check(alloc, ast)?;
     let owned = own(alloc, typed)?;

@@ -1,9 +1,9 @@
-//! The tokens that can stand somewhere, each by a word that spells it.
+//! The tokens that can follow, each as a word that spells it.
 
 use cw_model::token::Kind;
 
-/// All of them: names, numbers, the words of the language, and its symbols, where `*` stands for the operators between
-/// two operands; a `-` stands where a `!` or one of them does.
+/// All of them: names, numbers, keywords and symbols. `*` represents the operators between two operands; a `-` can be where
+/// a `!` or one of them can.
 pub static ALL: &[&str] = &[
     "x",
     "1",
@@ -44,7 +44,7 @@ pub static ALL: &[&str] = &[
     "!",
 ];
 
-/// What the tokens are called that a word of these spells.
+/// Returns the name of the tokens that one of these words spells.
 pub fn shown(word: &'static str) -> &'static str {
     match word {
         "x" => "a name",
@@ -55,7 +55,7 @@ pub fn shown(word: &'static str) -> &'static str {
     }
 }
 
-/// The word of the language that a token of this kind is, if it is one.
+/// Returns the keyword that a token of this kind is, if it is one.
 pub fn keyword(kind: Kind) -> Option<&'static str> {
     let word = match kind {
         Kind::Int => "int",
@@ -85,7 +85,7 @@ pub fn keyword(kind: Kind) -> Option<&'static str> {
     Some(word)
 }
 
-/// A text of a token of this kind, the same for all names and for all numbers.
+/// Returns a text of a token of this kind, one for all names and one for all numbers.
 pub fn spelling(kind: Kind) -> &'static str {
     match kind {
         Kind::Name => "x",

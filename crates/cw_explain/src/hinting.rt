@@ -1,48 +1,45 @@
-//! What the tokens say of a source whose names or types are refused, behind the rule.
+//! What the tokens say about a source whose names or types are rejected, after the rule.
 
+use crate::advice::advice_for;
 use crate::around::{Opened, word_of};
 use crate::near::{declared_behind, is_declared, is_near, nearest};
 use crate::word::Word;
-use crate::words::LIBRARY;
 use cw_model::token::{Kind, Token};
 use std::alloc::{AllocError, Global};
 use std::fmt;
 
-/// How many names of a line are looked at.
+/// The maximum number of names of a line that are read.
 const MOST_NAMES: usize = 16;
 
-/// The words that a name may be near to where a statement is complete.
+/// The words that a name may be near to if the statement is complete.
 static CALLED: &[&str] = &["print", "len", "return"];
 
-/// What tokens say of a name that is declared nowhere.
+/// What tokens say about a name that is not declared.
 #[derive(Clone, Copy)]
 pub enum Hint<'a> {
-    /// It is near to this name, which is known there.
+    /// It is near to this name, which is in scope there.
     Near(Word<'a>, Word<'a>),
-    /// It is near to this word of the language.
+    /// It is near to this keyword.
     Word(Word<'a>, &'static str),
-    /// It is a word of C, and this stands in its place.
-    Library(Word<'a>, &'static str),
 }
 
 impl fmt::Display for Hint<'_> {
     fn fmt<W: fmt::Write>(&self, f: &mut fmt::Formatter<W>) -> fmt::Result {
         match self {
-            Hint::Near(name, meant) => write!(f, "did you mean {meant} in place of {name}?"),
-            Hint::Word(name, word) => write!(f, "did you mean {word} in place of {name}?"),
-            Hint::Library(name, says) => write!(f, "in place of {name}: {says}"),
+            Hint::Near(name, meant) => write!(f, "did you mean {meant} instead of {name}?"),
+            Hint::Word(name, word) => write!(f, "did you mean {word} instead of {name}?"),
         }
     }
 }
 
-// A name that is declared, and in how many blocks inside one another.
+// A name that is declared, and the number of blocks around its declaration.
 #[derive(Clone, Copy)]
 struct Known<'a> {
     name: Word<'a>,
     level: usize,
 }
 
-/// The names that are known at a place of a source, those of functions and reducers that are declared behind it too.
+/// The names that are in scope at a place of a source, with those of functions and reducers that are declared after it.
 #[derive(Drop)]
 struct Scope<'a> {
     text: &'a [u8],
@@ -61,8 +58,8 @@ impl<'a> Scope<'a> {
         }
     }
 
-    // In how many blocks a name that is declared here stands: of a parameter, of the variable of a loop and of the parts of a cut,
-    // those of the block that follows.
+    // The number of blocks around a name that is declared here: for a parameter, the variable of a loop and the parts of a cut,
+    // with the block that follows.
     fn level(&self) -> usize {
         let braces = self.opened.braces();
         if self.declared > 1 || self.opened.is_in_brackets() {
@@ -71,7 +68,7 @@ impl<'a> Scope<'a> {
         braces
     }
 
-    // One token more; where `passed`, names of blocks stay as they are.
+    // Adds one token; if `passed`, names of blocks stay as they are.
     fn add(&mut self, token: Token, passed: bool) -> Result<(), AllocError> {
         let level = self.level();
         if self.declared > 0 && token.kind == Kind::Name && (level == 0 || !passed) {
@@ -86,13 +83,13 @@ impl<'a> Scope<'a> {
         Ok(())
     }
 
-    // A block ended: its names are known no longer.
+    // Ends a block: its names leave the scope.
     fn leave(&mut self) {
         let braces = self.opened.braces();
         self.known.retain(|known| known.level <= braces);
     }
 
-    // The first name that is known and near to this one.
+    // The first name that is in scope and near to this one.
     fn nearest(&self, name: Word<'a>) -> Option<Word<'a>> {
         for known in self.known.as_slice() {
             if is_near(known.name.text, name.text) {
@@ -103,7 +100,7 @@ impl<'a> Scope<'a> {
     }
 }
 
-// The names that are known at a token of a text.
+// The names that are in scope at a token of a text.
 fn scope_at<'a>(
     alloc: Global,
     text: &'a [u8],
@@ -117,17 +114,7 @@ fn scope_at<'a>(
     Ok(scope)
 }
 
-// What is said of a word of C.
-fn library(name: Word<'_>) -> Option<&'static str> {
-    for (word, says) in LIBRARY {
-        if name.is(word.as_bytes()) {
-            return Some(*says);
-        }
-    }
-    None
-}
-
-// What is said of a name that is declared nowhere.
+// The hint for a name that is not declared.
 fn hint_of<'a>(
     alloc: Global,
     text: &'a [u8],
@@ -135,8 +122,8 @@ fn hint_of<'a>(
     token: Token,
 ) -> Result<Option<Hint<'a>>, AllocError> {
     let name = word_of(text, token);
-    if let Some(says) = library(name) {
-        return Ok(Some(Hint::Library(name, says)));
+    if advice_for(name).is_some() {
+        return Ok(None);
     }
     let scope = scope_at(alloc, text, tokens, token)?;
     if let Some(meant) = scope.nearest(name) {
@@ -145,7 +132,7 @@ fn hint_of<'a>(
     Ok(nearest(name, CALLED).map(|word| Hint::Word(name, word)))
 }
 
-/// What is said of the first name in a line that is declared nowhere, if it is near to one that is known there, with that line.
+/// Returns a hint for the first name in a line that is not declared, if it is near to one that is in scope there, with that line.
 pub fn hint_in<'a>(
     alloc: Global,
     text: &'a [u8],
@@ -165,7 +152,7 @@ pub fn hint_in<'a>(
     Ok(None)
 }
 
-// Whether a function's name stands at a place: before a bracket, and right behind a type.
+// Whether the name of a function is at a place: before a bracket, and right after a type.
 fn is_function(tokens: &[Token], place: usize) -> bool {
     let behind = place.saturating_add(1);
     match (tokens.get(place.saturating_sub(1)), tokens.get(behind)) {
@@ -176,7 +163,7 @@ fn is_function(tokens: &[Token], place: usize) -> bool {
     }
 }
 
-/// What is said of the first function whose name is near to `main`, with its line.
+/// Returns a hint for the first function whose name is near to `main`, with its line.
 pub fn near_main<'a>(text: &'a [u8], tokens: &[Token]) -> Option<(Hint<'a>, u32)> {
     for place in 0..tokens.len() {
         let token = tokens[place];
@@ -190,8 +177,7 @@ pub fn near_main<'a>(text: &'a [u8], tokens: &[Token]) -> Option<(Hint<'a>, u32)
     None
 }
 
-/// The line of the first return of the function whose name stands outside of functions in this line that stands in a block which is
-/// left at its end only.
+/// Returns the line of the first return in a block that ends only at its end, of the function whose head is in this line.
 pub fn closed_return(
     alloc: Global,
     tokens: &[Token],
@@ -214,7 +200,7 @@ pub fn closed_return(
     Ok(None)
 }
 
-// Whether a name outside of functions is the one of a head of this line, or follows it.
+// Whether a name outside of functions belongs to a head in this line, or follows one.
 fn is_head(front: Option<Kind>, token: Token, line: u32, was: bool) -> bool {
     was || (token.line == line && front == Some(Kind::Int))
 }

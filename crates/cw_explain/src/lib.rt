@@ -1,20 +1,26 @@
-//! What is told of a source that is refused, or of its run that trapped, in plain words.
+//! Explains why a source is rejected, or why its run trapped, in plain words, with what to write instead.
 #![tactic(auto)]
 
+mod advice;
 mod around;
+mod calling;
 mod excerpt;
 mod explaining;
+mod foreign;
 mod further;
 mod grammar;
+mod habits;
 mod hinting;
 mod lexical;
 mod limits;
+mod marks;
 mod near;
 mod others;
 mod owning;
 mod phrase;
 mod refusals;
 mod shortened;
+mod tables;
 mod traps;
 mod typing;
 mod unparsed;
@@ -22,5 +28,7 @@ mod word;
 mod words;
 
 pub use explaining::{Refused, explain};
+pub use habits::Row;
 pub use others::{Named, explain_unread};
+pub use tables::{all_bytes, all_names, all_rows};
 pub use word::Word;

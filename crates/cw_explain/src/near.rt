@@ -1,10 +1,10 @@
-//! Names that are one edit away from what was meant.
+//! Names that are one edit away from others.
 
 use crate::around::word_of;
 use crate::word::Word;
 use cw_model::token::{Kind, Token};
 
-/// The least bytes of names that are compared.
+/// The minimum length of names that are compared, in bytes.
 const LEAST_BYTES: usize = 3;
 
 // The bytes of a text from a place on.
@@ -23,7 +23,7 @@ fn parting(one: &[u8], other: &[u8]) -> usize {
     common
 }
 
-// Whether two texts of one length differ in one byte, or in two that stand in each other's place.
+// Whether two texts of one length differ in one byte, or in two consecutive bytes that are swapped.
 fn is_turned(one: &[u8], other: &[u8], place: usize) -> bool {
     let behind = place.saturating_add(1);
     if from(one, behind) == from(other, behind) {
@@ -35,8 +35,8 @@ fn is_turned(one: &[u8], other: &[u8], place: usize) -> bool {
         && from(one, further) == from(other, further)
 }
 
-/// Whether one edit turns one name into the other: a byte more, less or another, or two that stand in each other's place. Names of
-/// fewer than three bytes are near to none.
+/// Returns whether one edit makes one name the other: a byte more, less or different, or two consecutive bytes swapped. Names
+/// of fewer than three bytes are near to none.
 pub fn is_near(one: &[u8], other: &[u8]) -> bool {
     if one.len() < LEAST_BYTES || other.len() < LEAST_BYTES || one == other {
         return false;
@@ -52,7 +52,7 @@ pub fn is_near(one: &[u8], other: &[u8]) -> bool {
     }
 }
 
-/// The first of these words that a name is near to.
+/// Returns the first of these words that a name is near to.
 pub fn nearest(name: Word<'_>, words: &[&'static str]) -> Option<&'static str> {
     for word in words {
         if is_near(name.text, word.as_bytes()) {
@@ -62,7 +62,8 @@ pub fn nearest(name: Word<'_>, words: &[&'static str]) -> Option<&'static str> {
     None
 }
 
-/// How many names are declared right behind a token of this kind, with commas between them, where so many were before it.
+/// Returns the number of names that are declared right after a token of this kind, with commas between them, from the number
+/// before it.
 pub fn declared_behind(before: u8, kind: Kind) -> u8 {
     match kind {
         Kind::Int | Kind::Void | Kind::Sum | Kind::Max => 1,
@@ -73,7 +74,7 @@ pub fn declared_behind(before: u8, kind: Kind) -> u8 {
     }
 }
 
-/// Whether a name is declared anywhere among these tokens.
+/// Returns whether a name is declared anywhere among these tokens.
 pub fn is_declared(text: &[u8], tokens: &[Token], name: Word<'_>) -> bool {
     let mut declared = 0;
     for token in tokens {
@@ -85,7 +86,20 @@ pub fn is_declared(text: &[u8], tokens: &[Token], name: Word<'_>) -> bool {
     false
 }
 
-/// Whether the function that a line stands in has a const parameter of this name.
+/// Returns whether a reducer of this name is declared among these tokens.
+pub fn is_reducer(text: &[u8], tokens: &[Token], name: Word<'_>) -> bool {
+    let mut last = None;
+    for token in tokens {
+        let is_next = matches!(last, Some(Kind::Sum) | Some(Kind::Max));
+        if is_next && token.kind == Kind::Name && word_of(text, *token).is(name.text) {
+            return true;
+        }
+        last = Some(token.kind);
+    }
+    false
+}
+
+/// Returns whether the function that contains a line has a const parameter of this name.
 pub fn is_const(text: &[u8], tokens: &[Token], name: Word<'_>, line: u32) -> bool {
     let mut braces: usize = 0;
     let mut found = false;

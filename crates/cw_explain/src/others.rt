@@ -1,4 +1,4 @@
-//! What is said of faults of a run, and of sources that cannot be read.
+//! Texts for faults of a run, and for sources that cannot be read.
 
 use crate::around::word_of;
 use crate::explaining::Refused;
@@ -10,10 +10,10 @@ use std::alloc::{AllocError, Global};
 use std::fmt;
 use std::io::ErrorKind;
 
-/// The most bytes of a path that are shown.
+/// The maximum number of bytes of a path that are shown.
 const MOST_BYTES: usize = 512;
 
-/// A source as it is named: by its path, and standard input as `<stdin>`. A byte that is not printable is shown as `?`.
+/// The name of a source: its path, or `<stdin>` for standard input. `?` replaces a byte that is not printable.
 #[derive(Clone, Copy)]
 pub struct Named<'a> {
     pub path: &'a str,
@@ -33,12 +33,12 @@ impl fmt::Display for Named<'_> {
     }
 }
 
-// A byte, or `?` where it is not printable.
+// A byte, or `?` if it is not printable.
 fn printable(byte: u8) -> u8 {
     if is_printable(byte) { byte } else { b'?' }
 }
 
-// Adds why a run has a fault that is told without a line; nothing of want of memory and of code that is refused.
+// Adds why a run has a fault without a line; nothing if memory ran out or the verifier rejected code.
 pub fn of_run(out: &mut String, refused: &Refused<'_>, fault: &Fault) -> Result<(), Fault> {
     let file = Named { path: refused.file };
     match fault {
@@ -46,26 +46,26 @@ pub fn of_run(out: &mut String, refused: &Refused<'_>, fault: &Fault) -> Result<
             let limit = refused.limit;
             write!(
                 out,
-                "{file}: the run costs more than its limit of {limit} instructions; by how much is not known: a while, a recursion or a loop of spawns may not end, or --limit N gives more, up to {MOST_LIMIT}\n"
+                "{file}: the run costs more than its limit of {limit} instructions: check that each while and each recursion ends, or raise the limit with --limit N, up to {MOST_LIMIT}\n"
             )?;
         }
         Fault::Strands(count) => {
             let most = refused.strands;
             write!(
                 out,
-                "{file}: the run has {count} strands, and a schedule is made of {most} at most; smaller arguments or coarser grains give fewer, and scale has no such limit\n"
+                "{file}: the run has {count} strands, but a schedule has at most {most}: use smaller arguments or coarser grains, or scale, which has no such limit\n"
             )?;
         }
         Fault::Write => write!(
             out,
-            "{file}: standard output took a part of the report, or nothing: the disk may be full, or the program that reads it has ended\n"
+            "{file}: standard output did not accept the whole report: the disk may be full, or the program that reads it may have ended\n"
         )?,
         _ => {}
     }
     Ok(())
 }
 
-/// The parameters of main among these tokens of a text, and its line.
+/// Returns the number of parameters of main among these tokens of a text, and its line.
 pub fn parameters_of_main(text: &[u8], tokens: &[Token]) -> Option<(usize, u32)> {
     let mut last = None;
     let mut head = None;
@@ -84,18 +84,17 @@ pub fn parameters_of_main(text: &[u8], tokens: &[Token]) -> Option<(usize, u32)>
     None
 }
 
-/// Why a source cannot be opened or read.
+/// Returns why a source cannot be opened or read.
 pub fn explain_unread(alloc: Global, path: &str, kind: ErrorKind) -> Result<String, AllocError> {
     let file = Named { path };
     let why = match kind {
-        ErrorKind::NotFound => "there is no such file",
-        ErrorKind::PermissionDenied => "the file may not be read by this user",
-        ErrorKind::IsADirectory => "it is a directory, and no file",
-        ErrorKind::NotADirectory => "a part of the path is no directory",
-        ErrorKind::FilesystemLoop => "the path leads back to itself by links",
-        ErrorKind::InvalidInput | ErrorKind::InvalidFilename =>
-            "the path is none that a file can have",
-        _ => "the system could not open or read it",
+        ErrorKind::NotFound => "no such file: check the path",
+        ErrorKind::PermissionDenied => "this user may not read the file",
+        ErrorKind::IsADirectory => "it is a directory: name a file in it",
+        ErrorKind::NotADirectory => "a part of the path is not a directory",
+        ErrorKind::FilesystemLoop => "the links in the path form a cycle",
+        ErrorKind::InvalidInput | ErrorKind::InvalidFilename => "no file can have this path",
+        _ => "the system cannot open or read it",
     };
     format!(in alloc; "{file}: {why}\n")
 }

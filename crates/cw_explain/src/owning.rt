@@ -1,24 +1,18 @@
 //! The rules of ownership that a line can break, in words.
 
+use crate::calling::Text;
+use crate::marks::fresh_name;
 use crate::near::is_const;
 use crate::phrase::{NO_NAME, Phrase};
 use crate::word::Word;
-use cw_model::token::Token;
 use cw_own::{Disowned, Holder, Start, Touch};
 use cw_tree::resolved::{Listed, Use};
 
-// How each turn gets what it writes.
+// What to write if an iteration writes other elements.
 const PARTS: &str =
-    "; where a turn writes more of it, halve the range by a function that cuts @a and spawns itself on the parts, in place of the loop, or let turns add to a reducer";
+    "; for other elements, write a function that cuts @a, spawns itself on one part and calls itself on the other, or add to a reducer";
 
-/// The text of a source, and its tokens.
-#[derive(Clone, Copy)]
-pub struct Text<'a> {
-    pub bytes: &'a [u8],
-    pub tokens: &'a [Token],
-}
-
-/// The other line that matters, if one does.
+/// Returns the other line that matters, if there is one.
 pub fn other_line(reason: &Disowned<'_>) -> Option<u32> {
     match reason {
         Disowned::Held(_, _, _, Some(start)) | Disowned::EndsHeld(_, _, Some(start)) => {
@@ -31,28 +25,33 @@ pub fn other_line(reason: &Disowned<'_>) -> Option<u32> {
     }
 }
 
-/// The rule that a line of a text breaks, in words.
+/// Returns the rule that a line of a text breaks, in words.
 pub fn phrase_of<'a>(text: &Text<'_>, line: u32, reason: &'a Disowned<'_>) -> Phrase<'a> {
     match reason {
         Disowned::Held(used, touch, holder, since) => {
-            held(name_of(used), *touch, *holder, line, *since)
+            let name = name_of(used);
+            if matches!(touch, Touch::Read) && text.is_length(line, name) {
+                return length(text, name, *holder, line, *since);
+            }
+            held(name, *touch, *holder, line, *since)
         }
-        Disowned::EndsHeld(used, holder, since) => ends(name_of(used), *holder, line, *since),
+        Disowned::EndsHeld(used, holder, since) => ends(name_of(used), *holder, *since),
         Disowned::GivenTwice(used, callee) => given_twice(name_of(used), callee_of(callee)),
         Disowned::GivenAndRead(used, callee) => given_and_read(name_of(used), callee_of(callee)),
         Disowned::OverTwice(used) => Phrase::named(
-            "@a is named twice in over: a loop takes an array once",
+            "over lists @a twice: list it once",
             name_of(used),
             0,
         ),
-        Disowned::OuterWritten(used, head) => outer_written(name_of(used), line, *head),
+        Disowned::OuterWritten(used, head) => outer_written(text, name_of(used), *head),
         Disowned::OuterArray(used, touch, head) => {
             let name = name_of(used);
             let is_const = is_const(text.bytes, text.tokens, name, line);
             outer_array(name, *touch, *head, is_const)
         }
         Disowned::OtherElement(used, touch, variable, head) => {
-            other_element(name_of(used), *touch, name_of(variable), *head)
+            let is_length = text.is_length(line, name_of(used));
+            other_element(name_of(used), *touch, name_of(variable), *head, is_length)
         }
     }
 }
@@ -67,80 +66,80 @@ fn callee_of(callee: &Listed) -> Word<'_> {
     Word::of(&callee.name)
 }
 
-// What is done with a name.
+// What the statement does with a name.
 fn done(touch: Touch) -> &'static str {
     match touch {
-        Touch::Read => "@a is read in line @1, and ",
-        Touch::Written => "@a is written in line @1, and ",
-        Touch::Passed => "@a is passed in line @1, and ",
-        Touch::Cut => "@a is cut in line @1, and ",
-        Touch::NamedInOver => "@a is named in over in line @1, and ",
+        Touch::Read => "this statement reads @a, but ",
+        Touch::Written => "this statement writes @a, but ",
+        Touch::Passed => "this statement passes @a, but ",
+        Touch::Cut => "this statement cuts @a, but ",
+        Touch::NamedInOver => "this loop lists @a in over, but ",
     }
 }
 
-// What has a name, since a line if that is known.
+// What holds a name, with its line if that is known.
 fn taker(holder: Holder, since: Option<Start>) -> &'static str {
     match (holder, since) {
         (Holder::Cut, Some(_)) => "the cut in line @2 ",
         (Holder::Cut, None) => "a cut ",
-        (_, Some(_)) => "the call spawned in line @2 ",
-        (_, None) => "a spawned call ",
+        (_, Some(_)) => "the spawn in line @2 ",
+        (_, None) => "a spawn ",
     }
 }
 
-// Until when it has it.
+// How and until when it holds the name.
 fn until(holder: Holder) -> &'static str {
     match holder {
-        Holder::Result => "gives its result at the next cilk_sync",
-        Holder::Argument => "has it until the next cilk_sync",
-        Holder::Reader => "reads it until the next cilk_sync",
-        Holder::Cut => "has it until its block ends: name its parts there",
+        Holder::Result => "assigns to @a at the next cilk_sync",
+        Holder::Argument => "holds @a until the next cilk_sync",
+        Holder::Reader => "reads @a until the next cilk_sync",
+        Holder::Cut => "holds @a until its block ends: use its parts there",
     }
 }
 
-// Where that cilk_sync stands, or which turn spawned, where it is told of a line.
+// Where that cilk_sync is, or which iteration spawned, relative to the line.
 fn beyond(line: u32, since: Option<Start>) -> &'static str {
     let Some(start) = since else {
         return "";
     };
     match (start.is_around, start.line > line) {
-        (true, true) => " outside of this block; a turn of the while before spawned it",
+        (true, true) => " outside of this block (in an earlier iteration of the while)",
         (true, false) => " outside of this block",
-        (false, true) => "; a turn of the while before spawned it",
+        (false, true) => " (in an earlier iteration of the while)",
         (false, false) => "",
     }
 }
 
-// What helps with a name that is touched while something has it.
+// What to write if a name is used while something holds it.
 fn remedy(touch: Touch, holder: Holder, line: u32, since: Option<Start>) -> &'static str {
     match (holder, touch) {
         (Holder::Cut, _) => "",
         (Holder::Argument, Touch::Passed) =>
-            "; calls that run side by side share no array: cut @a and pass its parts, pass it to const parameters where they only read it, or give one of them an array of its own and add the two up behind the cilk_sync",
+            ": write const before the parameter in both functions if they only read @a; otherwise write cut @a at k as l, r { .. } and pass l and r, give one call an array of its own, or write cilk_sync; between them",
         (Holder::Reader, Touch::Passed) =>
-            "; calls that run side by side may read one array, each as const, and none writes it meanwhile",
+            ": write const before this parameter, too, if the function only reads @a; otherwise write cilk_sync; before this statement",
         _ => sync_for(line, since),
     }
 }
 
-// Where a cilk_sync helps a line, if it is known since which line something has the name.
+// Where to write a cilk_sync, if it is known since which line something holds the name.
 fn sync_for(line: u32, since: Option<Start>) -> &'static str {
     let Some(start) = since else {
         return "";
     };
     if start.line > line {
-        return "; put one at the end of the turn";
+        return ": write cilk_sync; at the end of the body of the while";
     }
     if start.is_around {
-        return "; put one right before the block";
+        return ": write cilk_sync; before this block";
     }
     if start.line == line {
-        return "; put one at the end of the turn of a while around it, else between the two";
+        return ": write cilk_sync; after the spawn, or at the end of the body of the while around it";
     }
-    "; put one right before this statement"
+    ": write cilk_sync; before this statement"
 }
 
-// A line, and the one since which something is held; 0 where that is not known.
+// The line and the one since which something is held; 0 if that is not known.
 fn lines(line: u32, since: Option<Start>) -> [u64; 3] {
     let start = match since {
         Some(start) => start.line,
@@ -149,7 +148,7 @@ fn lines(line: u32, since: Option<Start>) -> [u64; 3] {
     [u64::from(line), u64::from(start), 0]
 }
 
-// A name that is touched while something has it.
+// A name that is used while something holds it.
 fn held<'a>(
     name: Word<'a>,
     touch: Touch,
@@ -171,84 +170,128 @@ fn held<'a>(
     }
 }
 
-// A name that is still held as its block ends, with the line that declares it.
-fn ends<'a>(name: Word<'a>, holder: Holder, line: u32, since: Option<Start>) -> Phrase<'a> {
+// An array of which only the length is read while something holds it.
+fn length<'a>(
+    text: &Text<'_>,
+    name: Word<'a>,
+    holder: Holder,
+    line: u32,
+    since: Option<Start>,
+) -> Phrase<'a> {
+    let remedy = match (holder, since) {
+        (Holder::Cut, _) => "",
+        (_, Some(_)) =>
+            ": write int @b = len(@a); before line @2, and @b here; a cilk_sync; before this statement is the slower way",
+        _ => ": write int @b = len(@a); before the spawn, and @b here",
+    };
+    let fresh = fresh_name(text.bytes, text.tokens);
     Phrase {
         pieces: [
-            "the block of @a, declared in line @1, ends, and ",
+            "this statement reads len(@a), but ",
             taker(holder, since),
             until(holder),
-            "; in a loop halve the range by spawned calls, or take a cilk_for; else put a cilk_sync before the end of the block",
-            "",
+            beyond(line, since),
+            remedy,
             "",
         ],
-        names: [name, NO_NAME],
+        names: [
+            name,
+            Word {
+                text: fresh.as_bytes(),
+            },
+        ],
         numbers: lines(line, since),
     }
 }
 
-// A call that is given an array twice.
+// A name that is still held as its block ends.
+fn ends<'a>(name: Word<'a>, holder: Holder, since: Option<Start>) -> Phrase<'a> {
+    Phrase {
+        pieces: [
+            "the block that declares @a ends while ",
+            taker(holder, since),
+            "still holds @a",
+            ": write cilk_sync; at the end of this block; for calls of a loop that run in parallel write a cilk_for, or a function that halves the range and spawns itself",
+            "",
+            "",
+        ],
+        names: [name, NO_NAME],
+        numbers: lines(0, since),
+    }
+}
+
+// A call that takes an array twice.
 fn given_twice<'a>(name: Word<'a>, callee: Word<'a>) -> Phrase<'a> {
     Phrase::of(
-        "@b is given @a twice: one array stands for two parameters only where both are const; put const before both where @b only reads, else cut @a and pass its parts",
+        "this call passes @a to two parameters of @b: write const before both parameters if @b only reads them; otherwise write cut @a at k as l, r { .. } and pass l and r",
         [name, callee],
         [0; 3],
     )
 }
 
-// A call that is given an array, and reads it besides.
+// A call that passes an array to a const parameter and to one that is not.
 fn given_and_read<'a>(name: Word<'a>, callee: Word<'a>) -> Phrase<'a> {
     Phrase::of(
-        "@b is given @a, and reads it as const besides: an array that a call may write stands once in it; copy it, or cut @a and pass its parts",
+        "this call passes @a to a parameter of @b that may be written and to a const one: copy @a into an array of its own, or write cut @a at k as l, r { .. } and pass l and r",
         [name, callee],
         [0; 3],
     )
 }
 
 // A loop's body that writes an integer from outside.
-fn outer_written(name: Word<'_>, line: u32, head: u32) -> Phrase<'_> {
+fn outer_written<'a>(text: &Text<'_>, name: Word<'a>, head: u32) -> Phrase<'a> {
+    let fresh = fresh_name(text.bytes, text.tokens);
     Phrase::of(
-        "@a is written in line @1, and the body of the cilk_for in line @2 may only read it: its turns run side by side; add to a reducer, or write to an element of an array in over(..); where each turn needs the value of the turn before, take a while",
-        [name, NO_NAME],
-        [u64::from(line), u64::from(head), 0],
+        "the iterations of the cilk_for in line @1 run in parallel and may not write @a: declare @a in its body; for a sum write reducer sum @b; outside of functions and @b += ..; here (max: reducer max @b; and @b max= ..;); if an iteration needs the one before it, write a while",
+        [
+            name,
+            Word {
+                text: fresh.as_bytes(),
+            },
+        ],
+        [u64::from(head), 0, 0],
     )
 }
 
-// A loop's body that touches an array from outside: one that is const stands in no over.
+// A loop's body that uses an array from outside: over does not list a const one.
 fn outer_array(name: Word<'_>, touch: Touch, head: u32, is_const: bool) -> Phrase<'_> {
-    let touches = if is_const {
-        "no const array"
-    } else {
-        "such an array only where over(@a) names it, and then only the element of its own turn"
-    };
     let remedy = match touch {
+        _ if is_const =>
+            "@a is const, and the cilk_for in line @1 may not use it: write a function that halves the range, spawns itself on one half and calls itself on the other, and passes @a to its const parameter",
         Touch::Read =>
-            "; where turns read all of it, halve the range by spawned calls that take @a as const, in place of the loop",
-        Touch::Written | Touch::Passed | Touch::Cut | Touch::NamedInOver => PARTS,
+            "the cilk_for in line @1 may not use @a: write over (@a) in its head to read the element of the loop variable; to read other elements, write a function that halves the range and spawns itself, with @a as a const parameter",
+        Touch::Written | Touch::Passed | Touch::Cut | Touch::NamedInOver =>
+            "the cilk_for in line @1 may not use @a: write over (@a) in its head, and use only the element of the loop variable",
+    };
+    let parts = match touch {
+        Touch::Read => "",
+        _ if is_const => "",
+        _ => PARTS,
     };
     Phrase {
-        pieces: [
-            "@a is from outside of the cilk_for in line @1: its body touches ",
-            touches,
-            remedy,
-            "",
-            "",
-            "",
-        ],
+        pieces: [remedy, parts, "", "", "", ""],
         names: [name, NO_NAME],
         numbers: [u64::from(head), 0, 0],
     }
 }
 
-// A loop's body that touches an array of the loop in another way than it may.
-fn other_element<'a>(name: Word<'a>, touch: Touch, variable: Word<'a>, head: u32) -> Phrase<'a> {
+// A loop's body that uses an array of the loop in another way than it may.
+fn other_element<'a>(
+    name: Word<'a>,
+    touch: Touch,
+    variable: Word<'a>,
+    head: u32,
+    is_length: bool,
+) -> Phrase<'a> {
     let remedy = match touch {
-        Touch::Read => "; before the loop copy what other turns need, its length to an integer",
+        _ if is_length => ": write int n = len(@a); before the loop, and n here",
+        Touch::Read =>
+            ": copy the other elements into a const array or integers before the loop, or write a function that halves the range and spawns itself",
         Touch::Written | Touch::Passed | Touch::Cut | Touch::NamedInOver => PARTS,
     };
     Phrase {
         pieces: [
-            "@a is an array of the cilk_for in line @1: its body names it only as @a[@b], the element of its own turn, and not in a further cilk_for",
+            "the cilk_for in line @1 has @a in over, so its body may only use @a[@b]",
             remedy,
             "",
             "",

@@ -3,12 +3,12 @@
 use crate::word::Word;
 use std::fmt;
 
-/// What stands in place of marks in a text.
+/// What replaces the marks in a text.
 pub trait Marks {
-    /// Writes what a mark stands for.
+    /// Writes what replaces a mark.
     fn write_mark<W: fmt::Write>(&self, f: &mut fmt::Formatter<W>, mark: u8) -> fmt::Result;
 
-    /// Writes a text, with what its marks stand for in their place, each behind an `@`.
+    /// Writes a text, and what replaces its marks: each is the byte after an `@`.
     fn write<W: fmt::Write>(&self, f: &mut fmt::Formatter<W>, says: &str) -> fmt::Result {
         let mut is_mark = false;
         for byte in says.as_bytes() {
@@ -29,8 +29,8 @@ pub trait Marks {
 /// No name.
 pub const NO_NAME: Word<'static> = Word { text: b"" };
 
-/// Pieces of a text, one behind the other, with what stands in place of their marks, each behind an `@`: `a` and `b` for
-/// names, `1`, `2` and `3` for numbers.
+/// Consecutive pieces of a text, with what replaces their marks, each after an `@`: `a` and `b` are names, `1`, `2` and `3`
+/// numbers.
 #[derive(Clone, Copy)]
 pub struct Phrase<'a> {
     pub pieces: [&'static str; 6],
@@ -39,7 +39,7 @@ pub struct Phrase<'a> {
 }
 
 impl<'a> Phrase<'a> {
-    /// One piece, with these names and numbers.
+    /// Returns one piece with these names and numbers.
     pub fn of(says: &'static str, names: [Word<'a>; 2], numbers: [u64; 3]) -> Phrase<'a> {
         Phrase {
             pieces: [says, "", "", "", "", ""],
@@ -48,17 +48,17 @@ impl<'a> Phrase<'a> {
         }
     }
 
-    /// One piece without marks.
+    /// Returns one piece without marks.
     pub fn plain(says: &'static str) -> Phrase<'a> {
         Phrase::of(says, [NO_NAME; 2], [0; 3])
     }
 
-    /// One piece with a name and a number.
+    /// Returns one piece with a name and a number.
     pub fn named(says: &'static str, name: Word<'a>, number: u64) -> Phrase<'a> {
         Phrase::of(says, [name, NO_NAME], [number, 0, 0])
     }
 
-    /// One piece with a number.
+    /// Returns one piece with a number.
     pub fn numbered(says: &'static str, number: u64) -> Phrase<'a> {
         Phrase::named(says, NO_NAME, number)
     }

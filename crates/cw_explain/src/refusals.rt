@@ -1,13 +1,15 @@
-//! What names and types refuse, or ownership, line by line.
+//! The lines that names and types reject, or ownership, with their reasons in words.
 
-use crate::owning::Text;
+use crate::calling::{Call, Text};
 use crate::phrase::Phrase;
+use crate::typing::Context;
+use crate::word::Word;
 use crate::{owning, typing};
 use cw_own::Disowned;
 use cw_reasons::Reasons;
 use cw_types::IllTyped;
 
-/// A line that is refused, with the rule that it breaks in words, and the other line that matters, if one does.
+/// A line that is rejected, with the rule that it breaks in words, and the other line that matters, if there is one.
 #[derive(Clone, Copy)]
 pub struct Refusal<'a> {
     pub line: u32,
@@ -15,34 +17,47 @@ pub struct Refusal<'a> {
     pub other_line: Option<u32>,
 }
 
-/// The lines that a stage refuses, the least of them, rising.
+/// The lines that a stage rejects, in order: the least of them.
 pub trait Refusals {
-    /// The line at a place, from 0, if there are so many.
+    /// Returns the line at a place, from 0, if there is one.
     fn at(&self, place: usize) -> Option<Refusal<'_>>;
 }
 
-/// What names and types refuse.
+/// The lines of a text that names and types reject.
 #[derive(Drop)]
 pub struct OfTypes<'a> {
     pub told: Reasons<IllTyped<'a>>,
-    /// Where the first line is that of a function which may end without a return: the line of a return of it, in a block that
-    /// is left at its end only.
+    /// The line of a return in a block that ends only at its end, if the first line is the head of a function that may end
+    /// without a return.
     pub inside: Option<u32>,
+    pub text: Text<'a>,
 }
 
-/// What ownership refuses, of a text.
+/// The lines of a text that ownership rejects.
 #[derive(Drop)]
 pub struct OfOwnership<'a> {
     pub told: Reasons<Disowned<'a>>,
     pub text: Text<'a>,
 }
 
-impl OfTypes<'_> {
-    // Whether what a line breaks is told with the first.
+impl<'a> OfTypes<'a> {
+    // Whether the first line's text also covers this one.
     fn is_told(&self, line: u32, reason: &IllTyped<'_>) -> bool {
         match (reason, self.inside) {
             (IllTyped::ReturnInside, Some(inside)) => inside == line,
             _ => false,
+        }
+    }
+
+    // What a line does with the name that it is rejected for.
+    fn call(&self, line: u32, reason: &IllTyped<'_>) -> Call<'a> {
+        match reason {
+            IllTyped::NotInteger(name, _, _) => self.text.use_of(line, Word::of(name)),
+            IllTyped::NotReducer(name, _) => self.text.outer(line, Word::of(name)),
+            IllTyped::ArgumentNotArray(place, name, _, _) => {
+                self.text.argument(line, Word::of(name), *place)
+            }
+            _ => Call::Other,
         }
     }
 }
@@ -51,11 +66,15 @@ impl Refusals for OfTypes<'_> {
     fn at(&self, place: usize) -> Option<Refusal<'_>> {
         let inside = if place == 0 { self.inside } else { None };
         match self.told.places.get(place) {
-            Some(Some(at)) if !self.is_told(at.line, &at.reason) => Some(Refusal {
-                line: at.line,
-                phrase: typing::phrase_of(&at.reason, inside),
-                other_line: typing::other_line(&at.reason).or(inside),
-            }),
+            Some(Some(at)) if !self.is_told(at.line, &at.reason) => {
+                let call = self.call(at.line, &at.reason);
+                let context = Context { inside, call };
+                Some(Refusal {
+                    line: at.line,
+                    phrase: typing::phrase_of(&at.reason, &context),
+                    other_line: typing::other_line(&at.reason).or(inside),
+                })
+            }
             _ => None,
         }
     }

@@ -1,13 +1,12 @@
-//! A source without what says nothing of how it can go on: complete statements and items, and which names, numbers and
-//! conditions stand in it. What is left has a few tokens for each open block, and those of the statement that is not
-//! complete.
+//! A source without the parts that do not affect what can follow: complete statements and items, and its names, numbers and
+//! conditions. The rest has a few tokens for each open block, and those of the incomplete statement.
 
 use crate::grammar::spelling;
 use cw_model::token::Kind;
 use std::alloc::{AllocError, Global};
 
-/// A block that is open: where its statement begins in the text, where the statements of the block do, and whether it is
-/// that of an `if`, behind which an `else` can stand.
+/// An open block: where its statement begins in the text, where the statements of the block begin, and whether it belongs to
+/// an `if`, which an `else` can follow.
 #[derive(Clone, Copy)]
 struct Block {
     start: usize,
@@ -20,16 +19,16 @@ struct Block {
 pub struct Shortened {
     text: Vec<u8>,
     blocks: Vec<Block>,
-    /// The first token of the statement that is not complete.
+    /// The first token of the incomplete statement.
     first: Option<Kind>,
-    /// How many parentheses are open in it.
+    /// The number of open parentheses in it.
     open: usize,
-    /// An `if` with its block stands at the end.
+    /// Whether an `if` with its block is at the end.
     behind_if: bool,
 }
 
 impl Shortened {
-    /// No token.
+    /// Returns no token.
     pub fn new(alloc: Global) -> Shortened {
         Shortened {
             text: Vec::new(alloc),
@@ -40,7 +39,7 @@ impl Shortened {
         }
     }
 
-    /// The text of what is left: the tokens, each with a space behind it.
+    /// Returns the text of the rest: the tokens, each followed by a space.
     pub fn text(&self) -> &[u8] {
         self.text.as_slice()
     }
@@ -53,7 +52,7 @@ impl Shortened {
         }
     }
 
-    // Takes the statement that is not complete away.
+    // Removes the incomplete statement.
     fn drop_statement(&mut self) {
         let begin = self.begin();
         self.text.truncate(begin);
@@ -61,7 +60,7 @@ impl Shortened {
         self.open = 0;
     }
 
-    /// One token more.
+    /// Adds one token.
     pub fn add(&mut self, kind: Kind) -> Result<(), AllocError> {
         if self.behind_if {
             self.behind_if = false;
@@ -78,14 +77,14 @@ impl Shortened {
         }
     }
 
-    // Takes an `if` away where no `else` follows it.
+    // Removes an `if` if no `else` follows it.
     fn leave_if(&mut self, kind: Kind) {
         if !matches!(kind, Kind::Else) {
             self.drop_statement();
         }
     }
 
-    // A token of the statement that is not complete.
+    // Adds a token of the incomplete statement.
     fn push(&mut self, kind: Kind) -> Result<(), AllocError> {
         self.first = self.first.or(Some(kind));
         match kind {
@@ -98,7 +97,7 @@ impl Shortened {
         Ok(())
     }
 
-    // The statement that is not complete opens a block.
+    // Opens a block of the incomplete statement.
     fn open_block(&mut self) -> Result<(), AllocError> {
         let first = self.first;
         self.drop_statement();
@@ -114,7 +113,7 @@ impl Shortened {
         Ok(())
     }
 
-    // The innermost block ends, and the statement with it; an `if` stays until it is known whether an `else` follows.
+    // Ends the innermost block and its statement; an `if` stays until it is known whether an `else` follows.
     fn close_block(&mut self) -> Result<(), AllocError> {
         let Some(block) = self.blocks.pop() else {
             return Ok(());
@@ -130,7 +129,7 @@ impl Shortened {
     }
 }
 
-// The shortest statement or item with a block that begins with this token, up to the block's statements.
+// The shortest statement or item with a block that begins with this token, up to the statements of the block.
 fn opening(first: Option<Kind>) -> &'static str {
     match first {
         Some(Kind::If) => "if (1) { ",

@@ -1,26 +1,31 @@
-//! What traps, by the number of the trap.
+//! The rule that a trap breaks, in words.
 
 use crate::phrase::Phrase;
 use cw_model::limits::{MOST_DEPTH, MOST_ELEMENTS, MOST_TURNS};
 use cw_model::trap::Trap;
 
-/// The rule that is broken at a trap, in words.
+/// Returns the rule that a trap breaks, in words.
 pub fn trapped(code: Trap) -> Phrase<'static> {
     match code {
         Trap::Overflow => Phrase::plain(
-            "the result of an operation is no integer of 64 bits: it is below -2^63 or above 2^63 - 1",
+            "overflow: the result of an operation is below -2^63 or above 2^63 - 1",
         ),
-        Trap::DivisionByZero => Phrase::plain("a division or a remainder by 0"),
+        Trap::DivisionByZero => Phrase::plain("division or remainder by 0: test the divisor first"),
         Trap::OutOfBounds => Phrase::plain(
-            "an index, the place of a cut or the range of a loop lies outside of its array",
+            "an index, the position of a cut or the range of a loop is outside its array: compare it with len(..) first",
         ),
         Trap::BadLength => Phrase::numbered(
-            "the length of an array is below 0 or above @1",
+            "the length of an array is below 0 or above @1: use a smaller one",
             MOST_ELEMENTS,
         ),
-        Trap::TooManyTurns => { Phrase::numbered("a cilk_for has more than @1 turns", MOST_TURNS) }
+        Trap::TooManyTurns => {
+            Phrase::numbered(
+                "a cilk_for has more than @1 iterations: divide its range",
+                MOST_TURNS,
+            )
+        }
         Trap::TooDeep => Phrase::numbered(
-            "more than @1 calls lie inside one another, that of main among them",
+            "more than @1 nested calls, main included: end the recursion earlier, or write a while",
             MOST_DEPTH as u64,
         ),
     }

@@ -1,5 +1,7 @@
 //! The rules of names and types that a line can break, in words.
 
+use crate::advice::advice_for;
+use crate::calling::Call;
 use crate::phrase::{NO_NAME, Phrase};
 use crate::word::Word;
 use cw_model::limits::MOST_GRAIN;
@@ -7,7 +9,16 @@ use cw_model::syntax::Reduction;
 use cw_tree::syntax::Name;
 use cw_types::{IllTyped, Other};
 
-/// The other line that matters, if one does.
+/// What the tokens say about a line that breaks a rule.
+#[derive(Clone, Copy)]
+pub struct Context<'a> {
+    /// The line of a return in a block that ends only at its end, if a function may end without a return because of it.
+    pub inside: Option<u32>,
+    /// The use of an array as an integer.
+    pub call: Call<'a>,
+}
+
+/// Returns the other line that matters, if there is one.
 pub fn other_line(reason: &IllTyped<'_>) -> Option<u32> {
     match reason {
         IllTyped::Repeated(_, line)
@@ -25,11 +36,17 @@ pub fn other_line(reason: &IllTyped<'_>) -> Option<u32> {
     }
 }
 
-/// The rule that a line breaks, in words. Where a function may end without a return, one of it may stand in this line inside
-/// of a block that is left at its end only.
-pub fn phrase_of<'a>(reason: &'a IllTyped<'_>, inside: Option<u32>) -> Phrase<'a> {
+/// Returns the rule that a line breaks, in words.
+pub fn phrase_of<'a>(reason: &'a IllTyped<'_>, context: &Context<'a>) -> Phrase<'a> {
     match reason {
-        IllTyped::MayNotReturn(name) => may_not_return(name, inside),
+        IllTyped::MayNotReturn(name) => may_not_return(name, context.inside),
+        IllTyped::ArgumentNotArray(place, name, param, _line) => {
+            argument(*place as u64, name, param, context)
+        }
+        IllTyped::NotInteger(name, other, line) => {
+            other_at(not_integer(*other, context.call), name, *other, *line)
+        }
+        IllTyped::NotReducer(name, how) => not_reducer(name, *how, context),
         _ => of_head(reason),
     }
 }
@@ -39,7 +56,7 @@ fn words_of(other: Other) -> Word<'static> {
     let text: &[u8] = match other {
         Other::Integer => b"an integer",
         Other::Array => b"an array",
-        Other::Const => b"an array that is only read",
+        Other::Const => b"a const array",
         Other::Function => b"a function",
         Other::Reducer => b"a reducer",
     };
@@ -51,7 +68,7 @@ fn plain<'a>(_reason: &'a IllTyped<'_>, says: &'static str) -> Phrase<'a> {
     Phrase::plain(says)
 }
 
-// A text with numbers alone.
+// A text with numbers only.
 fn numbered<'a>(
     _reason: &'a IllTyped<'_>,
     says: &'static str,
@@ -61,7 +78,7 @@ fn numbered<'a>(
     Phrase::of(says, [NO_NAME; 2], [first, second, 0])
 }
 
-// A text with a name alone.
+// A text with a name only.
 fn named<'a>(says: &'static str, name: &'a Name) -> Phrase<'a> {
     Phrase::named(says, Word::of(name), 0)
 }
@@ -80,131 +97,210 @@ fn other_at<'a>(says: &'static str, name: &'a Name, other: Other, line: u32) -> 
     )
 }
 
-// Of functions and reducers, else of what follows.
+// An argument that must be an array.
+fn argument<'a>(place: u64, name: &'a Name, param: &'a Name, context: &Context<'a>) -> Phrase<'a> {
+    let (says, array) = match context.call {
+        Call::Argument(array) => (
+            "argument @1 of @a must be an array name on its own; to pass a part, write cut @b at k as l, r { .. } and pass l or r; a function that only reads @b takes it as const, and the ends of a range",
+            array,
+        ),
+        _ => (
+            "argument @1 of @a must be an array name on its own, for its parameter @b[]",
+            Word::of(param),
+        ),
+    };
+    Phrase::of(says, [Word::of(name), array], [place, 0, 0])
+}
+
+// A name that is not a reducer.
+fn not_reducer<'a>(name: &'a Name, how: Reduction, context: &Context<'a>) -> Phrase<'a> {
+    if let Call::Outer(fresh) = context.call {
+        return Phrase::of(
+            outer_reducer(how),
+            [
+                Word::of(name),
+                Word {
+                    text: fresh.as_bytes(),
+                },
+            ],
+            [0; 3],
+        );
+    }
+    named(no_reducer(how), name)
+}
+
+// Functions and reducers, and then what follows.
 fn of_head<'a>(reason: &'a IllTyped<'_>) -> Phrase<'a> {
     match reason {
         IllTyped::NoMain => {
             plain(
                 reason,
-                "there is no function main: a run begins with int main(..)",
+                "the source has no function main: write int main(int n) { .. }, with an integer parameter for each argument",
             )
         }
-        IllTyped::MainGivesNothing => plain(reason, "main is void: it is int, and returns a value"),
+        IllTyped::MainGivesNothing => plain(reason, "main must return int, not void"),
         IllTyped::MainTakesArray(a) => {
-            named("main takes the array @a: its parameters are integers", a)
+            named(
+                "main takes integers only: declare the array @a in main, as int @a[n];",
+                a,
+            )
         }
         IllTyped::Repeated(name, line) => named_at(
-            "@a is the name of a function or reducer in line @1 already: their names differ",
+            "@a is already the name of a function or reducer (line @1): rename one of them",
             name,
             *line,
         ),
-        IllTyped::ParameterTwice(name) => named("two parameters are called @a", name),
+        IllTyped::ParameterTwice(name) => {
+            named("two parameters have the name @a: rename one of them", name)
+        }
         _ => of_name(reason),
     }
 }
 
-// Of a function that may end without a return.
+// A function that may end without a return.
 fn may_not_return(name: &Name, inside: Option<u32>) -> Phrase<'_> {
     match inside {
         Some(line) => named_at(
-            "@a is int, and its return in line @1 stands in a block that is left at its end only: assign to a name from outside, and return behind the block",
+            "@a must return an integer at its end, and the return in line @1 is in a block that has none: declare int r = 0; before that block, assign to r in it, and write return r; after it",
             name,
             line,
         ),
         None => named(
-            "@a is int, and its body may end without a return: its last statement is a return, or an if with else of which both blocks end so",
+            "@a may end without a return: make its last statement a return, or an if with else whose blocks both end with a return",
             name,
         ),
     }
 }
 
-// Of names in statements, else of what follows.
+// Names in statements, and then what follows.
 fn of_name<'a>(reason: &'a IllTyped<'_>) -> Phrase<'a> {
     match reason {
-        IllTyped::Unknown(name) => named(
-            "@a is not known here: a name is known from its declaration to the end of its block",
+        IllTyped::Unknown(name) => unknown(
+            "@a is not declared here: ",
+            "declare int @a = 0; before this statement, in this block or one around it",
             name,
-        ),
-        IllTyped::NotInteger(name, other, line) => other_at(
-            not_integer(*other),
-            name,
-            *other,
-            *line,
         ),
         IllTyped::NotArray(name, other, line) => other_at(
-            "an array must stand here, and @a is @b (line @1)",
+            "@a is @b (line @1), but an array is required here: declare int @a[n]; or rename one of them",
             name,
             *other,
             *line,
         ),
         IllTyped::OnlyRead(name, line) => named_at(
-            "@a in line @1 is const: it is read by @a[..] and len(@a), and passed to a const parameter; in place of a part pass the whole and a range",
+            "@a is const (line @1): delete const to write or cut it; a const array is read by @a[..] and len(@a), and passed whole to a const parameter, with the ends of a range",
             name,
             *line,
         ),
         IllTyped::Known(name, line) => named_at(
-            "@a is declared where the @a of line @1 is still known: take another name, or, to assign in a statement, leave out 'int'",
+            "@a is already declared in line @1: delete int to assign to it, or use another name",
             name,
             *line,
         ),
-        IllTyped::Global(name, other, line) => other_at(
-            "@a is the name of @b (line @1): no local name is spelled like it",
-            name,
-            *other,
-            *line,
-        ),
-        IllTyped::NotReducer(name, how) => named(no_reducer(*how), name),
+        IllTyped::Global(name, other, line) => {
+            other_at(
+                "@a is the name of @b (line @1): use another name",
+                name,
+                *other,
+                *line,
+            )
+        }
         IllTyped::ReducesOtherwise(name, how, line) => named_at(other_reducer(*how), name, *line),
         _ => of_call(reason),
     }
 }
 
-// Of a name that is no integer's.
-fn not_integer(other: Other) -> &'static str {
-    match other {
-        Other::Reducer =>
-            "an integer must stand here, and @a is @b (line @1): += and max= tell it values, and no statement reads it; the run writes it at its end",
-        _ => "an integer must stand here, and @a is @b (line @1)",
+// A name that is not declared.
+fn unknown<'a>(front: &'static str, says: &'static str, name: &'a Name) -> Phrase<'a> {
+    let name = Word::of(name);
+    let (front, says) = match advice_for(name) {
+        Some(advice) => ("there is no @a: ", advice),
+        None => (front, says),
+    };
+    Phrase {
+        pieces: [front, says, "", "", "", ""],
+        names: [name, NO_NAME],
+        numbers: [0; 3],
     }
 }
 
-// Of a name that is no reducer's.
+// A name that is not an integer's, by what the line does with it.
+fn not_integer(other: Other, call: Call<'_>) -> &'static str {
+    match (other, call) {
+        (Other::Reducer, _) =>
+            "@a is @b (line @1), and no statement reads it: delete the use; the run prints @a at its end. If the program needs the value, return it from functions or write it to arrays instead",
+        (Other::Array, Call::Returned) | (Other::Const, Call::Returned) =>
+            "@a is @b (line @1), and a function returns an integer: make it void, and let the caller pass the array, as int @a[]",
+        (Other::Array, Call::Copied) | (Other::Const, Call::Copied) =>
+            "@a is @b (line @1), and = assigns integers: copy each element, as in int i = 0; while (i < len(@a)) { b[i] = @a[i]; i = i + 1; }",
+        (Other::Array, Call::Target) | (Other::Const, Call::Target) =>
+            "@a is @b (line @1), and = assigns integers: copy each element, as in int i = 0; while (i < len(@a)) { @a[i] = ..; i = i + 1; }",
+        (Other::Array, _) | (Other::Const, _) =>
+            "@a is @b (line @1), but an integer is required here: write @a[i] for an element",
+        (Other::Function, _) =>
+            "@a is @b (line @1), but an integer is required here: write int r = 0; r = @a(..); and then r",
+        _ => "@a is @b (line @1), but an integer is required here",
+    }
+}
+
+// An integer that a loop updates like a reducer.
+fn outer_reducer(how: Reduction) -> &'static str {
+    match how {
+        Reduction::Sum =>
+            "@a is not a reducer: write reducer sum @b; outside of functions, and @b += .. here",
+        Reduction::Max =>
+            "@a is not a reducer: write reducer max @b; outside of functions, and @b max= .. here",
+    }
+}
+
+// A name that is not a reducer.
 fn no_reducer(how: Reduction) -> &'static str {
     match how {
         Reduction::Sum =>
-            "+= adds to a reducer, and @a is none: declare 'reducer sum @a;' outside of functions, or write @a = @a + ..",
+            "@a is not a reducer: write @a = @a + ..; or, for a sum over strands, declare reducer sum s; outside of functions and write s += ..;",
         Reduction::Max =>
-            "max= tells a reducer a value, and @a is none: declare 'reducer max @a;' outside of functions",
+            "@a is not a reducer: write if (@a < x) { @a = x; } or, for a maximum over strands, declare reducer max m; outside of functions and write m max= x;",
     }
 }
 
-// Of a reducer that reduces otherwise.
+// A reducer that reduces otherwise.
 fn other_reducer(how: Reduction) -> &'static str {
     match how {
-        Reduction::Sum =>
-            "+= adds to a reducer of sums, and @a keeps the greatest value that it is told (line @1): write @a max= ..",
-        Reduction::Max =>
-            "max= tells a value to a reducer that keeps the greatest, and @a adds up (line @1): write @a += ..",
+        Reduction::Sum => "@a is declared by reducer max (line @1): write @a max= ..",
+        Reduction::Max => "@a is declared by reducer sum (line @1): write @a += ..",
     }
 }
 
-// Of calls, else of what follows.
+// The number of arguments of a function.
+fn count(wanted: usize, given: usize) -> &'static str {
+    match (wanted, given) {
+        (1, 1) => "@a (line @1) takes @2 argument, but @3 is given",
+        (1, _) => "@a (line @1) takes @2 argument, but @3 are given",
+        (_, 1) => "@a (line @1) takes @2 arguments, but @3 is given",
+        _ => "@a (line @1) takes @2 arguments, but @3 are given",
+    }
+}
+
+// Calls, and then what follows.
 fn of_call<'a>(reason: &'a IllTyped<'_>) -> Phrase<'a> {
     match reason {
-        IllTyped::NoFunction(name) => named("there is no function @a", name),
-        IllTyped::CallsMain => plain(reason, "no statement calls main"),
+        IllTyped::NoFunction(name) => {
+            unknown(
+                "there is no function @a: ",
+                "define it, as int @a(..) { .. }",
+                name,
+            )
+        }
+        IllTyped::CallsMain => plain(
+            reason,
+            "no statement calls main: move its body into another function, and call that",
+        ),
         IllTyped::Count(name, given, wanted, line) => Phrase::of(
-            "@a in line @1 has @2 parameters, and the arguments are @3",
+            count(*wanted, *given),
             [Word::of(name), NO_NAME],
             [u64::from(*line), *wanted as u64, *given as u64],
         ),
-        IllTyped::ArgumentNotArray(place, name, param, line) => Phrase::of(
-            "argument @2 of @a is the name of an array alone: @b in line @1 is one",
-            [Word::of(name), Word::of(param)],
-            [u64::from(*line), *place as u64, 0],
-        ),
         IllTyped::GivesNothing(name, line) => named_at(
-            "@a in line @1 is void: it gives nothing to assign",
+            "@a (line @1) is void and returns nothing: write @a(..); or make it int",
             name,
             *line,
         ),
@@ -212,36 +308,48 @@ fn of_call<'a>(reason: &'a IllTyped<'_>) -> Phrase<'a> {
     }
 }
 
-// Of other statements.
+// Other statements.
 fn of_statement<'a>(reason: &'a IllTyped<'_>) -> Phrase<'a> {
     match reason {
         IllTyped::ReturnInside => plain(
             reason,
-            "no return stands inside of cilk_scope, cut, region or cilk_for: assign to a name from outside, and return behind the block",
+            "no return is allowed in cilk_scope, cut, region or cilk_for: declare int r = 0; before the block, assign to r in it, and write return r; after it",
         ),
-        IllTyped::ReturnsNothing => plain(reason, "this function is int: its return has a value"),
-        IllTyped::ReturnsValue => plain(reason, "this function is void: its return has no value"),
+        IllTyped::ReturnsNothing => {
+            plain(
+                reason,
+                "this function is int: write return with a value, as return 0;",
+            )
+        }
+        IllTyped::ReturnsValue => {
+            plain(
+                reason,
+                "this function is void: write return; or make the function int",
+            )
+        }
         IllTyped::NeverReached(line) => numbered(
             reason,
-            "what follows from line @1 on is never reached: this statement returns",
+            "this statement returns, so line @1 is never reached: delete what follows",
             u64::from(*line),
             0,
         ),
         IllTyped::HeadNames(variable, other) => Phrase::of(
-            "the head of a cilk_for has one name three times: here @a, and @b in place of it",
+            "the head of a cilk_for names one variable three times: write @a for @b",
             [Word::of(variable), Word::of(other)],
             [0; 3],
         ),
         IllTyped::Grain(grain) => numbered(
             reason,
-            "the grain is @1: it is a number from 1 to @2",
+            "the grain is @1: write a number from 1 to @2",
             *grain,
             MOST_GRAIN,
         ),
-        IllTyped::PartsAlike(name) => named(
-            "both parts of the cut are called @a: their names differ",
-            name,
-        ),
+        IllTyped::PartsAlike(name) => {
+            named(
+                "both parts of the cut have the name @a: rename one of them",
+                name,
+            )
+        }
         _ => plain(reason, ""),
     }
 }

@@ -1,4 +1,4 @@
-//! The token that no source goes on with, and those that one does.
+//! The first token that no source continues with, and the tokens that a source continues with.
 
 ghost use Rattle.std.specs.Prelude.{◌≡◌, ◌≤◌, All, IfOk, length, true};
 ghost use Rattle.cw_explain.specs.Going.{CanFollow, GoesOn, followed};
@@ -6,11 +6,14 @@ ghost use Rattle.cw_model.specs.Tokens.{IsTokenCut};
 
 use crate::around::Around;
 use crate::grammar::{ALL, keyword, shown};
+use crate::habits::{
+    Row, declared, further, habits, inside, items, loops, outside, parameters, typed, words,
+};
 use crate::near::nearest;
 use crate::phrase::Marks;
 use crate::shortened::Shortened;
 use crate::word::Word;
-use crate::words::{HABITS, INSIDE, ITEMS, MIDDLES, OUTSIDE, Row, STARTS, WORDS};
+use crate::words::{MIDDLES, STARTS};
 use cw_lex::lex;
 use cw_model::token::{Kind, Token};
 use cw_parse::{first_refused, parse};
@@ -18,7 +21,7 @@ use cw_text::{Fault, Source};
 use std::alloc::Global;
 use std::fmt;
 
-/// Why a token cannot stand.
+/// Why a token is unexpected.
 #[derive(Clone, Copy)]
 enum Why<'a> {
     /// This text, with its marks.
@@ -29,34 +32,34 @@ enum Why<'a> {
     Open(Token),
     /// A block without braces.
     Bare,
-    /// A semicolon is missing behind this token.
+    /// A semicolon is missing after this token.
     Unended(Token),
-    /// For no reason that is known.
+    /// No known reason.
     Plain,
 }
 
-/// Where tokens are no source: the first that cannot go on, or their end, with what can stand there.
+/// The first unexpected token, or the end of the tokens, with what is expected there.
 #[derive(Drop)]
 pub struct Unparsed<'a> {
     around: Around<'a>,
     why: Why<'a>,
-    /// What can stand in its place, each by a word that spells it.
+    /// What is expected instead, each by a word that spells it.
     expected: Vec<&'static str>,
 }
 
-// Whether a source that ends after this text is refused no sooner than at its end: so its tokens go on.
+// Whether a source that ends after this text is rejected no sooner than at its end, so a source continues its tokens.
 fn goes_on(alloc: Global, text: &[u8]) -> Result<bool, Fault>
     ensures { IfOk result (λ goes. goes ≡ true → GoesOn text.now) }
 {
     match is_end_reached(alloc, text) {
         Ok(goes) => Ok(goes),
         Err(Fault::Memory) => Err(Fault::Memory),
-        // one byte too many, or a word that is too long
+        // too many bytes, or a name that is too long
         Err(_) => Ok(false),
     }
 }
 
-// The same of a text that has tokens.
+// Whether a source that ends after this text, which has tokens, is rejected no sooner than at its end.
 fn is_end_reached(alloc: Global, text: &[u8]) -> Result<bool, Fault>
     ensures { IfOk result (λ goes. goes ≡ true → GoesOn text.now) }
 {
@@ -71,7 +74,7 @@ fn is_end_reached(alloc: Global, text: &[u8]) -> Result<bool, Fault>
     }
 }
 
-// A text with a word behind it, each on a line of its own.
+// A text followed by a word, each on a line of its own.
 fn with_word(alloc: Global, text: &[u8], word: &str) -> Result<Vec<u8>, Fault>
     ensures { IfOk result (λ longer. longer.items ≡ followed text.now word.now) }
 {
@@ -91,7 +94,7 @@ fn shortened(alloc: Global, tokens: &[Token]) -> Result<Shortened, Fault> {
     Ok(short)
 }
 
-// What can stand behind a text: with each of these a source goes on.
+// What can follow a text: a source continues with each of these.
 fn choices(alloc: Global, text: &[u8]) -> Result<Vec<&'static str>, Fault>
     ensures { IfOk result (λ words. All (λ word. CanFollow text.now word.now) words.items) }
 {
@@ -105,8 +108,8 @@ fn choices(alloc: Global, text: &[u8]) -> Result<Vec<&'static str>, Fault>
     Ok(expected)
 }
 
-/// The first of these tokens of a text that no source goes on with, and what can stand in its place, if they are no source.
-/// That is asked of the tokens before it, shortened.
+/// Returns the first of these tokens of a text that no source continues with, and what is expected instead; none if they are
+/// a source. The expected tokens are those of the tokens before it, shortened.
 pub fn first_unparsed<'a>(
     alloc: Global,
     source: &Source,
@@ -130,10 +133,13 @@ pub fn first_unparsed<'a>(
     }))
 }
 
-/// What is said of a block without braces.
-pub const BARE: &str = "the block of @^ has braces, also where it is one statement: { .. }";
+/// The text for a block without braces.
+pub const BARE: &str = "put the block of @^ in braces: { @. }";
 
-// The text of the first row that fits; one that says only how the statement begins counts where `by_front` is true.
+// The text for a loop without a body.
+const EMPTY: &str = "write an empty block: { }";
+
+// The text of the first row that applies; one that only says how the statement begins counts if `by_front` is true.
 fn row_of(around: &Around<'_>, rows: &[Row], by_front: bool) -> Option<&'static str> {
     for (front, before, from, says) in rows {
         let counts = by_front || !before.is_empty() || !from.is_empty();
@@ -144,41 +150,27 @@ fn row_of(around: &Around<'_>, rows: &[Row], by_front: bool) -> Option<&'static 
     None
 }
 
-// What stands in no source in a function, of the first table.
-fn of_words(around: &Around<'_>, by_front: bool) -> Option<&'static str> {
-    row_of(around, WORDS, by_front)
-}
-
-// The same of the second one.
-fn of_habits(around: &Around<'_>, by_front: bool) -> Option<&'static str> {
-    row_of(around, HABITS, by_front)
-}
-
-// What stands in no source outside of functions.
-fn of_outside(around: &Around<'_>, by_front: bool) -> Option<&'static str> {
-    row_of(around, OUTSIDE, by_front)
-}
-
-/// The text of the first row that fits a token which stands in no source there.
+/// The text of the first row that applies to a token where no source has it.
 pub fn nowhere(around: &Around<'_>, by_front: bool) -> Option<&'static str> {
     if !around.is_inside {
-        return of_outside(around, by_front);
+        return row_of(around, outside(), by_front).or(row_of(around, parameters(), by_front));
     }
-    match of_words(around, by_front) {
-        None => of_habits(around, by_front),
-        says => says,
-    }
+    row_of(around, words(), by_front)
+        .or(row_of(around, typed(), by_front))
+        .or(row_of(around, loops(), by_front))
+        .or(row_of(around, declared(), by_front))
+        .or(row_of(around, habits(), by_front))
 }
 
-// What stands where it does not, by what stands before it.
+// The text for a token that is in the wrong place, by what precedes it.
 fn misplaced(around: &Around<'_>) -> Option<&'static str> {
-    if around.is_inside {
-        return row_of(around, INSIDE, true);
+    if !around.is_inside {
+        return row_of(around, items(), true);
     }
-    row_of(around, ITEMS, true)
+    row_of(around, inside(), true).or(row_of(around, further(), true))
 }
 
-// Why the source cannot go on.
+// Why no source continues with the token.
 fn why_of<'a>(around: &Around<'a>, expected: &[&'static str]) -> Why<'a> {
     let Some(found) = around.found() else {
         return match around.open {
@@ -204,7 +196,7 @@ fn why_of<'a>(around: &Around<'a>, expected: &[&'static str]) -> Why<'a> {
     }
 }
 
-// Whether a token of one kind says that a bracket of the other is closed, or was to be.
+// Whether a token of one kind shows that a bracket of the other kind is not closed.
 fn is_behind(kind: Kind, bracket: Kind) -> bool {
     match kind {
         Kind::LeftBrace | Kind::RightBrace | Kind::Semicolon => bracket != Kind::LeftBrace,
@@ -214,12 +206,12 @@ fn is_behind(kind: Kind, bracket: Kind) -> bool {
     }
 }
 
-// What is missing before the token: braces or a semicolon.
+// Braces or a semicolon that are missing before the token.
 fn missing<'a>(around: &Around<'a>, found: Token, expected: &[&'static str]) -> Option<Why<'a>> {
     if !around.is_inside {
         return None;
     }
-    if expected.contains(&"{") && !around.is_like(&[], &[], &["operator"]) {
+    if expected.contains(&"{") && !around.is_like("", "", "operator") {
         return Some(Why::Bare);
     }
     let last = around.before(1)?;
@@ -256,7 +248,12 @@ fn near_of<'a>(
 }
 
 impl Unparsed<'_> {
-    /// The other line that matters, if one does.
+    /// Returns the token, if the source does not end there.
+    pub fn found(&self) -> Option<Token> {
+        self.around.found()
+    }
+
+    /// Returns the other line that matters, if there is one.
     pub fn other_line(&self) -> Option<u32> {
         match self.why {
             Why::Open(bracket) => Some(bracket.line),
@@ -270,21 +267,21 @@ impl Unparsed<'_> {
 impl fmt::Display for Unparsed<'_> {
     fn fmt<W: fmt::Write>(&self, f: &mut fmt::Formatter<W>) -> fmt::Result {
         let Some(found) = self.around.found() else {
-            write!(f, "the source ends here, and something must follow")?;
+            write!(f, "unexpected end of the source")?;
             return fmt_why(self, f);
         };
         let word = self.around.word(found);
-        write!(f, "{word} cannot stand here")?;
+        write!(f, "unexpected {word}")?;
         if let Why::Plain = self.why {
             if keyword(found.kind).is_some() && self.expected.contains(&"x") {
-                write!(f, ": {word} is a word of the language, and no name")?;
+                write!(f, ": {word} is a keyword")?;
             }
         }
         fmt_why(self, f)
     }
 }
 
-// Why it cannot stand there.
+// Why it is unexpected.
 fn fmt_why<W: fmt::Write>(unparsed: &Unparsed<'_>, f: &mut fmt::Formatter<W>) -> fmt::Result {
     let around = &unparsed.around;
     match unparsed.why {
@@ -292,25 +289,27 @@ fn fmt_why<W: fmt::Write>(unparsed: &Unparsed<'_>, f: &mut fmt::Formatter<W>) ->
             write!(f, ": ")?;
             around.write(f, says)
         }
-        Why::Near(name, word) => write!(f, ": did you mean {word} in place of {name}?"),
+        Why::Near(name, word) => write!(f, ": did you mean {word} instead of {name}?"),
         Why::Open(bracket) => {
             let mark = around.word(bracket);
             let line = bracket.line;
-            write!(f, ": the {mark} of line {line} is not closed")
+            write!(f, ": close the {mark} of line {line} before it")
         }
         Why::Bare => {
+            let is_empty = around.found().map(|token| token.kind) == Some(Kind::Semicolon);
             write!(f, ": ")?;
-            around.write(f, BARE)
+            around.write(f, if is_empty { EMPTY } else { BARE })
         }
         Why::Unended(token) => {
             let line = token.line;
-            write!(f, ": a ; is missing before it, in line {line}")
+            let word = around.word(token);
+            write!(f, ": write ; after {word} in line {line}")
         }
         Why::Plain => fmt_expected(unparsed.expected.as_slice(), f),
     }
 }
 
-// What can stand there.
+// What is expected there.
 fn fmt_expected<W: fmt::Write>(
     expected: &[&'static str],
     f: &mut fmt::Formatter<W>,
@@ -318,7 +317,7 @@ fn fmt_expected<W: fmt::Write>(
     for i in 0..expected.len() {
         let called = shown(expected[i]);
         let front = if i == 0 {
-            "; here can stand "
+            "; expected "
         } else if i + 1 == expected.len() {
             " or "
         } else {

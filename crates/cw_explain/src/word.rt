@@ -1,4 +1,4 @@
-//! Bytes of a source as they are shown.
+//! Bytes of a source as an explanation shows them.
 
 ghost use Rattle.std.specs.Prelude.{◌≡◌, bytes_eq};
 
@@ -30,7 +30,7 @@ impl<'a> Word<'a> {
     }
 }
 
-/// As much of it as a name may have bytes.
+/// At most as many bytes as a name may have.
 impl fmt::Display for Word<'_> {
     fn fmt<W: fmt::Write>(&self, f: &mut fmt::Formatter<W>) -> fmt::Result {
         let shown = Shown {
@@ -41,11 +41,22 @@ impl fmt::Display for Word<'_> {
     }
 }
 
-/// Bytes of a source, as far as they take no more than so many columns; `..` stands for the rest.
+/// Bytes of a source, up to a number of columns; `..` replaces the rest.
 #[derive(Clone, Copy)]
 pub struct Shown<'a> {
     pub text: &'a [u8],
     pub columns: usize,
+}
+
+impl Shown<'_> {
+    /// The number of columns that all its bytes take.
+    pub fn width(&self) -> usize {
+        let mut columns: usize = 0;
+        for byte in self.text {
+            columns = columns.saturating_add(width(*byte));
+        }
+        columns
+    }
 }
 
 impl fmt::Display for Shown<'_> {
@@ -62,23 +73,23 @@ impl fmt::Display for Shown<'_> {
     }
 }
 
-/// Whether a byte is shown as the character that it is.
+/// Whether a byte is shown as its character.
 pub fn is_printable(byte: u8) -> bool {
     matches!(byte, 32..=126)
 }
 
-// How many columns a byte takes.
+// The number of columns of a byte.
 fn width(byte: u8) -> usize {
-    if byte == b'\t' || is_printable(byte) {
+    if byte == b'\t' || byte == b'\n' || is_printable(byte) {
         return 1;
     }
     4
 }
 
-// Shows a byte: a tab as a space, and what is not printable ASCII by its code.
+// Shows a byte: a tab or a line feed as a space, and a byte that is not printable ASCII by its code.
 fn write_byte<W: fmt::Write>(f: &mut fmt::Formatter<W>, byte: u8) -> fmt::Result {
     match byte {
-        b'\t' => write!(f, " "),
+        b'\t' | b'\n' => write!(f, " "),
         32..=126 => {
             let shown = char::from(byte);
             write!(f, "{shown}")

@@ -1,4 +1,4 @@
-//! Words of C, and what is written here in place of what C programs write.
+//! Words of C, and names of its library with what to write instead.
 
 /// Types of C.
 pub static TYPES: &[&str] = &[
@@ -7,9 +7,14 @@ pub static TYPES: &[&str] = &[
     "uint64_t", "auto",
 ];
 
-/// Words of C that stand before a declaration.
+/// Words of C before a declaration.
 pub static STORAGE: &[&str] = &[
-    "static", "extern", "inline", "register", "volatile", "restrict",
+    "static", "extern", "inline", "register", "volatile", "restrict", "cilk",
+];
+
+/// The keywords that C programs use as names.
+pub static KEYWORDS: &[&str] = &[
+    "sum", "max", "at", "as", "over", "len", "cut", "grain", "region", "print", "reducer",
 ];
 
 /// The operators between two operands.
@@ -43,732 +48,209 @@ pub static MIDDLES: &[&str] = &[
     "cilk_for",
 ];
 
-/// What is said where a statement begins by the first words, the words right before the token that cannot stand are the
-/// second, and those from it on the third: `x` stands for a name, `1` for a number, `operator`, `type` and `storage` for a word of
-/// these tables, `first` for the first token of the statement, and an empty one for any token. In the text `@^` stands for the first
-/// word of the statement, `@&` for the one behind it, `@+` for that behind the token, `@0` for it, `@1` for that before it, and so on;
-/// `@{` for the line of the innermost open bracket. Of several rows that fit the first one counts.
-pub type Row = (
-    &'static [&'static str],
-    &'static [&'static str],
-    &'static [&'static str],
-    &'static str,
-);
+/// Names for a new variable, the first of which that a source does not declare is suggested.
+pub static FRESH: &[&str] = &["r", "t", "v", "w", "result", "value"];
 
-/// Outside of functions, where it stands in no source.
-pub static OUTSIDE: &[Row] = &[
-    (
-        &["int", "main", "("],
-        &["int", "x", ","],
-        &["type"],
-        "main takes integers alone, which the command line gives: int main(int n)",
-    ),
-    (
-        &[],
-        &[],
-        &["/", "*"],
-        "a comment begins with //, and ends with its line",
-    ),
-    (
-        &[],
-        &[],
-        &["type"],
-        "there is no @0: every value is an int, of 64 bits with its sign, so a function is int or void, and a parameter int x, int a[] or const int a[]",
-    ),
-    (&["storage"], &[], &[], "there is no @^: leave the word out"),
-    (
-        &["struct"],
-        &[],
-        &[],
-        "there is no struct: there are integers and arrays of them",
-    ),
-    (
-        &["union"],
-        &[],
-        &[],
-        "there is no union: there are integers and arrays of them",
-    ),
-    (&["enum"], &[], &[], "there is no enum: write the numbers"),
-    (
-        &["typedef"],
-        &[],
-        &[],
-        "there is no typedef: every value is an int, of 64 bits with its sign",
-    ),
-    (
-        &["const"],
-        &[],
-        &[],
-        "there are no variables outside of functions: give the value to each function that needs it as an argument",
-    ),
-    (
-        &["int", "x"],
-        &["first", "x"],
-        &["="],
-        "there are no variables outside of functions: give the value to functions as an argument; what many strands add up is a reducer",
-    ),
-    (
-        &["int", "x"],
-        &["first", "x"],
-        &[";"],
-        "there are no variables outside of functions: declare @1 in main, and give it to functions as an argument",
-    ),
-    (
-        &["int", "x"],
-        &["first", "x"],
-        &["["],
-        "there are no arrays outside of functions: declare @1 in main, and give it to functions as an argument",
-    ),
-    (
-        &[],
-        &[")"],
-        &[";"],
-        "a function is known in the whole source, also before its place: leave this line out",
-    ),
-    (
-        &[";"],
-        &[],
-        &[";"],
-        "no ; stands behind a function: leave it out",
-    ),
-    (
-        &[],
-        &["["],
-        &["1"],
-        "an array parameter has no length: int a[], of which len(a) is the number of elements",
-    ),
-    (
-        &[],
-        &["["],
-        &["x"],
-        "an array parameter has no length: int a[], of which len(a) is the number of elements",
-    ),
-    (
-        &[],
-        &["]"],
-        &["["],
-        "arrays have one dimension: of m columns the element i, j is a[i * m + j]",
-    ),
-    (
-        &[],
-        &["("],
-        &["void"],
-        "where there are no parameters the brackets are empty: ()",
-    ),
-    (
-        &[],
-        &["int"],
-        &["*"],
-        "there are no pointers: an array parameter is int a[], or const int a[] where it is only read",
-    ),
-    (
-        &[],
-        &["const", "int", "x"],
-        &[")"],
-        "const stands before array parameters alone: int @1",
-    ),
-    (
-        &[],
-        &["const", "int", "x"],
-        &[","],
-        "const stands before array parameters alone: int @1",
-    ),
-    (
-        &["reducer"],
-        &[],
-        &["="],
-        "a reducer begins with nothing told: leave the value out",
-    ),
-];
+/// A name of C's libraries, and what to write instead.
+pub type Call = (&'static str, &'static str);
 
-/// Outside of functions, by what stands before it.
-pub static ITEMS: &[Row] = &[
+static LIBRARY: &[Call] = &[
     (
-        &["}"],
-        &[],
-        &["}"],
-        "no { is open here: this } is one too many, or one above ended its function too soon",
+        "sizeof",
+        "write len(a) for the number of elements of an array a",
     ),
+    ("printf", "write print(x); for each integer x"),
+    ("fprintf", "write print(x); for each integer x"),
+    ("puts", "write print(x); for each integer x"),
+    ("putchar", "write print(x); for each integer x"),
     (
-        &["x", "("],
-        &[],
-        &[],
-        "a function begins with int or void: int @^(..) { .. }",
+        "scanf",
+        "declare a parameter of main for each value that is read",
     ),
-];
-
-/// In functions, where it stands in no source.
-pub static WORDS: &[Row] = &[
     (
-        &["for", "("],
-        &[],
-        &[],
-        "there is no for: write while (..) { .. i = i + 1; }, or cilk_for (int i = LOW; i < HIGH; i++) { .. } where turns are independent",
+        "getchar",
+        "declare a parameter of main for each value that is read",
     ),
     (
-        &["break", ";"],
-        &[],
-        &[],
-        "there is no break: let the test of the while tell when to stop, or return out of a function of its own",
+        "atoi",
+        "declare a parameter of main for each argument, as int main(int n), and delete this statement",
     ),
     (
-        &["continue", ";"],
-        &[],
-        &[],
-        "there is no continue: put the rest of the turn into an if",
+        "atol",
+        "declare a parameter of main for each argument, as int main(int n), and delete this statement",
     ),
     (
-        &["goto", "x"],
-        &[],
-        &[],
-        "there is no goto: write if, while and functions",
+        "strtol",
+        "declare a parameter of main for each argument, as int main(int n), and delete this statement",
     ),
     (
-        &["do", "{"],
-        &[],
-        &[],
-        "there is no do: write while (..) { .. }, and before it what is done once in any case",
+        "argc",
+        "declare a parameter of main for each argument, as int main(int n); their number is checked",
     ),
     (
-        &["switch", "("],
-        &[],
-        &[],
-        "there is no switch: write if (..) { .. } else { if (..) { .. } }",
+        "argv",
+        "declare a parameter of main for each argument, as int main(int n)",
     ),
-    (&["sync", ";"], &[], &[], "the word is cilk_sync"),
-    (&["_Cilk_sync", ";"], &[], &[], "the word is cilk_sync"),
-    (&["spawn", "x"], &[], &[], "the word is cilk_spawn"),
-    (&["_Cilk_spawn", "x"], &[], &[], "the word is cilk_spawn"),
-    (&[], &["spawn"], &["x"], "the word is cilk_spawn"),
-    (&[], &["_Cilk_spawn"], &["x"], "the word is cilk_spawn"),
-    (&["_Cilk_for", "("], &[], &[], "the word is cilk_for"),
-    (
-        &["storage", ""],
-        &[],
-        &[],
-        "there is no @^: leave the word out",
-    ),
-    (
-        &["struct", "x"],
-        &[],
-        &[],
-        "there is no struct: there are integers and arrays of them",
-    ),
-    (
-        &[],
-        &["sizeof"],
-        &["("],
-        "there is no sizeof: len(a) is the number of elements of an array",
-    ),
-    (
-        &["type", "x", ","],
-        &[],
-        &[],
-        "there is no @^, and a declaration has one name and a value: int @& = 0; and a further one for the next name",
-    ),
-    (
-        &["type", "x", ";"],
-        &[],
-        &[],
-        "there is no @^, and a declaration has a value: int @& = 0;",
-    ),
-    (
-        &["type", "x", "=", "x", "("],
-        &[],
-        &[],
-        "there is no @^, and a call is a statement of its own: int @& = 0; then @& = f(..);",
-    ),
-    (
-        &["type", "x", "=", "cilk_spawn"],
-        &[],
-        &[],
-        "there is no @^, and a spawn is a statement of its own: int @& = 0; then @& = cilk_spawn f(..);",
-    ),
-    (
-        &["type", "x"],
-        &[],
-        &[],
-        "there is no @^: every value is an int, of 64 bits with its sign",
-    ),
-    (
-        &["type", "int"],
-        &[],
-        &[],
-        "there is no @^: every value is an int, of 64 bits with its sign",
-    ),
-    (
-        &["type", "*"],
-        &[],
-        &[],
-        "there is no @^, and there are no pointers: there are integers and arrays of them",
-    ),
-    (
-        &[],
-        &["(", "type", ")"],
-        &[],
-        "there are no casts: every value is an int, of 64 bits with its sign",
-    ),
-    (
-        &[],
-        &["("],
-        &["type"],
-        "there is no @0: every value is an int, of 64 bits with its sign",
-    ),
-    (
-        &[],
-        &[],
-        &["/", "*"],
-        "a comment begins with //, and ends with its line",
-    ),
-    (
-        &[],
-        &["/"],
-        &["*"],
-        "a comment begins with //, and ends with its line",
-    ),
-    (
-        &[],
-        &["else"],
-        &["if"],
-        "an else has a block, with braces: else { if (..) { .. } }",
-    ),
-    (
-        &["cilk_for", "("],
-        &[";", "x"],
-        &["<=", "", ";"],
-        "a cilk_for has < alone: write @1 < @+ + 1",
-    ),
-    (
-        &["cilk_for", "("],
-        &[";", "x"],
-        &["<="],
-        "a cilk_for has < alone: write @1 < HIGH + 1 in place of @1 <= HIGH",
-    ),
-    (
-        &["cilk_for", "("],
-        &[";", "x"],
-        &["!="],
-        "a cilk_for has < alone: write @1 < .. in place of @1 != ..",
-    ),
-    (
-        &["cilk_for", "("],
-        &[";", "x"],
-        &[">"],
-        "a cilk_for counts up, from LOW to below HIGH: (int @1 = LOW; @1 < HIGH; @1++), and its body reckons from that",
-    ),
-    (
-        &["cilk_for", "("],
-        &[";", "x"],
-        &[">="],
-        "a cilk_for counts up, from LOW to below HIGH: (int @1 = LOW; @1 < HIGH; @1++), and its body reckons from that",
-    ),
-    (
-        &["cilk_for", "("],
-        &[";"],
-        &["++"],
-        "in the head of a cilk_for ++ stands behind the name: @+++",
-    ),
-    (
-        &[],
-        &["int", "x", "="],
-        &["cilk_spawn"],
-        "a spawn gives its result to a name that is declared before it: int @2 = 0; then @2 = cilk_spawn @+(..);",
-    ),
-    (
-        &[],
-        &["return"],
-        &["cilk_spawn"],
-        "a spawn gives its result to a name, and it is there behind a cilk_sync: int r = 0; r = cilk_spawn @+(..); cilk_sync; return r;",
-    ),
-    (
-        &[],
-        &["]", "="],
-        &["cilk_spawn"],
-        "a spawn gives its result to an integer: int r = 0; r = cilk_spawn @+(..); and behind the cilk_sync r to the element",
-    ),
-    (
-        &[],
-        &["int", "x", "=", "x"],
-        &["("],
-        "a call is a statement of its own: int @3 = 0; then @3 = @1(..);",
-    ),
-    (
-        &[],
-        &["return", "x"],
-        &["("],
-        "a call is a statement of its own: int r = 0; r = @1(..); return r;",
-    ),
-    (
-        &[],
-        &["cilk_sync"],
-        &["("],
-        "cilk_sync has no brackets: cilk_sync;",
-    ),
-    (
-        &[],
-        &["int"],
-        &["*"],
-        "there are no pointers: int a[n]; makes an array, and its name is passed to a parameter int a[]",
-    ),
-    (
-        &[],
-        &["int", "x"],
-        &[";"],
-        "a declaration has a value: int @1 = 0;",
-    ),
-    (
-        &[],
-        &["int", "x"],
-        &[","],
-        "a declaration has one name and a value: int @1 = 0; and a further one for the next name",
-    ),
-    (
-        &["int", "x"],
-        &["["],
-        &["]"],
-        "a new array has its length in its brackets: int @2[n]; and its elements are 0",
-    ),
-    (
-        &["int", "x"],
-        &["]"],
-        &["="],
-        "the elements of a new array are 0: give them other values by statements of their own",
-    ),
-    (
-        &[],
-        &["]"],
-        &["["],
-        "arrays have one dimension: of m columns the element i, j is a[i * m + j]",
-    ),
-    (
-        &["x"],
-        &["x"],
-        &["-", "-"],
-        "there is no --: write @1 = @1 - 1;",
-    ),
-    (
-        &["x"],
-        &["]"],
-        &["operator", "="],
-        "there is no @0=: write the element out, a[i] = a[i] @0 ..;",
-    ),
-    (
-        &[],
-        &["<"],
-        &["<"],
-        "there are no shifts: multiply by a power of 2",
-    ),
-    (
-        &["x"],
-        &["x"],
-        &["++"],
-        "++ stands in the head of a cilk_for alone; write @1 = @1 + 1;",
-    ),
-];
-
-/// The same, in a table of its own: a function that reads a table is proved with all of its rows.
-pub static HABITS: &[Row] = &[
-    (
-        &["x"],
-        &["x"],
-        &["-", "="],
-        "there is no -=: write @1 = @1 - ..; or, where @1 is a reducer, @1 += -(..);",
-    ),
-    (
-        &["x"],
-        &["x"],
-        &["operator", "="],
-        "there is no @0=: write @1 = @1 @0 ..;",
-    ),
-    (
-        &["reducer"],
-        &[],
-        &[],
-        "a reducer is declared outside of functions",
-    ),
-    (
-        &["*"],
-        &[],
-        &[],
-        "there are no pointers: the first element is a[0]",
-    ),
-    (
-        &[],
-        &["return"],
-        &["*"],
-        "there are no pointers: the first element is a[0]",
-    ),
-    (
-        &["x"],
-        &["x", "="],
-        &["*"],
-        "there are no pointers: the first element is a[0]",
-    ),
-    (
-        &[],
-        &[],
-        &["max", "("],
-        "there is no max of two values: write an if that gives a name the greater one",
-    ),
-    (
-        &["cilk_for", "("],
-        &["over", "(", "x", ")"],
-        &["grain"],
-        "the grain stands before over: grain .. over (..)",
-    ),
-    (
-        &["cilk_for", "("],
-        &[",", "x", ")"],
-        &["grain"],
-        "the grain stands before over: grain .. over (..)",
-    ),
-];
-
-/// In functions, where no `;` and no brace is missing, by what stands before it.
-pub static INSIDE: &[Row] = &[
-    (
-        &["cilk_for", "("],
-        &["cilk_for", "("],
-        &["x"],
-        "a cilk_for declares its variable: cilk_for (int @0 = LOW; @0 < HIGH; @0++)",
-    ),
-    (
-        &["cilk_for", "("],
-        &[";", "x"],
-        &[],
-        "a cilk_for counts up by one: its head ends with @1++; for steps of k let it run to HIGH / k, and multiply in its body",
-    ),
-    (
-        &[],
-        &["cilk_spawn", "x"],
-        &["="],
-        "the name that takes the result stands in front: @1 = cilk_spawn f(..);",
-    ),
-    (
-        &[],
-        &["cilk_spawn"],
-        &["{"],
-        "cilk_spawn stands before a call: put the block into a function",
-    ),
-    (
-        &["cilk_spawn", "x", "("],
-        &[")"],
-        &["operator"],
-        "a spawn is a statement of its own",
-    ),
-    (
-        &[],
-        &[],
-        &["cilk_spawn"],
-        "a spawn is a statement of its own: int r = 0; r = cilk_spawn @+(..); and r is there behind a cilk_sync",
-    ),
-    (
-        &["int", "x", "("],
-        &["int", "x"],
-        &["("],
-        "no function stands inside of another: the { of line @{ is open, and a } is missing before this line",
-    ),
-    (
-        &["void"],
-        &[],
-        &["void"],
-        "no function stands inside of another: the { of line @{ is open, and a } is missing before this line",
-    ),
-    (
-        &["x", "=", "x", "("],
-        &[")"],
-        &["operator"],
-        "a call is a statement of its own: @^ = f(..); and then @^ = @^ @0 ..;",
-    ),
-    (
-        &["x", "=", "cilk_spawn"],
-        &[")"],
-        &["operator"],
-        "a spawn is a statement of its own: its result is reckoned with behind a cilk_sync",
-    ),
-    (
-        &[],
-        &["x"],
-        &["("],
-        "@1(..) is a call, and a call is a statement of its own; give its result to an integer before, r = @1(..); and write r here",
-    ),
-    (
-        &[],
-        &["("],
-        &["int"],
-        "there are no casts: every value is an int, of 64 bits with its sign",
-    ),
-    (
-        &[],
-        &[],
-        &["const"],
-        "const stands before array parameters alone: leave it out",
-    ),
-    (
-        &["int", "x", "="],
-        &[],
-        &[","],
-        "a declaration has one name: end it with ; and begin the next one with int",
-    ),
-    (
-        &["if", "("],
-        &[],
-        &["="],
-        "= gives a name its value, in a statement of its own; == compares",
-    ),
-    (
-        &["while", "("],
-        &[],
-        &["="],
-        "= gives a name its value, in a statement of its own; == compares",
-    ),
-    (
-        &[],
-        &["if"],
-        &[],
-        "the test of an if stands in brackets: if (..) { .. }",
-    ),
-    (
-        &[],
-        &["while"],
-        &[],
-        "the test of a while stands in brackets: while (..) { .. }",
-    ),
-    (
-        &[],
-        &["print"],
-        &[],
-        "what is printed stands in brackets: print(..);",
-    ),
-    (
-        &["print"],
-        &[],
-        &[","],
-        "print writes one value: a statement for each",
-    ),
-    (
-        &["x"],
-        &["]"],
-        &["+="],
-        "+= adds to a reducer alone: write the element out, a[i] = a[i] + ..;",
-    ),
-    (
-        &[],
-        &[],
-        &["++"],
-        "++ stands in the head of a cilk_for alone; write x = x + 1;",
-    ),
-    (
-        &["x", "=="],
-        &[],
-        &["=="],
-        "== compares, and = gives a value: @^ = ..;",
-    ),
-    (
-        &["x", "="],
-        &[],
-        &["="],
-        "= stands once in a statement: one statement for each name",
-    ),
-    (
-        &[],
-        &[">"],
-        &[">"],
-        "there are no shifts: divide by a power of 2",
-    ),
-    (
-        &["cut"],
-        &[],
-        &["{"],
-        "a cut names its parts: cut a at e as l, r { .. }",
-    ),
-    (
-        &[],
-        &["region"],
-        &["{"],
-        "a region has a name: region phase { .. }",
-    ),
-    (
-        &[";"],
-        &[],
-        &[";"],
-        "there is no statement without words: leave the ; out",
-    ),
-    (
-        &["else"],
-        &[],
-        &["else"],
-        "no if stands right in front of this else, or one that has an else already",
-    ),
-    (&[], &["1"], &["x"], "a number has decimal digits alone"),
-    (
-        &[],
-        &["0"],
-        &["1"],
-        "no 0 stands before other digits of a number",
-    ),
-];
-
-/// Names of C's library, and what stands in their place.
-pub static LIBRARY: &[(&str, &str)] = &[
-    ("sizeof", "len(a) is the number of elements of an array"),
-    ("printf", "print(x); writes one integer and a line feed"),
-    ("puts", "print(x); writes one integer and a line feed"),
-    ("scanf", "values come in by the parameters of main"),
-    ("argc", "values come in by the parameters of main"),
-    ("argv", "values come in by the parameters of main"),
     (
         "malloc",
-        "int a[n]; makes an array of n elements, and the end of its block ends it",
+        "declare an array of n elements: int a[n]; its elements are 0, and it ends with its block",
     ),
     (
         "calloc",
-        "int a[n]; makes an array of n elements, and the end of its block ends it",
+        "declare an array of n elements: int a[n]; its elements are 0, and it ends with its block",
+    ),
+    (
+        "alloca",
+        "declare an array of n elements: int a[n]; its elements are 0, and it ends with its block",
+    ),
+    (
+        "realloc",
+        "declare a larger array int b[n]; and copy each element: b[i] = a[i];",
     ),
     (
         "free",
-        "an array ends with the block that it is declared in",
-    ),
-    ("min", "an if that gives a name the lesser value"),
-    ("abs", "an if that gives a name its value or 0 less it"),
-    ("exit", "a return out of each function that runs"),
-    ("abort", "a division by 0 traps"),
-    ("assert", "an if whose block tells what is wrong"),
-    ("true", "1"),
-    ("false", "0"),
-    (
-        "NULL",
-        "there are no pointers; 0, or an integer of its own, tells that there is nothing",
+        "delete this statement: an array ends with the block that declares it",
     ),
     (
-        "INT_MAX",
-        "the number itself; the greatest is 9223372036854775807",
+        "memcpy",
+        "copy each element: int i = 0; while (i < len(a)) { b[i] = a[i]; i = i + 1; }",
     ),
     (
-        "LONG_MAX",
-        "the number itself; the greatest is 9223372036854775807",
+        "memmove",
+        "copy each element: int i = 0; while (i < len(a)) { b[i] = a[i]; i = i + 1; }",
+    ),
+    (
+        "memset",
+        "delete this statement if the array is new (its elements are 0); otherwise assign to each element: int i = 0; while (i < len(a)) { a[i] = 0; i = i + 1; }",
     ),
 ];
 
-/// What is said of a byte that starts no token, behind its rule: what C writes with it.
-pub static BYTES: &[(u8, &str)] = &[
+static OTHER_CALLS: &[Call] = &[
+    ("min", "write int m = a; if (b < m) { m = b; }"),
+    ("fmin", "write int m = a; if (b < m) { m = b; }"),
+    ("fmax", "write int m = a; if (b > m) { m = b; }"),
+    ("abs", "write if (x < 0) { x = -x; }"),
+    ("labs", "write if (x < 0) { x = -x; }"),
     (
-        b'#',
-        "; leave the line out; what a #define stands for is written where it is used, and a grain in the head of its cilk_for, as grain 8",
-    ),
-    (b'"', "; print(x); writes one, with a line feed"),
-    (
-        b'?',
-        ": there is no ?:; write an if with else that gives a name its value",
-    ),
-    (
-        b':',
-        ": there is no ?:, no switch and no label; write if and else",
+        "rand",
+        "keep a state of your own: x = (x * 1103515245 + 12345) % 2147483648;",
     ),
     (
-        b'.',
-        ": there are integers and arrays of them, no fractions and no structs",
+        "random",
+        "keep a state of your own: x = (x * 1103515245 + 12345) % 2147483648;",
     ),
-    (b'^', ": there are no operations on single bits"),
-    (b'~', ": there are no operations on single bits"),
+    (
+        "srand",
+        "keep a state of your own: x = (x * 1103515245 + 12345) % 2147483648;",
+    ),
+    (
+        "assert",
+        "write if (!(c)) { print(1 / 0); } for assert(c): the division traps",
+    ),
+    (
+        "exit",
+        "it has no replacement: return from each function, or write print(1 / 0); to stop the run with a trap",
+    ),
+    (
+        "abort",
+        "it has no replacement: return from each function, or write print(1 / 0); to stop the run with a trap",
+    ),
+    (
+        "clock",
+        "it has no replacement: delete it; cilkwork counts instructions, and scale reports those of each region NAME { .. }",
+    ),
+    (
+        "time",
+        "it has no replacement: delete it; cilkwork counts instructions, and scale reports those of each region NAME { .. }",
+    ),
+    (
+        "gettimeofday",
+        "it has no replacement: delete it; cilkwork counts instructions, and scale reports those of each region NAME { .. }",
+    ),
+    (
+        "clock_gettime",
+        "it has no replacement: delete it; cilkwork counts instructions, and scale reports those of each region NAME { .. }",
+    ),
+    ("true", "write 1"),
+    ("false", "write 0"),
+    (
+        "NULL",
+        "there are no pointers: write 0, or an integer that no index has, as -1",
+    ),
+    ("INT_MAX", "write the number, as 2147483647"),
+    ("LONG_MAX", "write 9223372036854775807"),
 ];
+
+static CILK_CALLS: &[Call] = &[
+    (
+        "wsp_getworkspan",
+        "put region NAME { .. } around the part to measure; cilkwork scale reports its work and span",
+    ),
+    (
+        "wsp_add",
+        "put region NAME { .. } around the part to measure; scale adds up its executions",
+    ),
+    (
+        "wsp_sub",
+        "put region NAME { .. } around the part to measure; scale reports its work and span",
+    ),
+    (
+        "wsp_dump",
+        "put region NAME { .. } around the part to measure; cilkwork scale reports its work and span",
+    ),
+    (
+        "__cilkscale__",
+        "delete it: cilkwork scale measures each program",
+    ),
+    (
+        "__cilkrts_get_nworkers",
+        "it has no replacement: no value depends on the number of workers; write the number of parts as a parameter of main",
+    ),
+    (
+        "__cilkrts_get_worker_number",
+        "it has no replacement: no value depends on the worker; add to a reducer, or write to a part of an array",
+    ),
+    (
+        "pthread_mutex_lock",
+        "a lock has no replacement: add to a reducer (reducer sum s; outside of functions, s += e;), or give each call a part of the array by cut",
+    ),
+    (
+        "pthread_mutex_unlock",
+        "a lock has no replacement: add to a reducer (reducer sum s; outside of functions, s += e;), or give each call a part of the array by cut",
+    ),
+    (
+        "mutex_lock",
+        "a lock has no replacement: add to a reducer (reducer sum s; outside of functions, s += e;), or give each call a part of the array by cut",
+    ),
+    (
+        "mutex_unlock",
+        "a lock has no replacement: add to a reducer (reducer sum s; outside of functions, s += e;), or give each call a part of the array by cut",
+    ),
+    (
+        "CILK_C_REGISTER_REDUCER",
+        "delete this statement: a reducer is declared outside of functions, as reducer sum s;",
+    ),
+    (
+        "CILK_C_UNREGISTER_REDUCER",
+        "delete this statement: a reducer is declared outside of functions, as reducer sum s;",
+    ),
+    (
+        "REDUCER_VIEW",
+        "no statement reads a reducer: delete it; the run prints the reducer at its end",
+    ),
+];
+
+/// Names of C's library for text, arguments and memory.
+pub fn library() -> &'static [Call] {
+    LIBRARY
+}
+
+/// Other names of C's library.
+pub fn other_calls() -> &'static [Call] {
+    OTHER_CALLS
+}
+
+/// Names of Cilk's libraries and of threads.
+pub fn cilk_calls() -> &'static [Call] {
+    CILK_CALLS
+}

@@ -68,15 +68,15 @@ fn text_of(alloc: Global, text: &Text) -> Result<String, AllocError> {
 static OF_TEXT: &[(Text, &str)] = &[
     (
         Text::Repeated("", "\n", 1_048_577, ""),
-        "refused 5 line 1\nt:1: the source has 1048577 bytes: at most 1048576\n",
+        "refused 5 line 1\nt:1: the source has 1048577 bytes, but at most 1048576 are allowed\n",
     ),
     (
         Text::Repeated("int\n", "(", 65, ""),
-        "refused 5 line 2\nt:2: more than 64 brackets are open at once in this line\n  2 | (((((((((((((((((((((((((((((((((((((((((((((((((((((((((((((((((\n",
+        "refused 5 line 2\nt:2: more than 64 brackets are open at once in this line: assign a part to a variable, or move it into a function\n  2 | (((((((((((((((((((((((((((((((((((((((((((((((((((((((((((((((((\n",
     ),
     (
         Text::Repeated("int main() {\nreturn 1", "\n+ 1", 128, ";\n}"),
-        "refused 5 line 130\nt:130: more than 256 tokens stand in a row without a semicolon or a brace: take a name for a part\n  130 | + 1;\n",
+        "refused 5 line 130\nt:130: more than 256 consecutive tokens without a semicolon or a brace: assign a part to a variable\n  130 | + 1;\n",
     ),
 ];
 
@@ -89,7 +89,7 @@ static OF_PARTS: &[(Text, &str)] = &[
             1_024,
             "",
         ),
-        "refused 5 line 1025\nt:1025: there are more than 1024 functions\n  1025 | void f1023() { }\n",
+        "refused 5 line 1025\nt:1025: the source has more than 1024 functions: merge some\n  1025 | void f1023() { }\n",
     ),
     (
         Text::Numbered(
@@ -98,7 +98,7 @@ static OF_PARTS: &[(Text, &str)] = &[
             33,
             "",
         ),
-        "refused 5 line 34\nt:34: there are more than 32 reducers\n  34 | reducer sum r32;\n",
+        "refused 5 line 34\nt:34: the source has more than 32 reducers: merge some\n  34 | reducer sum r32;\n",
     ),
     // of both kinds, 32 in all
     (
@@ -108,7 +108,7 @@ static OF_PARTS: &[(Text, &str)] = &[
             32,
             "",
         ),
-        "refused 5 line 34\nt:34: there are more than 32 reducers\n  34 | reducer max m31;\n",
+        "refused 5 line 34\nt:34: the source has more than 32 reducers: merge some\n  34 | reducer max m31;\n",
     ),
     (
         Text::Numbered(
@@ -117,7 +117,7 @@ static OF_PARTS: &[(Text, &str)] = &[
             16,
             ")\n{ }\nint main() { return 0; }",
         ),
-        "refused 5 line 1\nt:1: f has 17 parameters: at most 16\n  1 | void f(int a, int b0, int b1, int b2, int b3, int b4, int b5, int b6, int b7, int b8, int b9, int b10, int b11, int b12, int b13, int b14, int b15)\n",
+        "refused 5 line 1\nt:1: f has 17 parameters, but at most 16 are allowed: pass an array instead\n  1 | void f(int a, int b0, int b1, int b2, int b3, int b4, int b5, int b6, int b7, int b8, int b9, int b10, int b11, int b12, int b13, int b14, int b15)\n",
     ),
     (
         Text::Numbered(
@@ -126,7 +126,7 @@ static OF_PARTS: &[(Text, &str)] = &[
             256,
             "return 0; }",
         ),
-        "refused 5 line 257\nt:257: main declares more than 256 names, its parameters among them: move a part into a function of its own\n  257 | int x255 = 0;\n",
+        "refused 5 line 257\nt:257: main declares more than 256 names, parameters included: move a part into a function of its own\n  257 | int x255 = 0;\n",
     ),
     (
         Text::Repeated(
@@ -135,18 +135,18 @@ static OF_PARTS: &[(Text, &str)] = &[
             1,
             "\n  return 0;\n}",
         ),
-        "refused 5 line 2\nt:2: the tag t01234567890123456789012345678901 has 33 bytes: at most 32\n  2 |   region t01234567890123456789012345678901 { }\n",
+        "refused 5 line 2\nt:2: the tag t01234567890123456789012345678901 has 33 bytes, but at most 32 are allowed: shorten it\n  2 |   region t01234567890123456789012345678901 { }\n",
     ),
     (
         Text::Numbered("int main() {\n", ("region t", " { }\n"), 65, "return 0; }"),
-        "refused 5 line 66\nt:66: there are more than 64 different tags\n  66 | region t64 { }\n",
+        "refused 5 line 66\nt:66: the source has more than 64 different tags: give regions the same tag\n  66 | region t64 { }\n",
     ),
 ];
 
 // The limit of loops, with what is told.
 static OF_LOOPS: &[(Text, &str)] = &[(
     Text::Loops,
-    "refused 5 line 4130\nt:4130: there are more than 4096 cilk_for statements\n  4130 |   cilk_for (int i = 0; i < 1; i++) { }\n",
+    "refused 5 line 4130\nt:4130: the source has more than 4096 cilk_for statements: move a loop into a function and call it\n  4130 |   cilk_for (int i = 0; i < 1; i++) { }\n",
 )];
 
 // Asserts that this is told of each of these texts.
@@ -178,27 +178,27 @@ fn the_limit_of_loops(rt: HostRuntime) -> Result<(), Fail> {
 static TRAPS: &[(Trap, &str)] = &[
     (
         Trap::Overflow,
-        "t:2: the result of an operation is no integer of 64 bits: it is below -2^63 or above 2^63 - 1\n  2 |   int x = 1 / 0;\n",
+        "t:2: overflow: the result of an operation is below -2^63 or above 2^63 - 1\n  2 |   int x = 1 / 0;\n",
     ),
     (
         Trap::DivisionByZero,
-        "t:2: a division or a remainder by 0\n  2 |   int x = 1 / 0;\n",
+        "t:2: division or remainder by 0: test the divisor first\n  2 |   int x = 1 / 0;\n",
     ),
     (
         Trap::OutOfBounds,
-        "t:2: an index, the place of a cut or the range of a loop lies outside of its array\n  2 |   int x = 1 / 0;\n",
+        "t:2: an index, the position of a cut or the range of a loop is outside its array: compare it with len(..) first\n  2 |   int x = 1 / 0;\n",
     ),
     (
         Trap::BadLength,
-        "t:2: the length of an array is below 0 or above 16777216\n  2 |   int x = 1 / 0;\n",
+        "t:2: the length of an array is below 0 or above 16777216: use a smaller one\n  2 |   int x = 1 / 0;\n",
     ),
     (
         Trap::TooManyTurns,
-        "t:2: a cilk_for has more than 2147483647 turns\n  2 |   int x = 1 / 0;\n",
+        "t:2: a cilk_for has more than 2147483647 iterations: divide its range\n  2 |   int x = 1 / 0;\n",
     ),
     (
         Trap::TooDeep,
-        "t:2: more than 10000 calls lie inside one another, that of main among them\n  2 |   int x = 1 / 0;\n",
+        "t:2: more than 10000 nested calls, main included: end the recursion earlier, or write a while\n  2 |   int x = 1 / 0;\n",
     ),
 ];
 

@@ -23,20 +23,20 @@ static RUNS: &[(u8, &str)] = &[
     (6, ""),
     (
         7,
-        "t: the run costs more than its limit of 1 instructions; by how much is not known: a while, a recursion or a loop of spawns may not end, or --limit N gives more, up to 4611686018427387904\n",
+        "t: the run costs more than its limit of 1 instructions: check that each while and each recursion ends, or raise the limit with --limit N, up to 4611686018427387904\n",
     ),
     (9, ""),
     (
         10,
-        "t: standard output took a part of the report, or nothing: the disk may be full, or the program that reads it has ended\n",
+        "t: standard output did not accept the whole report: the disk may be full, or the program that reads it may have ended\n",
     ),
     (
         11,
-        "t:2: main has parameters: 2, and arguments are given behind the source: 0\n",
+        "t:2: wrong number of arguments: main takes 2, and 0 follow the source\n",
     ),
     (
         12,
-        "t: the run has 7 strands, and a schedule is made of 1 at most; smaller arguments or coarser grains give fewer, and scale has no such limit\n",
+        "t: the run has 7 strands, but a schedule has at most 1: use smaller arguments or coarser grains, or scale, which has no such limit\n",
     ),
 ];
 
@@ -52,31 +52,35 @@ fn is_run_told(alloc: Global, number: u8, wanted: &str) -> bool {
 
 // A path, why it cannot be opened, and what is told of it.
 static PATHS: &[(&str, ErrorKind, &str)] = &[
-    ("a.c", ErrorKind::NotFound, "a.c: there is no such file\n"),
+    (
+        "a.c",
+        ErrorKind::NotFound,
+        "a.c: no such file: check the path\n",
+    ),
     (
         "a.c",
         ErrorKind::PermissionDenied,
-        "a.c: the file may not be read by this user\n",
+        "a.c: this user may not read the file\n",
     ),
     (
         "/tmp",
         ErrorKind::IsADirectory,
-        "/tmp: it is a directory, and no file\n",
+        "/tmp: it is a directory: name a file in it\n",
     ),
     (
         "a.c/b",
         ErrorKind::NotADirectory,
-        "a.c/b: a part of the path is no directory\n",
+        "a.c/b: a part of the path is not a directory\n",
     ),
     (
         "",
         ErrorKind::Other,
-        "<stdin>: the system could not open or read it\n",
+        "<stdin>: the system cannot open or read it\n",
     ),
     (
         "\u{1b}[2J\t\u{e9}.c",
         ErrorKind::NotFound,
-        "?[2J???.c: there is no such file\n",
+        "?[2J???.c: no such file: check the path\n",
     ),
 ];
 

@@ -128,27 +128,27 @@ int main(int n) {
 static PROGRAMS: &[(&str, &str)] = &[
     (
         QUEENS,
-        "refused 2 line 16\nt:16: ( cannot stand here: is_safe(..) is a call, and a call is a statement of its own; give its result to an integer before, r = is_safe(..); and write r here\n  16 |     if (is_safe(rows, row, column)) {\n",
+        "refused 2 line 16\nt:16: unexpected (: is_safe(..) is a call, and a call is a statement of its own: write int r = 0; r = is_safe(rows, row, column); and r in its place: if (r)\n  16 |     if (is_safe(rows, row, column)) {\n     |                ^\n",
     ),
     (
         STENCIL,
-        "refused 4 line 3\nt:3: a is an array of the cilk_for in line 2: its body names it only as a[i], the element of its own turn, and not in a further cilk_for; before the loop copy what other turns need, its length to an integer\n  2 |   cilk_for (int i = 0; i < len(b) - 1; i++) grain 100 over (a, b) {\n  3 |     b[i] = (a[i] + a[i + 1]) / 2;\n",
+        "refused 4 line 3\nt:3: the cilk_for in line 2 has a in over, so its body may only use a[i]: copy the other elements into a const array or integers before the loop, or write a function that halves the range and spawns itself\n  2 |   cilk_for (int i = 0; i < len(b) - 1; i++) grain 100 over (a, b) {\n  3 |     b[i] = (a[i] + a[i + 1]) / 2;\n",
     ),
     (
         QUARTERS,
-        "refused 4 line 7\nt:7: b is passed in line 7, and the call spawned in line 6 has it until the next cilk_sync; calls that run side by side share no array: cut b and pass its parts, pass it to const parameters where they only read it, or give one of them an array of its own and add the two up behind the cilk_sync\n  6 |   cilk_spawn multiply(a0, b, c0);\n  7 |   cilk_spawn multiply(a1, b, c1);\n",
+        "refused 4 line 7\nt:7: this statement passes b, but the spawn in line 6 holds b until the next cilk_sync: write const before the parameter in both functions if they only read b; otherwise write cut b at k as l, r { .. } and pass l and r, give one call an array of its own, or write cilk_sync; between them\n  6 |   cilk_spawn multiply(a0, b, c0);\n  7 |   cilk_spawn multiply(a1, b, c1);\n",
     ),
     (
         HISTOGRAM,
-        "refused 4 line 9\nt:9: the block of part, declared in line 9, ends, and the call spawned in line 10 gives its result at the next cilk_sync; in a loop halve the range by spawned calls, or take a cilk_for; else put a cilk_sync before the end of the block\n   9 |     int part = 0;\n  10 |     part = cilk_spawn count(i, i + 10);\n",
+        "refused 4 line 9\nt:9: the block that declares part ends while the spawn in line 10 still holds part: write cilk_sync; at the end of this block; for calls of a loop that run in parallel write a cilk_for, or a function that halves the range and spawns itself\n   9 |     int part = 0;\n  10 |     part = cilk_spawn count(i, i + 10);\n",
     ),
     (
         PIPELINE,
-        "refused 4 line 9\nt:9: first is read in line 9, and the call spawned in line 8 gives its result at the next cilk_sync; put one right before this statement\n  8 |   first = cilk_spawn stage(n);\n  9 |   second = stage(first);\n",
+        "refused 4 line 9\nt:9: this statement reads first, but the spawn in line 8 assigns to first at the next cilk_sync: write cilk_sync; before this statement\n  8 |   first = cilk_spawn stage(n);\n  9 |   second = stage(first);\n",
     ),
     (
         SUM,
-        "refused 2 line 1\nt:1: sum cannot stand here: sum is a word of the language, and no name; here can stand a name\n  1 | int sum(int n) {\n",
+        "refused 2 line 1\nt:1: unexpected sum: sum is a keyword; expected a name\n  1 | int sum(int n) {\n    |     ^\n",
     ),
 ];
 

@@ -1,4 +1,4 @@
-//! What the tables of tests stand on: a source from its text to what is told of its refusal.
+//! The helpers of the tables of tests: a source, from its text to its explanation.
 
 use cw_explain::{Refused, explain};
 use cw_lex::lex;
@@ -21,7 +21,7 @@ fn fault_of(alloc: Global, bytes: &[u8]) -> Result<(), Fault> {
     Ok(())
 }
 
-/// A source of these bytes, which is called t.
+/// Returns a source of these bytes with the path t.
 pub fn refused(bytes: &[u8]) -> Refused<'_> {
     Refused {
         file: "t",
@@ -32,7 +32,7 @@ pub fn refused(bytes: &[u8]) -> Refused<'_> {
     }
 }
 
-// What standard error has of a text: the line of its first fault, and what is told of it.
+// What standard error has for a text: the line of its first fault, and its explanation.
 fn told(alloc: Global, bytes: &[u8]) -> Result<String, Fault> {
     match fault_of(alloc, bytes) {
         Ok(()) => Ok(String::from_str(alloc, "ok\n")?),
@@ -43,7 +43,7 @@ fn told(alloc: Global, bytes: &[u8]) -> Result<String, Fault> {
     }
 }
 
-/// Whether this is told of a text.
+/// Whether a text has this explanation.
 pub fn is_told(alloc: Global, bytes: &[u8], wanted: &str) -> bool {
     match told(alloc, bytes) {
         Ok(told) => told.as_str() == wanted,
@@ -51,7 +51,7 @@ pub fn is_told(alloc: Global, bytes: &[u8], wanted: &str) -> bool {
     }
 }
 
-/// Asserts that this is told of each of these texts.
+/// Asserts that each of these texts has its explanation.
 pub fn all_told(rt: &impl Abort, alloc: Global, rows: &[(&str, &str)]) {
     for (text, wanted) in rows {
         let holds = is_told(alloc, text.as_bytes(), wanted);
@@ -59,13 +59,13 @@ pub fn all_told(rt: &impl Abort, alloc: Global, rows: &[(&str, &str)]) {
     }
 }
 
-// What standard error has of a text between two others.
-fn told_between(alloc: Global, front: &str, text: &str, back: &str) -> Result<String, Fault> {
+/// Returns what standard error has for a text between two others.
+pub fn told_between(alloc: Global, front: &str, text: &str, back: &str) -> Result<String, Fault> {
     let whole = format!(in alloc; "{front}{text}{back}")?;
     told(alloc, whole.as_bytes())
 }
 
-/// Whether what is told of a text between two others has one part, and not the other.
+/// Whether the explanation of a text between two others has one part, and not the other.
 pub fn is_said(
     alloc: Global,
     front: &str,
@@ -78,4 +78,31 @@ pub fn is_said(
         Ok(told) => told.as_str().contains(wanted) && !told.as_str().contains(unwanted),
         Err(_) => false,
     }
+}
+
+/// The mark of a habit that nothing replaces.
+pub const NONE: &str = "none";
+
+/// What a C programmer writes, what its explanation says, and what replaces it: `NONE` if nothing does.
+pub type Habit = (&'static str, &'static str, &'static str);
+
+// Whether a text between two others is accepted.
+fn is_accepted(alloc: Global, front: &str, text: &str, back: &str) -> bool {
+    match told_between(alloc, front, text, back) {
+        Ok(told) => told.as_str() == "ok\n",
+        Err(_) => false,
+    }
+}
+
+/// Whether the explanation of a habit between two texts says what to write and is accepted with it, or says that nothing
+/// replaces the habit.
+pub fn is_advised(alloc: Global, front: &str, habit: &Habit, back: &str) -> bool {
+    let (written, says, applied) = *habit;
+    if !is_said(alloc, front, written, back, says, "\u{7f}") {
+        return false;
+    }
+    if applied == NONE {
+        return is_said(alloc, front, written, back, "no replacement", "\u{7f}");
+    }
+    is_accepted(alloc, front, applied, back)
 }

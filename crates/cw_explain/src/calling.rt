@@ -1,0 +1,187 @@
+//! What a line does with a name, by its tokens.
+
+use crate::around::word_of;
+use crate::marks::fresh_name;
+use crate::near::is_declared;
+use crate::word::Word;
+use cw_model::token::{Kind, Token};
+
+/// The most tokens of a statement that are read.
+const MOST_TOKENS: usize = 300;
+
+/// What a line does with a name.
+#[derive(Clone, Copy)]
+pub enum Call<'a> {
+    /// It returns it.
+    Returned,
+    /// It assigns it.
+    Copied,
+    /// It assigns to it.
+    Target,
+    /// It passes an expression that begins with this name.
+    Argument(Word<'a>),
+    /// It adds to it in a `cilk_for` around its declaration; with a name for a reducer.
+    Outer(&'static str),
+    /// Something else.
+    Other,
+}
+
+/// The text of a source, and its tokens.
+#[derive(Clone, Copy)]
+pub struct Text<'a> {
+    pub bytes: &'a [u8],
+    pub tokens: &'a [Token],
+}
+
+impl<'a> Text<'a> {
+    // The place of the first token of a line or one after it.
+    fn place_of(&self, line: u32) -> usize {
+        for place in 0..self.tokens.len() {
+            if self.tokens[place].line >= line {
+                return place;
+            }
+        }
+        self.tokens.len()
+    }
+
+    // The kind of the token at a place.
+    fn kind(&self, place: usize) -> Option<Kind> {
+        self.tokens.get(place).map(|token| token.kind)
+    }
+
+    // Whether the token at a place is this name.
+    fn is_name(&self, place: usize, name: Word<'_>) -> bool {
+        match self.tokens.get(place) {
+            Some(token) => token.kind == Kind::Name && word_of(self.bytes, *token).is(name.text),
+            None => false,
+        }
+    }
+
+    // Whether a name is right after a token of this kind and before a semicolon, from the first token of a line on.
+    fn is_between(&self, line: u32, name: Word<'_>, kind: Kind) -> bool {
+        let start = self.place_of(line);
+        for place in start..self.tokens.len().min(start.saturating_add(MOST_TOKENS)) {
+            if self.kind(place) == Some(kind)
+                && self.is_name(place.saturating_add(1), name)
+                && self.kind(place.saturating_add(2)) == Some(Kind::Semicolon)
+            {
+                return true;
+            }
+        }
+        false
+    }
+
+    // Whether a statement from the first token of a line on assigns to this name.
+    fn is_target(&self, line: u32, name: Word<'_>) -> bool {
+        let start = self.place_of(line);
+        for place in start..self.tokens.len().min(start.saturating_add(MOST_TOKENS)) {
+            if self.is_name(place, name)
+                && self.kind(place.saturating_add(1)) == Some(Kind::Assign)
+            {
+                return true;
+            }
+        }
+        false
+    }
+
+    /// Returns what a line does with an array that it uses as an integer.
+    pub fn use_of(&self, line: u32, name: Word<'_>) -> Call<'a> {
+        if self.is_between(line, name, Kind::Return) {
+            return Call::Returned;
+        }
+        if self.is_between(line, name, Kind::Assign) {
+            return Call::Copied;
+        }
+        if self.is_target(line, name) {
+            return Call::Target;
+        }
+        Call::Other
+    }
+
+    // The place of the first token of an argument of a call, counted from 1, if it is found from a line on.
+    fn argument_place(&self, line: u32, callee: Word<'_>, number: usize) -> Option<usize> {
+        let start = self.place_of(line);
+        let mut depth: usize = 0;
+        let mut passed: usize = 1;
+        for place in start..self.tokens.len().min(start.saturating_add(MOST_TOKENS)) {
+            match self.kind(place) {
+                Some(Kind::LeftParen) if depth > 0 => depth = depth.saturating_add(1),
+                Some(Kind::LeftParen) if self.is_name(place.saturating_sub(1), callee) => depth = 1,
+                Some(Kind::RightParen) => depth = depth.saturating_sub(1),
+                Some(Kind::Comma) if depth == 1 => passed = passed.saturating_add(1),
+                _ if depth > 0 && passed == number => return Some(place),
+                _ => {}
+            }
+        }
+        None
+    }
+
+    /// Returns the array that an argument of a call in a line begins with, if it is a name and more.
+    pub fn argument(&self, line: u32, callee: Word<'_>, number: usize) -> Call<'a> {
+        let Some(place) = self.argument_place(line, callee, number) else {
+            return Call::Other;
+        };
+        match self.tokens.get(place) {
+            Some(token) if token.kind == Kind::Name => Call::Argument(word_of(self.bytes, *token)),
+            _ => Call::Other,
+        }
+    }
+
+    // The place of the outermost `cilk_for` whose block is open at a place.
+    fn loop_around(&self, place: usize) -> Option<usize> {
+        let mut depth: usize = 0;
+        let mut head = None;
+        let mut open = None;
+        for at in 0..place {
+            match self.kind(at) {
+                Some(Kind::For) if head.is_none() => head = Some(at),
+                Some(Kind::LeftBrace) => {
+                    depth = depth.saturating_add(1);
+                    if head.is_some() && open.is_none() {
+                        open = Some(depth);
+                    }
+                }
+                Some(Kind::RightBrace) => {
+                    if open == Some(depth) {
+                        head = None;
+                        open = None;
+                    }
+                    depth = depth.saturating_sub(1);
+                }
+                _ => {}
+            }
+        }
+        if open.is_some() { head } else { None }
+    }
+
+    /// Returns a name for a reducer if a line is in a `cilk_for` around which a name is declared.
+    pub fn outer(&self, line: u32, name: Word<'_>) -> Call<'a> {
+        let place = self.place_of(line);
+        let Some(start) = self.loop_around(place) else {
+            return Call::Other;
+        };
+        let inner = self.tokens.get(start..place).unwrap_or(&[]);
+        if is_declared(self.bytes, inner, name) {
+            return Call::Other;
+        }
+        Call::Outer(fresh_name(self.bytes, self.tokens))
+    }
+
+    /// Whether each use of a name in a line is `len` of it, and there is one.
+    pub fn is_length(&self, line: u32, name: Word<'_>) -> bool {
+        let start = self.place_of(line);
+        let mut found = false;
+        for place in start..self.tokens.len() {
+            if self.tokens[place].line > line {
+                return found;
+            }
+            if self.is_name(place, name) {
+                if self.kind(place.saturating_sub(2)) != Some(Kind::Len) {
+                    return false;
+                }
+                found = true;
+            }
+        }
+        found
+    }
+}

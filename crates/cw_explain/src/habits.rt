@@ -1,0 +1,1123 @@
+//! What C programs write, and what to write instead.
+//!
+//! A row applies if the statement begins with the first words, the second words are right before the token that cannot
+//! be there, and the third ones begin with it. In these words `x` is a name, `1` a number, `operator`, `storage`, `keyword`
+//! and `library` a word of such a table, `type` one or more types, `(..)` a group in parentheses, `outer` a name from outside
+//! of the cilk_for around it, `total` the name of a reducer, `first` the first token of the statement, and `?` any token.
+//!
+//! A text has marks. Tokens: `@^` is the first one of the statement, `@&` the second, `@0` the one that cannot be there,
+//! `@1` the one before it and so on, `@+`, `@*` and `@#` the first, second and third after it, `@n` the first after types
+//! and stars, `@r` a name that the source does not declare. Parts of the statement: `@<` up to that token, `@.` from it on,
+//! `@m` from `@n` on, `@>` behind it and `@)` behind the next one, `@(` the group that it opens, `@;` what follows this group, `@[` what
+//! precedes the name before it, `@=` the tokens behind `x =` up to it. `@{` is the line of the innermost open bracket, `@l`
+//! the advice for a name of a library, `@x` the value of a hexadecimal number.
+//!
+//! Of several rows that apply the first counts. Each table is returned by a function of its own, because a function that
+//! names a table is checked with all of its rows.
+
+/// How the statement begins, the words before the token, those from it on, and the text.
+pub type Row = (&'static str, &'static str, &'static str, &'static str);
+
+static OUTSIDE: &[Row] = &[
+    (
+        "int main (",
+        "int x ,",
+        "type",
+        "main takes integers only: write int main(int n), and use n for the first argument",
+    ),
+    (
+        "type cilk_reducer",
+        "",
+        "",
+        "write reducer sum @d; here, and @d += e; to add to it",
+    ),
+    (
+        "int cilk_reducer",
+        "",
+        "",
+        "write reducer sum @d; here, and @d += e; to add to it",
+    ),
+    (
+        "CILK_C_REDUCER_OPADD",
+        "",
+        "",
+        "write reducer sum @*; here, and @* += e; to add to it",
+    ),
+    (
+        "CILK_C_REDUCER_MAX",
+        "",
+        "",
+        "write reducer max @*; here, and @* max= e; for each value",
+    ),
+    (
+        "",
+        "",
+        "/ *",
+        "write a comment behind //, up to the end of its line",
+    ),
+    ("cilk", "", "", "there is no cilk: delete the word"),
+    ("storage", "", "", "there is no @^: delete the word"),
+    (
+        "typedef struct",
+        "",
+        "",
+        "there are no structs: delete the declaration; write an array for each member, and an index for each pointer",
+    ),
+    (
+        "typedef",
+        "",
+        "",
+        "there is no typedef: delete the line, and write int for the type",
+    ),
+    (
+        "struct",
+        "",
+        "",
+        "there are no structs: delete the declaration; write an array for each member, and an index for each pointer",
+    ),
+    (
+        "union",
+        "",
+        "",
+        "there are no unions: delete the declaration; write an array for each member",
+    ),
+    (
+        "enum",
+        "",
+        "",
+        "there is no enum: delete the line, and write the numbers",
+    ),
+    (
+        "mutex",
+        "",
+        "",
+        "a lock has no replacement: add to a reducer (reducer sum s; s += e;), or give each call a part of the array by cut",
+    ),
+    (
+        "pthread_mutex_t",
+        "",
+        "",
+        "a lock has no replacement: add to a reducer (reducer sum s; s += e;), or give each call a part of the array by cut",
+    ),
+    (
+        "",
+        "",
+        "type * x (",
+        "a function returns an integer or nothing: write void @n(..) with a parameter int a[]; the caller declares the array and passes it",
+    ),
+    (
+        "int",
+        "int",
+        "* x (",
+        "a function returns an integer or nothing: write void @n(..) with a parameter int a[]; the caller declares the array and passes it",
+    ),
+    (
+        "int",
+        "int",
+        "[",
+        "a function returns an integer or nothing: write void f(..) with a parameter int a[]; the caller declares the array and passes it",
+    ),
+    (
+        "",
+        "",
+        "type x (",
+        "there is no type @0: write int @n(..), or void @n(..) if it returns nothing",
+    ),
+    (
+        "",
+        "const",
+        "type *",
+        "there is no type @0, and there are no pointers: write const int @n[]",
+    ),
+    (
+        "",
+        "",
+        "type *",
+        "there is no type @0, and there are no pointers: write int @n[], or const int @n[] if the function only reads it",
+    ),
+    ("", "", "type x [", "there is no type @0: write int @n[]"),
+    (
+        "",
+        "(",
+        "x * x",
+        "there are no structs and no pointers: write an array int m[] for each member, and an index int @*",
+    ),
+    (
+        "",
+        ",",
+        "x * x",
+        "there are no structs and no pointers: write an array int m[] for each member, and an index int @*",
+    ),
+    (
+        "x *",
+        "",
+        "",
+        "there are no structs and no pointers: write int @*(..), which returns an index, and an array for each member",
+    ),
+    (
+        "",
+        "(",
+        "void *",
+        "there are no pointers: write int @n[], or const int @n[] if the function only reads it",
+    ),
+    (
+        "",
+        ",",
+        "void *",
+        "there are no pointers: write int @n[], or const int @n[] if the function only reads it",
+    ),
+    ("", "", "type", "there is no type @0: write int @n"),
+    (
+        "const",
+        "",
+        "",
+        "there are no variables outside of functions: pass the value to each function that needs it",
+    ),
+    (
+        "int x",
+        "first x",
+        "=",
+        "there are no variables outside of functions: declare int @1 @. in main and pass it; a sum over strands is reducer sum @1;",
+    ),
+    (
+        "int x",
+        "first x",
+        ";",
+        "there are no variables outside of functions: declare int @1 = 0; in main, and pass it to functions",
+    ),
+    (
+        "int x",
+        "first x",
+        ",",
+        "there are no variables outside of functions: declare int @1 = 0; in main, and pass it to functions",
+    ),
+    (
+        "int x",
+        "first x",
+        "[",
+        "there are no arrays outside of functions: declare int @1@. in main, and pass it to functions",
+    ),
+];
+
+static PARAMETERS: &[Row] = &[
+    (
+        "",
+        ")",
+        ";",
+        "a function is known in the whole source: delete this line",
+    ),
+    (";", "", ";", "there is no ; after a function: delete it"),
+    (
+        "",
+        "[",
+        "1",
+        "an array parameter has no length: write int @2[]; len(@2) is its length",
+    ),
+    (
+        "",
+        "[",
+        "x",
+        "an array parameter has no length: write int @2[]; len(@2) is its length",
+    ),
+    (
+        "",
+        "]",
+        "[",
+        "arrays have one dimension: pass the number of columns m, and write a[i * m + j] for the element i, j",
+    ),
+    (
+        "",
+        "(",
+        "void )",
+        "a function without parameters has empty parentheses: write ()",
+    ),
+    (
+        "",
+        "const int",
+        "* x",
+        "there are no pointers: write const int @n[]",
+    ),
+    (
+        "",
+        "int",
+        "* x",
+        "there are no pointers: write int @n[], or const int @n[] if the function only reads it",
+    ),
+    ("", "int", "*", "there are no pointers: write int @n[]"),
+    (
+        "",
+        "const int x",
+        ")",
+        "const is for array parameters only: write int @1",
+    ),
+    (
+        "",
+        "const int x",
+        ",",
+        "const is for array parameters only: write int @1",
+    ),
+    (
+        "reducer",
+        "",
+        "=",
+        "a reducer has no initial value: write @<;",
+    ),
+];
+
+static ITEMS: &[Row] = &[
+    (
+        "}",
+        "",
+        "}",
+        "no { is open here: delete this }, or one above that ends its function too early",
+    ),
+    (
+        "x (",
+        "",
+        "",
+        "a function begins with int or void: write int @^(..) { .. }",
+    ),
+    (
+        "x",
+        "",
+        "first",
+        "a function begins with int or void, and reducers are declared by reducer sum s;",
+    ),
+];
+
+static WORDS: &[Row] = &[
+    (
+        "",
+        "for (",
+        "int x",
+        "there is no for: write int @+ = LOW; while (@+ < HIGH) { .. @+ = @+ + 1; } (without int if @+ is declared), or cilk_for (int @+ = LOW; @+ < HIGH; @+++) { .. } for independent iterations",
+    ),
+    (
+        "",
+        "for (",
+        "type x",
+        "there is no for: write int @n = LOW; while (@n < HIGH) { .. @n = @n + 1; } (without int if @n is declared), or cilk_for (int @n = LOW; @n < HIGH; @n++) { .. } for independent iterations",
+    ),
+    (
+        "",
+        "for ( type",
+        "x",
+        "there is no for: write int @0 = LOW; while (@0 < HIGH) { .. @0 = @0 + 1; } (without int if @0 is declared), or cilk_for (int @0 = LOW; @0 < HIGH; @0++) { .. } for independent iterations",
+    ),
+    (
+        "",
+        "for ( x",
+        "=",
+        "there is no for: write @1 = LOW; while (@1 < HIGH) { .. @1 = @1 + 1; }, or cilk_for (int @1 = LOW; @1 < HIGH; @1++) { .. } for independent iterations",
+    ),
+    (
+        "",
+        "for (",
+        ";",
+        "there is no for: write while (1) { .. }, with a return to leave it",
+    ),
+    (
+        "break ;",
+        "",
+        "",
+        "there is no break: end the loop by its test, or return from a function of its own",
+    ),
+    (
+        "continue ;",
+        "",
+        "",
+        "there is no continue: put the rest of the iteration into if (..) { .. }",
+    ),
+    (
+        "goto x",
+        "",
+        "",
+        "there is no goto: write if, while and functions",
+    ),
+    (
+        "do {",
+        "",
+        "",
+        "there is no do: write the body once, and then while (..) { .. }",
+    ),
+    (
+        "switch (",
+        "",
+        "",
+        "there is no switch: write if (..) { .. } else { if (..) { .. } }",
+    ),
+    ("sync ;", "", "", "write cilk_sync;"),
+    ("_Cilk_sync ;", "", "", "write cilk_sync;"),
+    ("spawn x", "", "", "write cilk_spawn @&(..);"),
+    ("_Cilk_spawn x", "", "", "write cilk_spawn @&(..);"),
+    ("", "spawn", "x", "write cilk_spawn @.;"),
+    ("", "_Cilk_spawn", "x", "write cilk_spawn @.;"),
+    ("_Cilk_for (", "", "", "write cilk_for (..)"),
+    ("storage ?", "", "", "there is no @^: delete the word"),
+    (
+        "mutex x",
+        "",
+        "",
+        "a lock has no replacement: add to a reducer (reducer sum s; outside of functions, s += e;), or give each call a part of the array by cut",
+    ),
+    (
+        "pthread_mutex_t x",
+        "",
+        "",
+        "a lock has no replacement: add to a reducer (reducer sum s; outside of functions, s += e;), or give each call a part of the array by cut",
+    ),
+    (
+        "wsp_t x",
+        "",
+        "",
+        "there is no wsp_t: put region NAME { .. } around the part to measure; cilkwork scale reports its work and span",
+    ),
+    (
+        "int cilk_reducer",
+        "",
+        "",
+        "write reducer sum @d; outside of functions, and @d += e; to add to it",
+    ),
+    (
+        "type cilk_reducer",
+        "",
+        "",
+        "write reducer sum @d; outside of functions, and @d += e; to add to it",
+    ),
+    (
+        "CILK_C_REDUCER_OPADD",
+        "",
+        "",
+        "write reducer sum s; outside of functions, and s += e; to add to it",
+    ),
+    ("REDUCER_VIEW", "", "+=", "write @2 += @>"),
+    (
+        "struct x",
+        "",
+        "",
+        "there are no structs: write an array for each member, and an index for each pointer",
+    ),
+    (
+        "",
+        "",
+        "struct x",
+        "there are no structs: write an array for each member, and an index for each pointer",
+    ),
+    (
+        "",
+        "struct",
+        "x",
+        "there are no structs: write an array for each member, and an index for each pointer",
+    ),
+];
+
+static TYPED: &[Row] = &[
+    (
+        "type * x",
+        "",
+        "",
+        "there are no pointers: write int @n[N]; for an array of N elements, which are 0",
+    ),
+    (
+        "type x ,",
+        "",
+        "",
+        "there is no type @^, and a declaration has one name and a value: write int @n = 0; and a further declaration for the next name",
+    ),
+    (
+        "type x ;",
+        "",
+        "",
+        "there is no type @^, and a declaration has a value: write int @n = 0;",
+    ),
+    ("type x = library", "", "", "there is no type @^; @l"),
+    (
+        "type x = cilk_spawn",
+        "",
+        "",
+        "there is no type @^, and a spawn is a statement of its own: write int @n = 0; @n = cilk_spawn f(..);",
+    ),
+    (
+        "type x = x (..) ;",
+        "",
+        "",
+        "there is no type @^, and a call is a statement of its own: write int @n = 0; @n = f(..);",
+    ),
+    (
+        "type x [ ? ] =",
+        "",
+        "",
+        "there is no type @^, and new elements are 0: write int @n[N]; and assign other values by statements",
+    ),
+    ("type x", "", "", "there is no type @^: write int @m"),
+    (
+        "x",
+        "first",
+        "* x",
+        "there are no pointers: write int @+ = 0; for an index, and an array for each member",
+    ),
+    ("", "( type )", "", "there are no casts: delete (@2)"),
+    (
+        "",
+        "( type",
+        "type",
+        "there are no casts: delete the type and its parentheses",
+    ),
+    (
+        "cilk_for (",
+        "cilk_for (",
+        "type x",
+        "there is no type @0: write cilk_for (int @n = ..)",
+    ),
+    (
+        "",
+        "(",
+        "type",
+        "there is no type @0: write int, and delete a cast",
+    ),
+    (
+        "",
+        "( type",
+        "x",
+        "there is no type @1: write int, and delete a cast",
+    ),
+    (
+        "",
+        "",
+        "/ *",
+        "write a comment behind //, up to the end of its line",
+    ),
+    (
+        "",
+        "/",
+        "*",
+        "write a comment behind //, up to the end of its line",
+    ),
+    (
+        "",
+        "else",
+        "if",
+        "an else has a block: write else { if (..) { .. } }",
+    ),
+    ("", "sizeof", "(", "@l"),
+    (
+        "",
+        "x -",
+        "> x",
+        "there are no structs: write an array for each member, and an index for the pointer: @+[@2] for @2->@+",
+    ),
+];
+
+static LOOPS: &[Row] = &[
+    (
+        "cilk_for (",
+        "; x",
+        "<= ? ;",
+        "a cilk_for needs <: write @1 < @+ + 1",
+    ),
+    (
+        "cilk_for (",
+        "; x",
+        "<=",
+        "a cilk_for needs <: write @1 < HIGH + 1 for @1 <= HIGH",
+    ),
+    (
+        "cilk_for (",
+        "; x",
+        "!=",
+        "a cilk_for needs <: write @1 < @>",
+    ),
+    (
+        "cilk_for (",
+        "; x",
+        ">",
+        "a cilk_for counts up: write cilk_for (int k = 0; k < HIGH - LOW; k++), and HIGH - k for @1 in its body",
+    ),
+    (
+        "cilk_for (",
+        "; x",
+        ">=",
+        "a cilk_for counts up: write cilk_for (int k = 0; k < HIGH - LOW + 1; k++), and HIGH - k for @1 in its body",
+    ),
+    (
+        "cilk_for (",
+        ";",
+        "++",
+        "in the head of a cilk_for, ++ follows the name: write @+++",
+    ),
+    (
+        "cilk_for (",
+        "over ( x )",
+        "grain",
+        "write the grain before over: grain @+ over (@2)",
+    ),
+    (
+        "cilk_for (",
+        ", x )",
+        "grain",
+        "write the grain before over: grain @+ over (..)",
+    ),
+    (
+        "",
+        "int x =",
+        "cilk_spawn",
+        "a spawn is a statement of its own: write int @2 = 0; @2 = @.",
+    ),
+    (
+        "",
+        "return",
+        "cilk_spawn",
+        "a spawn is a statement of its own: write int @r = 0; @r = @. cilk_sync; return @r;",
+    ),
+    (
+        "",
+        "] =",
+        "cilk_spawn",
+        "a spawn assigns to an integer: write int @r = 0; @r = @. and, after the cilk_sync, @< @r; in a loop over i write cilk_for (int i = LOW; i < HIGH; i++) over (@^) { int @r = 0; @r = @+(..); @< @r; }",
+    ),
+    ("", "int x = library", "", "@l"),
+    ("int x = library", "", "(", "@l"),
+    (
+        "int x = x",
+        "int x = x",
+        "(..) ;",
+        "a call is a statement of its own: write int @3 = 0; @3 = @1@(;",
+    ),
+    (
+        "return x",
+        "return x",
+        "(..) ;",
+        "a call is a statement of its own: write int @r = 0; @r = @1@(; return @r;",
+    ),
+    (
+        "while ( x",
+        "( x",
+        "(..)",
+        "a call is a statement of its own: write int @r = 0; @r = @1@(; before the loop, @[@r@;, and @r = @1@(; at the end of its body",
+    ),
+    (
+        "",
+        "cilk_sync",
+        "(",
+        "cilk_sync has no parentheses: write cilk_sync;",
+    ),
+    (
+        "x = x",
+        "= x",
+        "(..) operator",
+        "a call is a statement of its own: write int @r = 0; @r = @1@(; @^ = @r@;",
+    ),
+];
+
+static DECLARED: &[Row] = &[
+    ("", "int", "keyword", "@0 is a keyword: use another name"),
+    (
+        "type keyword",
+        "",
+        "",
+        "there is no type @^, and its name is a keyword: write int and another name",
+    ),
+    (
+        "",
+        "int",
+        "* x",
+        "there are no pointers: write int @+[N]; for an array of N elements, which are 0",
+    ),
+    (
+        "",
+        "int",
+        "*",
+        "there are no pointers: write int a[N]; for an array of N elements, which are 0",
+    ),
+    (
+        "",
+        "int x",
+        ";",
+        "a declaration has a value: write int @1 = 0;",
+    ),
+    (
+        "",
+        "int x",
+        ", x ;",
+        "a declaration has one name and a value: write int @1 = 0; int @+ = 0;",
+    ),
+    (
+        "",
+        "int x",
+        ",",
+        "a declaration has one name and a value: write int @1 = 0; and a further declaration for the next name",
+    ),
+    (
+        "int x",
+        "[",
+        "]",
+        "an array has its length in brackets: write int @2[N]; its N elements are 0",
+    ),
+    (
+        "int x",
+        "]",
+        "=",
+        "the elements of a new array are 0: write @<; and assign other values by statements",
+    ),
+    (
+        "int x [",
+        "]",
+        ", x",
+        "a declaration has one name: write @<; int @>",
+    ),
+    (
+        "",
+        "]",
+        "[",
+        "arrays have one dimension: write a[i * m + j] for the element i, j of m columns",
+    ),
+    ("total", "first", "- -", "write @1 += -1;"),
+    (
+        "outer",
+        "first",
+        "- -",
+        "a cilk_for may not write @1: write reducer sum @r; outside of functions, and @r += -1; here",
+    ),
+    ("x", "first", "- -", "there is no --: write @1 = @1 - 1;"),
+    ("total", "first", "++", "write @1 += 1;"),
+    (
+        "outer",
+        "first",
+        "++",
+        "a cilk_for may not write @1: write reducer sum @r; outside of functions, and @r += 1; here",
+    ),
+    (
+        "x =",
+        "x",
+        "++",
+        "++ is only for the head of a cilk_for: write @^ = @1; @1 = @1 + 1;",
+    ),
+    (
+        "int x =",
+        "x",
+        "++",
+        "++ is only for the head of a cilk_for: write @<; @1 = @1 + 1;",
+    ),
+    (
+        "x [",
+        "]",
+        "++",
+        "++ is only for the head of a cilk_for: write @< = @< + 1;",
+    ),
+    ("x [", "]", "- -", "there is no --: write @< = @< - 1;"),
+    (
+        "x [",
+        "]",
+        "operator =",
+        "there is no @0=: write @< = @< @0 @)",
+    ),
+    (
+        "x",
+        "first",
+        "< <=",
+        "there are no shifts: multiply by 2 to that power: @1 = @1 * 4; for @1 <<= 2;",
+    ),
+    (
+        "x",
+        "first",
+        "> >=",
+        "there are no shifts: divide by 2 to that power: @1 = @1 / 4; for @1 >>= 2; (of @1 >= 0)",
+    ),
+    (
+        "",
+        "<",
+        "<",
+        "there are no shifts: multiply by 2 to that power: @2 * 4 for @2 << 2",
+    ),
+    (
+        "x",
+        "first",
+        "++",
+        "++ is only for the head of a cilk_for: write @1 = @1 + 1;",
+    ),
+    ("total", "first", "- =", "write @1 += -@)"),
+    (
+        "outer",
+        "first",
+        "operator =",
+        "a cilk_for may not write @1: write reducer sum @r; outside of functions, and @r += e; here",
+    ),
+    (
+        "total",
+        "first",
+        "operator =",
+        "a reducer only takes +=, or max= if it is declared by reducer max",
+    ),
+    (
+        "x",
+        "first",
+        "operator =",
+        "there is no @0=: write @1 = @1 @0 @)",
+    ),
+];
+
+static HABITS: &[Row] = &[
+    ("reducer", "", "", "declare a reducer outside of functions"),
+    ("*", "", "", "there are no pointers: write a[0] for *a"),
+    (
+        "",
+        "return",
+        "* x",
+        "there are no pointers: write @+[0] for *@+",
+    ),
+    (
+        "x",
+        "x =",
+        "* x",
+        "there are no pointers: write @+[0] for *@+",
+    ),
+    ("", "=", "* x", "there are no pointers: write @+[0] for *@+"),
+    (
+        "",
+        "",
+        "max (",
+        "max is a keyword: write int m = a; if (b > m) { m = b; } for the maximum of a and b",
+    ),
+    ("var x", "", "", "there is no var: write int @."),
+    (
+        "x = x",
+        "x = x",
+        "= ? ;",
+        "assign to one name at a time: write @1 = @+; @^ = @1;",
+    ),
+    (
+        "x = x",
+        "x = x",
+        "=",
+        "assign to one name at a time: write @1 @. @^ = @1;",
+    ),
+    (
+        "x =",
+        "=",
+        "++ x",
+        "++ is only for the head of a cilk_for: write @+ = @+ + 1; @^ = @+;",
+    ),
+    ("++ total", "", "++", "write @+ += 1;"),
+    (
+        "++ outer",
+        "",
+        "++",
+        "a cilk_for may not write @+: write reducer sum @r; outside of functions, and @r += 1; here",
+    ),
+    (
+        "++ x",
+        "",
+        "++",
+        "++ is only for the head of a cilk_for: write @+ = @+ + 1;",
+    ),
+    ("", "library", "(", "@l"),
+    (
+        "",
+        "operator x",
+        "(..)",
+        "@1(..) is a call, and a call is a statement of its own: write int @r = 0; @r = @1@(; and @r in its place: @[@r@;",
+    ),
+    (
+        "",
+        "( x",
+        "(..)",
+        "@1(..) is a call, and a call is a statement of its own: write int @r = 0; @r = @1@(; and @r in its place: @[@r@;",
+    ),
+    (
+        "",
+        ", x",
+        "(..)",
+        "@1(..) is a call, and a call is a statement of its own: write int @r = 0; @r = @1@(; and @r in its place: @[@r@;",
+    ),
+    (
+        "",
+        "[ x",
+        "(..)",
+        "@1(..) is a call, and a call is a statement of its own: write int @r = 0; @r = @1@(; and @r in its place: @[@r@;",
+    ),
+    (
+        "",
+        "! x",
+        "(..)",
+        "@1(..) is a call, and a call is a statement of its own: write int @r = 0; @r = @1@(; and @r in its place: @[@r@;",
+    ),
+    (
+        "",
+        "return x",
+        "(..)",
+        "@1(..) is a call, and a call is a statement of its own: write int @r = 0; @r = @1@(; and @r in its place: @[@r@;",
+    ),
+    (
+        "",
+        "] = x",
+        "(..)",
+        "a call assigns to an integer: write int @r = 0; @r = @1@(; @[@r@;",
+    ),
+    (
+        "int x = x",
+        "= x",
+        "(..)",
+        "@1(..) is a call, and a call is a statement of its own: write int @r = 0; @r = @1@(; and @r in its place: @[@r@;",
+    ),
+    (
+        "total +=",
+        "+= x",
+        "(..)",
+        "@1(..) is a call, and a call is a statement of its own: write int @r = 0; @r = @1@(; and @r in its place: @[@r@;",
+    ),
+    (
+        "x +=",
+        "+= x",
+        "(..)",
+        "@1(..) is a call, and a call is a statement of its own: write int @r = 0; @r = @1@(; and @r in its place: @[@r@;",
+    ),
+];
+
+static INSIDE: &[Row] = &[
+    (
+        "cilk_for (",
+        "cilk_for (",
+        "x",
+        "a cilk_for declares its variable: write cilk_for (int @0 = LOW; @0 < HIGH; @0++)",
+    ),
+    (
+        "cilk_for (",
+        "; x",
+        "",
+        "a cilk_for counts up by one: for steps of k write cilk_for (int j = 0; j < (HIGH - LOW + k - 1) / k; j++), and LOW + j * k for @1 in its body",
+    ),
+    (
+        "",
+        "cilk_spawn x",
+        "=",
+        "the name that takes the result comes first: write @1 = cilk_spawn @>",
+    ),
+    (
+        "",
+        "cilk_spawn",
+        "{",
+        "cilk_spawn needs a call: move the block into a function",
+    ),
+    (
+        "cilk_spawn x (",
+        ")",
+        "operator",
+        "a spawn is a statement of its own: write @<;",
+    ),
+    (
+        "",
+        "",
+        "cilk_spawn",
+        "a spawn is a statement of its own: write int @r = 0; @r = @. cilk_sync; before this statement, and @r in its place",
+    ),
+    (
+        "int x (",
+        "int x",
+        "(",
+        "a function is not declared inside another one: the { of line @{ is open; write } before this line",
+    ),
+    (
+        "int x (",
+        "",
+        "",
+        "a function is not declared inside another one: the { of line @{ is open; write } before this line",
+    ),
+    (
+        "void",
+        "",
+        "void",
+        "a function is not declared inside another one: the { of line @{ is open; write } before this line",
+    ),
+    (
+        "x = x (",
+        ")",
+        "operator",
+        "a call is a statement of its own: write int @r = 0; @r = @=; @^ = @r @.",
+    ),
+    (
+        "x = cilk_spawn",
+        ")",
+        "operator",
+        "a spawn is a statement of its own: write int @r = 0; @r = @=; cilk_sync; @^ = @r @.",
+    ),
+    (
+        "",
+        "x",
+        "(..)",
+        "@1(..) is a call, and a call is a statement of its own: write int @r = 0; @r = @1@(; and @r in its place: @[@r@;",
+    ),
+    ("", "(", "int", "there are no casts: delete (int)"),
+    (
+        "",
+        "",
+        "const",
+        "const is for array parameters only: delete it",
+    ),
+    (
+        "int x =",
+        "",
+        ", x =",
+        "a declaration has one name: write @<; int @>",
+    ),
+    (
+        "int x =",
+        "",
+        ",",
+        "a declaration has one name and a value: write @<; and a further declaration for the next name",
+    ),
+    ("x =", "", ",", "assign to one name at a time: write @<; @>"),
+    (
+        "if (",
+        "",
+        "=",
+        "= assigns, in a statement of its own: write == to compare",
+    ),
+    (
+        "while (",
+        "",
+        "=",
+        "= assigns, in a statement of its own: write == to compare",
+    ),
+    (
+        "",
+        "if",
+        "",
+        "the test of an if is in parentheses: write if (..) { .. }",
+    ),
+    (
+        "",
+        "while",
+        "",
+        "the test of a while is in parentheses: write while (..) { .. }",
+    ),
+    ("", "print", "", "write print(@.);"),
+    (
+        "print",
+        "",
+        ",",
+        "print takes one value: write print(..); for each",
+    ),
+];
+
+static FURTHER: &[Row] = &[
+    (
+        "x",
+        "]",
+        "+=",
+        "+= is only for reducers: write @< = @< + @>",
+    ),
+    (
+        "",
+        "x",
+        "++",
+        "++ is only for the head of a cilk_for: write @1 = @1 + 1; as a statement of its own",
+    ),
+    (
+        "",
+        "",
+        "++",
+        "++ is only for the head of a cilk_for: write i = i + 1; as a statement of its own",
+    ),
+    (
+        "x ==",
+        "",
+        "==",
+        "= assigns, and == compares: write @^ = @>",
+    ),
+    ("x =", "", "=", "assign to one name at a time"),
+    (
+        "",
+        ">",
+        ">",
+        "there are no shifts: divide by 2 to that power: @2 / 4 for @2 >> 2 (of @2 >= 0)",
+    ),
+    (
+        "cut",
+        "",
+        "{",
+        "a cut names its parts: write cut a at k as l, r { .. }",
+    ),
+    (
+        "",
+        "region",
+        "{",
+        "a region has a name: write region phase { .. }",
+    ),
+    (";", "", ";", "there is no empty statement: delete the ;"),
+    (
+        "else",
+        "",
+        "else",
+        "there is no if without else right before this else: delete it, or move it",
+    ),
+    (
+        "{",
+        "",
+        "first",
+        "a block belongs to a statement: delete its braces, or write cilk_scope { .. }",
+    ),
+    ("", "0", "x", "numbers are decimal: write @x"),
+    (
+        "",
+        "1",
+        "x",
+        "a number has decimal digits only: delete @0 or write the number out",
+    ),
+    (
+        "",
+        "0",
+        "1",
+        "a number has no leading 0: write @0 (C reads 0@0 as octal)",
+    ),
+    ("x x", "", "x", "there is no type @^: write int @."),
+];
+
+/// Outside of functions: where no source has the token.
+pub fn outside() -> &'static [Row] {
+    OUTSIDE
+}
+
+/// Outside of functions, for parameters and what follows them.
+pub fn parameters() -> &'static [Row] {
+    PARAMETERS
+}
+
+/// Outside of functions, if nothing else applies.
+pub fn items() -> &'static [Row] {
+    ITEMS
+}
+
+/// In functions, where no source has the token: statements.
+pub fn words() -> &'static [Row] {
+    WORDS
+}
+
+/// The same for types of C and what they declare.
+pub fn typed() -> &'static [Row] {
+    TYPED
+}
+
+/// The same for the heads of loops, and for spawns and calls.
+pub fn loops() -> &'static [Row] {
+    LOOPS
+}
+
+/// The same for declarations and assignments.
+pub fn declared() -> &'static [Row] {
+    DECLARED
+}
+
+/// The same for other statements.
+pub fn habits() -> &'static [Row] {
+    HABITS
+}
+
+/// In functions, if no semicolon and no brace is missing.
+pub fn inside() -> &'static [Row] {
+    INSIDE
+}
+
+/// The same, after `inside`.
+pub fn further() -> &'static [Row] {
+    FURTHER
+}
