@@ -8,6 +8,9 @@ use cw_model::limits::{USUAL_BURDEN, USUAL_LIMIT};
 use cw_text::Fault;
 use std::alloc::Global;
 
+/// The processors up to which speedups are reported by default.
+pub const USUAL_PROCESSORS: u64 = 64;
+
 /// The workers of a run where no number of them is given.
 pub const USUAL_WORKERS: u64 = 2;
 
@@ -26,6 +29,9 @@ pub enum Mode {
     Gain(u64),
     /// Work, span, and how many steps a greedy schedule of the run takes on so many processors, from 1 to 1,000,000.
     Greedy(u64),
+    /// Steps and speedups on 1, 2, 4, .. processors up to so many, from 1 to 1,000,000, with the bound that work and span set
+    /// and an estimate that charges the burden.
+    Speedup(u64),
 }
 
 /// How to analyse a program. A check uses neither the limit nor the burden; `Run`, `Sites` and `Greedy` take

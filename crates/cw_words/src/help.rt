@@ -12,13 +12,14 @@ PREFIX/share/doc/cilkwork, and in the repository in docs/ and examples/.
 standard input is run, without ARGS.
 
 What is written to standard output:
-  check  'ok', where the source compiles
-  run    printed values, totals of reducers and the value of main, a line each
-  scale  a table of work, span and parallelism, of the run and of each tag
-  sites  a table of calls, work and span, of each call in the source
-  gain   a table of what the run's spans would be if a function were free, of
-         the functions that the span is spent in
-  greedy how many steps the run takes on P processors, in a table of one row
+  check    'ok', where the source compiles
+  run      printed values, totals of reducers and the value of main, a line each
+  scale    a table of work, span and parallelism, of the run and of each tag
+  sites    a table of calls, work and span, of each call in the source
+  gain     a table of what the run's spans would be if a function were free, of
+           the functions that the span is spent in
+  greedy   how many steps the run takes on P processors, in a table of one row
+  speedup  a table of steps and speedups on 1, 2, 4, .. processors
 In a table commas stand between fields, and the first line names the columns.
 Work, span, limit and burden are counted in instructions.
 
@@ -29,17 +30,18 @@ Every command takes these words too, anywhere among the others:
 As the only word: -V or --version writes the program's name and its version.
 
 A number is one or more decimal digits; zeros in front are allowed:
-  P         from 1 to 1000000
-  ARGS      from 0 to 9223372036854775807, as many as main has parameters
-  --limit   from 1 to 4611686018427387904; a run that needs all of the default
-            may take some seconds
-  --burden  from 0 to 1000000000; what a path is charged at each spawn where it
-            goes on behind it, as if another processor had stolen that
-  --edges   spawn, or both, where a path is charged the burden too that runs
-            through the spawned call, as if that came back to the join late
-  --workers from 1 to 64; how many threads share the run. No report depends on
-            it
-  --top     from 1 to 64
+  P             from 1 to 1000000
+  ARGS          from 0 to 9223372036854775807, as many as main has parameters
+  --limit       from 1 to 4611686018427387904; a run that needs all of the
+                default may take some seconds
+  --burden      from 0 to 1000000000; what a path is charged at each spawn where
+                it goes on behind it, as if another processor had stolen that
+  --edges       spawn, or both, where a path is charged the burden too that runs
+                through the spawned call, as if that came back to the join late
+  --workers     from 1 to 64; how many threads share the run. No report depends
+                on it
+  --top         from 1 to 64
+  --processors  from 1 to 1000000; the largest number that speedup reports
 
 Exit status and standard error (L is a line of the source):
   0                     the report is on standard output
@@ -165,3 +167,25 @@ How to read it: GUIDE.md, which lies where 'cilkwork --help' tells.
 
 --explain tells why a source is refused or a run traps. What P, ARGS and
 numbers may be, and the exit statuses: 'cilkwork --help'.";
+
+/// Of `speedup`, below its options.
+pub const OF_SPEEDUP: &str = "\
+Writes a table with commas between fields, and none of what the program prints.
+The first line names the columns. Then each power of two below --processors has
+a line, and --processors itself has the last one.
+  processors        P
+  steps             steps of the greedy schedule on P processors, as the command
+                    greedy reports them; empty if the run has more than 1000000
+                    strands
+  speedup           work by steps, to three digits and rounded down; empty with
+                    steps
+  speedup_bound     the smaller of P and work by span: no schedule is faster
+  burdened_steps    work and P - 1 times the burdened span, divided by P and
+                    rounded down: an estimate for a run in which steals cost
+                    time
+  burdened_speedup  work by burdened_steps, in the same way
+Work and span are those of scale, and --burden and --edges act as in scale.
+How to read them: GUIDE.md, which lies where 'cilkwork --help' tells.
+
+--explain tells why a source is refused or a run traps. What ARGS and numbers
+may be, and the exit statuses: 'cilkwork --help'.";

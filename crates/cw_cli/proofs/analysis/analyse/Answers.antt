@@ -1,7 +1,7 @@
 use Rattle.std.proofs.Common.{rules, ◌≢◌, subst}
 use Rattle.cw_words.specs.declared.asked.Mode.TheVariants as mode
 use Rattle.cw_cli.specs.Told.{HasTables}
-use Rattle.cw_cli.proofs.Modes.{gain_is_no_check, has_tables, run_is_no_check, running, schedule_is_no_check}
+use Rattle.cw_cli.proofs.Modes.{gain_is_no_check, has_tables, run_is_no_check, running, schedule_is_no_check, speedup_is_no_check}
 use Rattle.cw_cli.proofs.Runs.{by_crew, by_crowd, checked, refusal, run_is}
 use Rattle.cw_cli.proofs.analysis.analyse.Goals as goal
 
@@ -45,3 +45,9 @@ returns-in-Greedy g c =
     let runs = running c.args.options.mode (mode.Greedy c.in-Greedy.processors) c.in-Greedy.is schedule_is_no_check in
     by_crew g.W.Sink.seen c.args.out.now c.run_greedy_with.new.out c.args.bytes.now c.args.args.now c.args.options _ _ (search rules)
     (run_is g.W.Sink.seen c.args.out.now c.run_greedy_with.new.out c.args.bytes.now c.args.args.now c.args.options runs c.run_greedy_with.result (c.run_greedy_with.ensures c.args.bytes.now c.in-Greedy.is c.in_ok-made.ensures.compiled))
+
+pub returns-in-Speedup : goal.returns-in-Speedup
+returns-in-Speedup g c =
+    let runs = running c.args.options.mode (mode.Speedup c.in-Speedup.most) c.in-Speedup.is speedup_is_no_check in
+    by_crew g.W.Sink.seen c.args.out.now c.run_speedup_with.new.out c.args.bytes.now c.args.args.now c.args.options _ _ (search rules)
+    (run_is g.W.Sink.seen c.args.out.now c.run_speedup_with.new.out c.args.bytes.now c.args.args.now c.args.options runs c.run_speedup_with.result (c.run_speedup_with.ensures c.args.bytes.now c.in-Speedup.is c.in_ok-made.ensures.compiled))

@@ -1,7 +1,7 @@
 use Rattle.std.proofs.Common.{rules, ◌≢◌, subst}
 use Rattle.cw_words.specs.declared.asked.Mode.TheVariants as mode
 use Rattle.cw_cli.specs.Told.{HasTables}
-use Rattle.cw_cli.proofs.Modes.{gain_is_no_check, has_tables, run_is_no_check, running, schedule_is_no_check}
+use Rattle.cw_cli.proofs.Modes.{gain_is_no_check, has_tables, run_is_no_check, running, schedule_is_no_check, speedup_is_no_check}
 use Rattle.cw_cli.proofs.Runs.{checked, refusal, run_is}
 use Rattle.cw_cli.proofs.analysis.analyse_alone.Goals as goal
 
@@ -31,3 +31,8 @@ pub returns-in-Greedy : goal.returns-in-Greedy
 returns-in-Greedy g c =
     let runs = running c.args.options.mode (mode.Greedy c.in-Greedy.processors) c.in-Greedy.is schedule_is_no_check in
     run_is g.W.Sink.seen c.args.out.now c.run_greedy.new.out c.args.bytes.now c.args.args.now c.args.options runs c.run_greedy.result (c.run_greedy.ensures c.args.bytes.now c.in-Greedy.is c.in_ok-made.ensures.compiled)
+
+pub returns-in-Speedup : goal.returns-in-Speedup
+returns-in-Speedup g c =
+    let runs = running c.args.options.mode (mode.Speedup c.in-Speedup.most) c.in-Speedup.is speedup_is_no_check in
+    run_is g.W.Sink.seen c.args.out.now c.run_speedup.new.out c.args.bytes.now c.args.args.now c.args.options runs c.run_speedup.result (c.run_speedup.ensures c.args.bytes.now c.in-Speedup.is c.in_ok-made.ensures.compiled)
