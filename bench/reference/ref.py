@@ -4,6 +4,7 @@
     ref.py run|scale|sites FILE [ARGS..] [--limit N] [--burden B] [--edges spawn|both]
     ref.py gain FILE [ARGS..] [--limit N] [--burden B] [--edges spawn|both] [--top N]
     ref.py greedy P FILE [ARGS..] [--limit N]
+    ref.py speedup FILE [ARGS..] [--limit N] [--burden B] [--edges spawn|both] [--processors N]
 
 The program must be one that `cilkwork check` accepts. The script prints what `cilkwork` must print, and ends with its status.
 """
@@ -441,6 +442,24 @@ def greedy_text(run, processors):
     return "processors,work,span,greedy\n%d,%d,%d,%d\n" % fields
 
 
+def processor_counts(most):
+    """Returns the powers of two below a number of processors, and then the number."""
+    return [2**k for k in range(most.bit_length()) if 2**k < most] + [most]
+
+
+def speedup_text(run, burden, most):
+    """Returns the steps and the speedup for each number of processors, with their bound and the estimate with burdens."""
+    work, span, burdened = run.tree.work, run.tree.span, burdened_span(burden, run.tree)
+    text = "processors,steps,speedup,speedup_bound,burdened_steps,burdened_speedup\n"
+    for processors in processor_counts(most):
+        steps = greedy_length(run.tree, processors)
+        bound = min(1000 * processors, 1000 * work // span)
+        estimate = (work + (processors - 1) * burdened) // processors
+        fields = (processors, steps, parallelism(work, steps), bound // 1000, bound % 1000, estimate, parallelism(work, estimate))
+        text += "%d,%d,%s,%d.%03d,%d,%s\n" % fields
+    return text
+
+
 def text_of(mode, run, burden, processors, top):
     """Returns the report of a run that finished."""
     if mode == "run":
@@ -449,6 +468,8 @@ def text_of(mode, run, burden, processors, top):
         return scale_text(run, burden)
     if mode == "gain":
         return gain_text(run, burden, top)
+    if mode == "speedup":
+        return speedup_text(run, burden, processors)
     return sites_text(run) if mode == "sites" else greedy_text(run, processors)
 
 
@@ -462,7 +483,7 @@ def report(mode, run, burden, processors=1, top=10):
 
 
 def main():
-    words, limit, charge, edges, top, positions = sys.argv[1:], 1000000000, 15000, "spawn", 10, []
+    words, limit, charge, edges, top, most, positions = sys.argv[1:], 1000000000, 15000, "spawn", 10, 64, []
     while words:
         word = words.pop(0)
         if word == "--limit":
@@ -473,10 +494,12 @@ def main():
             edges = words.pop(0)
         elif word == "--top":
             top = int(words.pop(0))
+        elif word == "--processors":
+            most = int(words.pop(0))
         else:
             positions.append(word)
     mode = positions.pop(0)
-    processors = int(positions.pop(0)) if mode == "greedy" else 1
+    processors = int(positions.pop(0)) if mode == "greedy" else most
     path, *arguments = positions
     with open(path) as file:
         run = Run(Program(file.read()), [int(word) for word in arguments], limit)

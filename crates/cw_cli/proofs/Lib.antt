@@ -1,5 +1,6 @@
 mod Modes
 mod Rows
+mod Ordered
 mod Runs
 mod Tools
 pub mod ReadWords

@@ -14,6 +14,9 @@ run_is_no_check e = cc
 pub schedule_is_no_check : {p : ℕ} → mode.Greedy p ≡ mode.Check → ⊥
 schedule_is_no_check e = cc
 
+pub speedup_is_no_check : {most : ℕ} → mode.Speedup most ≡ mode.Check → ⊥
+speedup_is_no_check e = cc
+
 pub gain_is_no_check : {top : ℕ} → mode.Gain top ≡ mode.Check → ⊥
 gain_is_no_check e = cc
 

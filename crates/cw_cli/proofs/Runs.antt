@@ -1,5 +1,5 @@
 -- From the result of a run of code to the meaning of its program.
-use Rattle.std.proofs.Common.{◌≡◌, ◌≢◌, ℕ, ℤ, true, ◌&&◌, ◌<◌, ◌≤◌, List, [], ◌∷◌, ◌++◌, length, Some, Result, Ok, Err, IsErrAnd, flat_map, map, refl, sym, ap, ◌∙◌, subst, arith}
+use Rattle.std.proofs.Common.{◌≡◌, ◌≢◌, ℕ, ℤ, true, ◌&&◌, ◌<◌, ◌≤◌, List, [], ◌∷◌, ◌++◌, length, Some, Result, Ok, Err, IsErrAnd, flat_map, map, refl, sym, ap, ap₂, ◌∙◌, subst, arith}
 use Rattle.std.specs.Prelude.{nat_eq, nat_le, codes, decimal, MatchResult}
 use Rattle.std.specs.Global.{Vec}
 use Rattle.std.specs.List.{list_all}
@@ -12,7 +12,7 @@ use Rattle.cw_model.specs.declared.total.Total.{Total}
 use Rattle.cw_model.specs.Burdens.{no_burden}
 use Rattle.cw_model.specs.Syntax.{Program, Reducer}
 use Rattle.cw_model.specs.declared.limits.TheConstants.{MOST_LIMIT, MOST_BURDEN}
-use Rattle.cw_model.specs.Trees.{Tree}
+use Rattle.cw_model.specs.Trees.{Tree, work, span}
 use Rattle.cw_model.specs.Answers.{Answer, Ended, TrappedAt, OverLimit}
 use Rattle.cw_model.specs.declared.trap.Trap.{Trap}
 use Rattle.cw_model.specs.Report as report
@@ -22,6 +22,9 @@ use Rattle.cw_pool.specs.declared.run.TheConstants.{MOST_BODIES}
 use Rattle.cw_schedule.specs.State.{IsWithin}
 use Rattle.cw_model.specs.declared.limits.TheConstants.{MOST_PROCESSORS}
 use Rattle.cw_schedule.specs.Schedules.{IsNotScheduled, Schedules, is_asked, is_counted}
+use Rattle.cw_speedup.specs.Speedups as speeds
+use Rattle.cw_meter.specs.Whole.{AreReadings}
+use Rattle.cw_meter.specs.declared.meter.Readings.{Readings}
 use Rattle.cw_code.specs.Code.{Code}
 use Rattle.cw_code.specs.Run.{code_serial}
 use Rattle.cw_code.specs.Fits.{main_params}
@@ -43,8 +46,12 @@ use Rattle.cw_words.specs.declared.asked.Mode.{Mode}
 use Rattle.cw_words.specs.declared.asked.Mode.TheVariants as mode
 use Rattle.cw_words.specs.declared.asked.Options.{Options}
 use Rattle.cw_cli.specs.Analyses.{IsModeInRange}
-use Rattle.cw_cli.specs.Schedules.{HasTooManyStrands, IsScheduled, IsScheduledIn}
+use Rattle.cw_cli.specs.Schedules.{AreBounded, HasTooManyStrands, IsScheduled, IsScheduledIn}
+use Rattle.cw_cli.specs.Speedups.{readings_of}
+use Rattle.cw_report.specs.Speedups.{speedup_report}
+use Rattle.cw_report.specs.Speedups as texts
 use Rattle.cw_cli.specs.Told.{HasTables, told_of}
+use Rattle.cw_cli.proofs.Ordered.{are_bounded}
 use Rattle.cw_cli.proofs.Rows.{scale_is, sites_are, gains_are}
 use Rattle.cw_code.specs.Heads.{head_view}
 use Rattle.cw_gains.specs.Gains.{Gains, HasNumberedSites}
@@ -105,6 +112,7 @@ over_is mode.Scale code = refl
 over_is mode.Sites code = refl
 over_is (mode.Gain top) code = refl
 over_is (mode.Greedy processors) code = refl
+over_is (mode.Speedup most) code = refl
 
 memory_is : (m : Mode) (code : Code) → told_of m code (Err fault.Memory) ≡ []
 memory_is mode.Check code = refl
@@ -113,6 +121,7 @@ memory_is mode.Scale code = refl
 memory_is mode.Sites code = refl
 memory_is (mode.Gain top) code = refl
 memory_is (mode.Greedy processors) code = refl
+memory_is (mode.Speedup most) code = refl
 
 arguments_are : (m : Mode) (code : Code) → told_of m code (Err fault.Arguments) ≡ []
 arguments_are mode.Check code = refl
@@ -121,6 +130,7 @@ arguments_are mode.Scale code = refl
 arguments_are mode.Sites code = refl
 arguments_are (mode.Gain top) code = refl
 arguments_are (mode.Greedy processors) code = refl
+arguments_are (mode.Speedup most) code = refl
 
 strands_are : (m : Mode) (code : Code) (count : ℕ) → told_of m code (Err (fault.Strands count)) ≡ []
 strands_are mode.Check code count = refl
@@ -129,6 +139,7 @@ strands_are mode.Scale code count = refl
 strands_are mode.Sites code count = refl
 strands_are (mode.Gain top) code count = refl
 strands_are (mode.Greedy processors) code count = refl
+strands_are (mode.Speedup most) code count = refl
 
 -- a mode with tables asks for no schedule
 tables_in_range : (m : Mode) → HasTables m → IsModeInRange m
@@ -149,6 +160,7 @@ trap_scheduled mode.Scale trap line lines = tt
 trap_scheduled mode.Sites trap line lines = tt
 trap_scheduled (mode.Gain top) trap line lines = tt
 trap_scheduled (mode.Greedy processors) trap line lines = tt
+trap_scheduled (mode.Speedup most) trap line lines = tt
 
 -- the row of a schedule
 row_is : (p p' work work' span span' steps steps' : ℕ) → p ≡ p' → work ≡ work' → span ≡ span' → steps ≡ steps'
@@ -158,6 +170,12 @@ row_is p p' work work' span span' steps steps' a b c d =
     ∙ ap (λ x. csv_line (decimal p' ∷ decimal x ∷ decimal span ∷ decimal steps ∷ [])) b
     ∙ ap (λ x. csv_line (decimal p' ∷ decimal work' ∷ decimal x ∷ decimal steps ∷ [])) c
     ∙ ap (λ x. csv_line (decimal p' ∷ decimal work' ∷ decimal span' ∷ decimal x ∷ [])) d
+
+-- the measures of a tree
+readings_are : (burden : Burden) (m : Readings) (t : Tree) → AreReadings burden t m → m ≡ readings_of burden t
+readings_are burden m t h =
+    ap (λ x. record m { work = x }) h.work ∙ ap (λ x. record m { work = work t; span = x }) h.span
+    ∙ ap (λ x. record m { work = work t; span = span t; burdened = x }) h.burdened
 
 -- a sink that is unchanged counts no further failed write
 no_part : {W : Type 0} (seen : W → Seen) (old new : W) (text : List ℕ) → new ≡ old → WritesPart (seen old) (seen new) text → ⊥
@@ -367,6 +385,53 @@ module _ (bytes : List ℕ) (args : List ℤ) (words : list_all fits args ≡ tr
       strands = λ count. refl;
     }
 
+  -- speedups up to `most` processors
+  module _ (most : ℕ) (is_speedup : options.mode ≡ mode.Speedup most) where
+    sped_may : speeds.is_asked code args options.limit options.burden most ≡ true → May
+    sped_may h =
+        let whole = and_parts (is_asked code args options.limit most) (nat_le options.burden.charge MOST_BURDEN) h in
+        let counted = and_parts (is_counted most) (is_request code args options.limit no_burden) whole.0 in
+        let range = and_parts (nat_le 1 most) (nat_le most MOST_PROCESSORS) counted.0 in
+        let of_mode : IsModeInRange options.mode = subst IsModeInRange (sym is_speedup) (le_of 1 most range.0, le_of most MOST_PROCESSORS range.1) in
+        may no_burden of_mode (le_of options.burden.charge MOST_BURDEN whole.1) counted.1
+
+    must_speed : May → speeds.is_asked code args options.limit options.burden most ≡ true
+    must_speed m =
+        let range : IsModeInRange (mode.Speedup most) = subst IsModeInRange is_speedup m.in_range.mode in
+        both_true (is_asked code args options.limit most) _
+        (both_true (is_counted most) _ (both_true (nat_le 1 most) _ (at_most 1 most range.0) (at_most most MOST_PROCESSORS range.1)) (must no_burden (omega arith) m))
+        (at_most options.burden.charge MOST_BURDEN m.in_range.burden)
+
+    unsped : (f : Fault) → speeds.IsNotSpedUp code args options.limit options.burden most f → IsUnrun f
+    unsped fault.OverLimit h = let m = sped_may h.0 in (m, answer_is m OverLimit h.1)
+    unsped (fault.Trap trap line lines) h = let m = sped_may h.0 in (m, answer_is m (TrappedAt trap line lines.items) h.1)
+    unsped fault.Arguments h = λ m. false≢true (sym h ∙ must_speed m)
+    unsped fault.Memory h = tt
+    unsped _ h = absurd h
+
+    pub speedups_tell : Tells (speeds.SpeedsUp code args options.limit options.burden most) (speeds.IsNotSpedUp code args options.limit options.burden most) speedup_report
+    speedups_tell = record {
+      ended = λ s r.
+          let m = sped_may r.asked in
+          let end = Ended r.ends.value r.ends.lines r.ends.totals r.tree in
+          let bounded : AreBounded r.tree = are_bounded r.tree r.bounds in
+          record {
+            may_run = m;
+            end = end;
+            ended = tt;
+            is = answer_is m end r.ends.answer;
+            scheduled = subst (λ k. IsScheduledIn k end) (sym is_speedup) bounded;
+            told = ap₂ texts.speedup_text (readings_are options.burden s.measure r.tree r.measure) r.rows
+                ∙ ap (λ k. analyses.text_in k compiled.program options.burden end) (sym is_speedup);
+          };
+      unrun = unsped;
+      printed = λ trap line lines. ap (λ k. analyses.text_in k compiled.program options.burden (TrappedAt trap line lines.items)) (sym is_speedup);
+      over = refl;
+      memory = refl;
+      arguments = refl;
+      strands = λ count. refl;
+    }
+
   -- a text that is the report of the answer
   text_is : (a : Answer) (text : List ℕ) → answer ≡ a → text ≡ report_of a → text ≡ analyses.text_of compiled.program args options
   text_is a text e told = told ∙ sym (ap report_of e)
@@ -493,6 +558,7 @@ module _ {W : Type 0} (seen : W → Seen) (old new : W) (bytes : List ℕ) (args
   in_running_mode mode.Sites runs r h = h
   in_running_mode (mode.Gain top) runs r h = h
   in_running_mode (mode.Greedy processors) runs r h = h
+  in_running_mode (mode.Speedup most) runs r h = h
 
   -- the result of a run, if the mode runs the program
   pub run_is : options.mode ≢ mode.Check → (r : Result (Unit {0}) Fault) → analyses.IsRun seen old new bytes args options r → analyses.IsAnalysed seen old new bytes args options r
@@ -532,6 +598,7 @@ refused_in seen old bytes args options mode.Scale f h = run_refusal seen old byt
 refused_in seen old bytes args options mode.Sites f h = run_refusal seen old bytes args options f h
 refused_in seen old bytes args options (mode.Gain top) f h = run_refusal seen old bytes args options f h
 refused_in seen old bytes args options (mode.Greedy processors) f h = run_refusal seen old bytes args options f h
+refused_in seen old bytes args options (mode.Speedup most) f h = run_refusal seen old bytes args options f h
 
 -- bytes that are rejected, in every mode
 pub refusal : {W : Type 0} (seen : W → Seen) (old : W) (bytes : List ℕ) (args : List ℤ) (options : Options) (f : Fault) → IsRefused bytes f

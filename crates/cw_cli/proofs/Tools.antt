@@ -121,6 +121,7 @@ module _ (bytes : List ℕ) (long : MOST_SOURCE_BYTES < length bytes) where
     long_whole mode.Sites r h = run_whole r h
     long_whole (mode.Gain top) r h = run_whole r h
     long_whole (mode.Greedy processors) r h = run_whole r h
+    long_whole (mode.Speedup most) r h = run_whole r h
 
 module _ {W : Type 0} (seen : W → Seen) (old new : W) (args : List ℤ) (options : Options) where
   -- the result of an analysis of the bytes that were read is the result for the whole source

@@ -14,6 +14,7 @@ use Rattle.cw_pool.specs.declared.run.TheConstants.{MOST_BODIES}
 use Rattle.cw_report.specs.Seen.{Seen}
 use Rattle.cw_report.specs.Sinks.{WritesAll, WritesPart}
 use Rattle.cw_cli.specs.Schedules.{greedy_text, IsScheduledIn, HasTooManyStrands}
+use Rattle.cw_cli.specs.Speedups.{speedup_text}
 use Rattle.cw_compile.specs.Sources.{Compiles, IsRefused}
 use Rattle.cw_words.specs.declared.asked.Mode.{Mode}
 use Rattle.cw_words.specs.declared.asked.Mode.TheVariants as mode
@@ -27,11 +28,13 @@ text_in mode.Scale program burden answer = report_text report.Scale program burd
 text_in mode.Sites program burden answer = report_text report.Sites program burden answer
 text_in (mode.Gain top) program burden answer = report_text (report.Gain top) program burden answer
 text_in (mode.Greedy processors) program burden answer = greedy_text processors answer
+text_in (mode.Speedup most) program burden answer = speedup_text most burden answer
 
--- a schedule is for processors in range, and functions that are told are so many
+-- a schedule is for processors in range, speedups go up to such processors, and functions that are told are so many
 abbrev pub IsModeInRange : Mode → Type 0
 IsModeInRange (mode.Gain top) = (1 ≤ top) × (top ≤ MOST_TOP)
 IsModeInRange (mode.Greedy processors) = (1 ≤ processors) × (processors ≤ MOST_PROCESSORS)
+IsModeInRange (mode.Speedup most) = (1 ≤ most) × (most ≤ MOST_PROCESSORS)
 IsModeInRange _ = Unit {0}
 
 -- the limit and the burden are in range, and the number that a mode has

@@ -1,4 +1,5 @@
 pub mod Schedules
+pub mod Speedups
 pub mod Analyses
 pub mod Told
 pub mod Tools

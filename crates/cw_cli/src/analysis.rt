@@ -10,20 +10,24 @@ ghost use Rattle.cw_cli.specs.Analyses.{IsAnalysed, IsAnalysedBy, IsRun};
 ghost use Rattle.cw_cli.specs.Told.{HasTables};
 ghost use Rattle.cw_gains.specs.Gains.{HasNumberedSites};
 ghost use Rattle.cw_schedule.specs.Schedules.{SchedulesAsCode};
+ghost use Rattle.cw_speedup.specs.Speedups.{SpeedsUpAsCode};
 
 use crate::reporting::{are_words, write_gains, write_tables, write_values};
 use cw_compile::{Compiled, compile_with_heads};
 use cw_gains::gains::{gains_of_run, gains_of_run_with};
 use cw_machine::alone::run_alone;
 use cw_machine::values::values_alone;
+use cw_model::burden::Burden;
 use cw_model::laws::derived_sites_are_numbered;
 use cw_model::limits::{MOST_BURDEN, MOST_TOP};
 use cw_pool::crew::Body;
 use cw_pool::gate::Gate;
 use cw_pool::run::MOST_BODIES;
-use cw_report::{Sink, ok, schedule};
+use cw_report::{Sink, ok, schedule, speedup};
 use cw_runnable::verified::Verified;
 use cw_schedule::schedules::{Schedule, is_asked, schedule_alone, schedule_of_run};
+use cw_speedup::speedups;
+use cw_speedup::speedups::{Speedup, speedup_alone, speedup_of_run};
 use cw_text::Fault;
 use cw_words::{Mode, Options};
 use std::alloc::Global;
@@ -62,6 +66,7 @@ pub fn analyse_alone<W: Sink>(
         Mode::Scale | Mode::Sites => run(alloc, made.code, args, options, out),
         Mode::Gain(top) => run_gain(alloc, made, args, top, options, out),
         Mode::Greedy(processors) => run_greedy(alloc, made.code, args, processors, options, out),
+        Mode::Speedup(most) => run_speedup(alloc, made.code, args, most, options, out),
     }
 }
 
@@ -72,7 +77,8 @@ pub fn analyse_alone<W: Sink>(
 /// on the crew, on what its bodies and the gate do, or on the order in which workers come to steal. A check and a run of
 /// code that spawns nothing are made by the caller's thread alone. In mode `Gain` the crew does the first run, and behind it
 /// as many threads as there are workers the further ones, side by side; in mode `Greedy` the crew does the run, and the
-/// caller's thread the schedule.
+/// caller's thread the schedule; in mode `Speedup` the crew does the run, and the caller's thread the schedules and, of a run
+/// of more than 1,000,000 strands, the measures.
 ///
 /// Before all that, a crew of more than 63 bodies is `Arguments` in each mode, with nothing written.
 ///
@@ -113,6 +119,9 @@ pub fn analyse<
             run_greedy_with(
                 rt, alloc, made.code, args, processors, options, crew, gate, out,
             )
+        }
+        Mode::Speedup(most) => {
+            run_speedup_with(rt, alloc, made.code, args, most, options, crew, gate, out)
         }
     }
 }
@@ -380,6 +389,88 @@ fn run_greedy_with<
     let code = Arc::new(alloc, code)?;
     let told = schedule_with(rt, alloc, code, args, options.limit, processors, crew, gate);
     schedule(alloc, &told, out)?;
+    told?;
+    Ok(())
+}
+
+// Runs code and writes its speedups up to `most` processors.
+fn run_speedup<W: Sink>(
+    alloc: Global,
+    code: Verified,
+    args: &[i64],
+    most: u64,
+    options: Options,
+    out: &mut W,
+) -> Result<(), Fault>
+    requires { (W.seen out.old).failures < 2 ^ 64 - 1 }
+    ensures { (bytes : List ℕ) → options.mode ≡ mode.Speedup most
+        → IsCompiled bytes (code_view code.code)
+        → IsRun W.seen out.old out.new bytes args.now options result }
+{
+    are_words(args);
+    let code = Arc::new(alloc, code)?;
+    let told = speedup_alone(alloc, code, args, options.limit, options.burden, most);
+    speedup(alloc, &told, out)?;
+    told?;
+    Ok(())
+}
+
+// Returns the speedups of a run by a crew, up to `most` processors.
+fn speedup_with<
+    G: Gate + Drop + Send + Sync + 'static,
+    B: Body<G> + Send + Drop + 'static,
+    R: Threads + Wait,
+>(
+    rt: &R,
+    alloc: Global,
+    code: Arc<Verified>,
+    args: &[i64],
+    limit: u64,
+    burden: Burden,
+    most: u64,
+    crew: Vec<B>,
+    gate: Arc<G>,
+) -> Result<Speedup, Fault>
+    requires { length crew.items ≤ MOST_BODIES }
+    ensures { SpeedsUpAsCode (code_view code.value.code) args.now limit burden most result }
+{
+    if !speedups::is_asked(&code, args, limit, burden, most) {
+        return Err(Fault::Arguments);
+    }
+    let share = Arc::try_clone(&code)?;
+    let ran = cw_pool::run::strands(rt, alloc, share, args, limit, crew, gate);
+    let told = speedup_of_run(alloc, code, args, limit, burden, most, ran)?;
+    Ok(told)
+}
+
+// Runs code with a crew and writes its speedups up to `most` processors.
+fn run_speedup_with<
+    W: Sink,
+    G: Gate + Drop + Send + Sync + 'static,
+    B: Body<G> + Send + Drop + 'static,
+    R: Threads + Wait,
+>(
+    rt: &R,
+    alloc: Global,
+    code: Verified,
+    args: &[i64],
+    most: u64,
+    options: Options,
+    crew: Vec<B>,
+    gate: Arc<G>,
+    out: &mut W,
+) -> Result<(), Fault>
+    requires out { (W.seen out.old).failures < 2 ^ 64 - 1 }
+    requires few { length crew.items ≤ MOST_BODIES }
+    ensures { (bytes : List ℕ) → options.mode ≡ mode.Speedup most
+        → IsCompiled bytes (code_view code.code)
+        → IsRun W.seen out.old out.new bytes args.now options result }
+{
+    are_words(args);
+    let code = Arc::new(alloc, code)?;
+    let (limit, burden) = (options.limit, options.burden);
+    let told = speedup_with(rt, alloc, code, args, limit, burden, most, crew, gate);
+    speedup(alloc, &told, out)?;
     told?;
     Ok(())
 }

@@ -6,7 +6,7 @@ use cw_model::limits::MOST_NUMBER;
 use cw_text::Fault;
 use cw_words::command::command;
 use cw_words::edges::{EDGES, USUAL_EDGES, edges_named};
-use cw_words::number::{BURDEN, LIMIT, NumberOption, PROCESSORS, TOP, WORKERS, read_number};
+use cw_words::number::{BURDEN, LIMIT, NumberOption, PROCESSORS, TOP, UP_TO, WORKERS, read_number};
 use std::alloc::{AllocError, Global};
 
 /// No further number is reported once the messages have this number of bytes.
@@ -27,6 +27,7 @@ pub fn misused(alloc: Global, words: &[String]) -> Result<String, Fault> {
         of_number(&mut out, given, PROCESSORS)?;
         of_number(&mut out, given, LIMIT)?;
         of_number(&mut out, given, BURDEN)?;
+        of_number(&mut out, given, UP_TO)?;
         of_number(&mut out, given, TOP)?;
         of_number(&mut out, given, WORKERS)?;
         of_edges(&mut out, given)?;

@@ -102,8 +102,7 @@ fn is_word(word: i64)
     ensures { fits word ≡ true }
 {}
 
-// Writes what the mode tells of what is counted of a run. A check, a run of values alone, gains and a schedule tell
-// nothing of it.
+// Writes the tables of a run, in a mode that has tables; in another mode nothing.
 fn report<W: Sink>(
     alloc: Global,
     mode: Mode,
@@ -116,7 +115,7 @@ fn report<W: Sink>(
     ensures answers { AnswersText W.seen out.old out.new (told_in mode code.now ended.now) result }
 {
     match mode {
-        Mode::Check | Mode::Run | Mode::Gain(_) | Mode::Greedy(_) => Ok(()),
+        Mode::Check | Mode::Run | Mode::Gain(_) | Mode::Greedy(_) | Mode::Speedup(_) => Ok(()),
         Mode::Scale => scale(alloc, ended, out),
         Mode::Sites => sites(alloc, code, ended, out),
     }

@@ -7,4 +7,5 @@ mod Taken
 mod Told
 mod Scheduling
 mod Gaining
+mod Speeding
 mod Moved

@@ -15,7 +15,7 @@ use Rattle.clap.specs.Walk.{walk, walk_from, nothing_held, settled, finished, pl
 use Rattle.clap.specs.Simple.{App, Shape, built, names_of, entered, new_shape, subcommand_of}
 use Rattle.clap.specs.Faults.{flag_word_fault, bundle_fault, other_fault, turn_fault, walk_fault, step_fault, settle_fault, defaults_fault, check_fault, entered_fault}
 use Rattle.clap.proofs.OnLiterals.{clap_on_literals}
-use Rattle.cw_words.specs.Command.{burden_row, command_line, command_name, limit_row, processors_row, top_row, usual_edges, usual_numbers, workers_row}
+use Rattle.cw_words.specs.Command.{burden_row, command_line, command_name, limit_row, processors_row, top_row, up_to_row, usual_edges, usual_numbers, workers_row}
 use Rattle.cw_words.specs.Requests.{AreRead, HaveCommand, Words, edges_text, faults, numbers_of, texts_of}
 use Rattle.cw_words.specs.WordLaws.{IsPlain, TakesBurden, checking}
 use Rattle.cw_words.specs.declared.verb.Verb.{Verb}
@@ -88,6 +88,9 @@ gain = first_shape (drop 4 line.subs)
 abbrev pub greedy : Shape
 greedy = first_shape (drop 5 line.subs)
 
+abbrev pub speedup : Shape
+speedup = first_shape (drop 6 line.subs)
+
 abbrev pub shape_of : Verb → Shape
 shape_of verb.Check = check
 shape_of verb.Run = run
@@ -95,6 +98,7 @@ shape_of verb.Scale = scale
 shape_of verb.Sites = sites
 shape_of verb.Gain = gain
 shape_of verb.Greedy = greedy
+shape_of verb.Speedup = speedup
 
 -- a command that takes a burden has the rules of `run`
 abbrev running : Text → Shape
@@ -104,6 +108,7 @@ is_running : (m : Verb) → TakesBurden m → shape_of m ≡ running (command_na
 is_running verb.Check runs = absurd runs
 is_running verb.Gain runs = absurd runs
 is_running verb.Greedy runs = absurd runs
+is_running verb.Speedup runs = absurd runs
 is_running verb.Run runs = refl
 is_running verb.Scale runs = refl
 is_running verb.Sites runs = refl
@@ -382,6 +387,7 @@ command_step verb.Scale = refl
 command_step verb.Sites = refl
 command_step verb.Gain = refl
 command_step verb.Greedy = refl
+command_step verb.Speedup = refl
 
 command_turn : (m : Verb) → turn_fault line.top (names_of line) (walk_from nothing_held) (command_name m) ≡ []
 unfolding clap_on_literals
@@ -391,6 +397,7 @@ command_turn verb.Scale = refl
 command_turn verb.Sites = refl
 command_turn verb.Gain = refl
 command_turn verb.Greedy = refl
+command_turn verb.Speedup = refl
 
 pub stopped_walk : (name : Text) (words rest : List Text) → fold (walked line.top.rules (names_of line)) (stopped_at name words) rest ≡ stopped_at name (words ++ rest)
 unfolding walked
@@ -422,6 +429,7 @@ command_faults verb.Scale rest none = ap₂ top_level (top_walk verb.Scale rest)
 command_faults verb.Sites rest none = ap₂ top_level (top_walk verb.Sites rest) (top_fault verb.Sites rest) ∙ ap (λ k. or_else k []) none
 command_faults verb.Gain rest none = ap₂ top_level (top_walk verb.Gain rest) (top_fault verb.Gain rest) ∙ ap (λ k. or_else k []) none
 command_faults verb.Greedy rest none = ap₂ top_level (top_walk verb.Greedy rest) (top_fault verb.Greedy rest) ∙ ap (λ k. or_else k []) none
+command_faults verb.Speedup rest none = ap₂ top_level (top_walk verb.Speedup rest) (top_fault verb.Speedup rest) ∙ ap (λ k. or_else k []) none
 
 pub command_rows : (m : Verb) (rest : List Text) → subcommand_of command_line (command_name m ∷ rest)
     ≡ Some (command_name m, finished (shape_of m).rules (walk (shape_of m).rules [] nothing_held rest).held)
@@ -431,15 +439,16 @@ command_rows verb.Scale rest = ap (λ w. entered line w.stopped) (top_walk verb.
 command_rows verb.Sites rest = ap (λ w. entered line w.stopped) (top_walk verb.Sites rest)
 command_rows verb.Gain rest = ap (λ w. entered line w.stopped) (top_walk verb.Gain rest)
 command_rows verb.Greedy rest = ap (λ w. entered line w.stopped) (top_walk verb.Greedy rest)
+command_rows verb.Speedup rest = ap (λ w. entered line w.stopped) (top_walk verb.Speedup rest)
 
 -- ---- the meaning of the words
 
 abbrev numbers_given : Given → List Text
 numbers_given nothing = usual_numbers
-numbers_given (limited n) = n ∷ burden_row.usual ∷ processors_row.usual ∷ top_row.usual ∷ workers_row.usual ∷ []
-numbers_given (burdened n) = limit_row.usual ∷ n ∷ processors_row.usual ∷ top_row.usual ∷ workers_row.usual ∷ []
+numbers_given (limited n) = n ∷ burden_row.usual ∷ processors_row.usual ∷ up_to_row.usual ∷ top_row.usual ∷ workers_row.usual ∷ []
+numbers_given (burdened n) = limit_row.usual ∷ n ∷ processors_row.usual ∷ up_to_row.usual ∷ top_row.usual ∷ workers_row.usual ∷ []
 numbers_given (edged n) = usual_numbers
-numbers_given (worked n) = limit_row.usual ∷ burden_row.usual ∷ processors_row.usual ∷ top_row.usual ∷ n ∷ []
+numbers_given (worked n) = limit_row.usual ∷ burden_row.usual ∷ processors_row.usual ∷ up_to_row.usual ∷ top_row.usual ∷ n ∷ []
 
 abbrev edges_given : Given → Text
 edges_given (edged n) = n
@@ -515,7 +524,7 @@ named name = cond (nat_eq (length name) 3) verb.Run (by_letter (slice_get name 1
   where
     by_letter : Option ℕ → Verb
     by_letter None = verb.Check
-    by_letter (Some x) = cond (x == 104) verb.Check (cond (x == 99) verb.Scale (cond (x == 114) verb.Greedy (cond (x == 97) verb.Gain verb.Sites)))
+    by_letter (Some x) = cond (x == 104) verb.Check (cond (x == 99) verb.Scale (cond (x == 114) verb.Greedy (cond (x == 97) verb.Gain (cond (x == 112) verb.Speedup verb.Sites))))
 
 named_by : (m : Verb) → named (command_name m) ≡ m
 named_by verb.Check = refl
@@ -524,6 +533,7 @@ named_by verb.Scale = refl
 named_by verb.Sites = refl
 named_by verb.Gain = refl
 named_by verb.Greedy = refl
+named_by verb.Speedup = refl
 
 same_verb : (m m' : Verb) → command_name m ≡ command_name m' → m ≡ m'
 same_verb m m' e = sym (named_by m) ∙ ap named e ∙ named_by m'

@@ -17,7 +17,7 @@ use Rattle.cw_words.specs.Command.{command_name}
 use Rattle.cw_words.specs.Requests.{AreRead, Words, faults, words_in}
 use Rattle.cw_words.specs.declared.verb.Verb.{Verb}
 use Rattle.cw_words.specs.declared.verb.Verb.TheVariants as verb
-use Rattle.cw_words.proofs.Reading.{check, gain, greedy, line, run, scale, sites, level, shape_of, stopped_at, stopped_walk}
+use Rattle.cw_words.proofs.Reading.{check, gain, greedy, line, run, scale, sites, speedup, level, shape_of, stopped_at, stopped_walk}
 use Rattle.cw_words.proofs.Filled.{NamesNoSource, NotSource, filled_finished, given_first}
 
 both_none : (a b : Kinds) → or_else a b ≡ [] → (a ≡ []) × (b ≡ [])
@@ -150,25 +150,26 @@ subcommand_is : (word : Text) → (subcommand_met names idle word ≡ None)
     ⊎ (((m : Verb) × (subcommand_met names idle word ≡ Some (command_name m))) ⊎ (subcommand_met names idle word ≡ Some (codes "help")))
 subcommand_is word =
     go (bytes_eq (codes "check") word) (bytes_eq (codes "run") word) (bytes_eq (codes "scale") word)
-    (bytes_eq (codes "sites") word) (bytes_eq (codes "gain") word) (bytes_eq (codes "greedy") word) (bytes_eq (codes "help") word)
+    (bytes_eq (codes "sites") word) (bytes_eq (codes "gain") word) (bytes_eq (codes "greedy") word) (bytes_eq (codes "speedup") word) (bytes_eq (codes "help") word)
   where
     met : Bool → Text → Option (Text × List Text) → Option (Text × List Text)
     met b name rest = cond (b || false) (Some (name, [])) rest
 
-    name : (a b c d e f g : Bool) → Option Text
-    name a b c d e f g =
+    name : (a b c d e f g h : Bool) → Option Text
+    name a b c d e f g h =
         option_map (λ (s : Text × List Text). s.0) (met a (codes "check") (met b (codes "run") (met c (codes "scale")
-        (met d (codes "sites") (met e (codes "gain") (met f (codes "greedy") (met g (codes "help") None)))))))
+        (met d (codes "sites") (met e (codes "gain") (met f (codes "greedy") (met g (codes "speedup") (met h (codes "help") None))))))))
 
-    go : (a b c d e f g : Bool) → (name a b c d e f g ≡ None) ⊎ (((m : Verb) × (name a b c d e f g ≡ Some (command_name m))) ⊎ (name a b c d e f g ≡ Some (codes "help")))
-    go true b c d e f g = inr (inl (verb.Check, refl))
-    go false true c d e f g = inr (inl (verb.Run, refl))
-    go false false true d e f g = inr (inl (verb.Scale, refl))
-    go false false false true e f g = inr (inl (verb.Sites, refl))
-    go false false false false true f g = inr (inl (verb.Gain, refl))
-    go false false false false false true g = inr (inl (verb.Greedy, refl))
-    go false false false false false false true = inr (inr refl)
-    go false false false false false false false = inl refl
+    go : (a b c d e f g h : Bool) → (name a b c d e f g h ≡ None) ⊎ (((m : Verb) × (name a b c d e f g h ≡ Some (command_name m))) ⊎ (name a b c d e f g h ≡ Some (codes "help")))
+    go true b c d e f g h = inr (inl (verb.Check, refl))
+    go false true c d e f g h = inr (inl (verb.Run, refl))
+    go false false true d e f g h = inr (inl (verb.Scale, refl))
+    go false false false true e f g h = inr (inl (verb.Sites, refl))
+    go false false false false true f g h = inr (inl (verb.Gain, refl))
+    go false false false false false true g h = inr (inl (verb.Greedy, refl))
+    go false false false false false false true h = inr (inl (verb.Speedup, refl))
+    go false false false false false false false true = inr (inr refl)
+    go false false false false false false false false = inl refl
 
 stops : (words : List Text) → walk_fault line.top names start words ≡ [] → Stops (walk_on start words)
 unfolding walk_fault walked
@@ -210,6 +211,17 @@ top_or_help false false false false true f = λ is. cc
 top_or_help false false false false false true = λ is. cc
 top_or_help false false false false false false = tt
 
+up_to_or_help : (a b c d e f : Bool) → NotSource (cond a (Some (first (drop 2 speedup.rules)))
+    (cond b (Some (first (drop 3 speedup.rules))) (cond c (Some (first (drop 4 speedup.rules)))
+    (cond d (Some (first (drop 5 speedup.rules))) (cond e (Some (first (drop 6 speedup.rules))) (cond f (Some (first (drop 7 speedup.rules))) None))))))
+up_to_or_help true b c d e f = λ is. cc
+up_to_or_help false true c d e f = λ is. cc
+up_to_or_help false false true d e f = λ is. cc
+up_to_or_help false false false true e f = λ is. cc
+up_to_or_help false false false false true f = λ is. cc
+up_to_or_help false false false false false true = λ is. cc
+up_to_or_help false false false false false false = tt
+
 limit_or_help : (a b c : Bool) → NotSource (cond a (Some (first (drop 3 greedy.rules))) (cond b (Some (first (drop 4 greedy.rules))) (cond c (Some (first (drop 5 greedy.rules))) None)))
 limit_or_help true b c = λ is. cc
 limit_or_help false true c = λ is. cc
@@ -234,6 +246,12 @@ no_flag_of_source verb.Greedy = (
   (λ name. limit_or_help (has_long (first (drop 3 greedy.rules)) name) (has_long (first (drop 4 greedy.rules)) name) (has_long (first (drop 5 greedy.rules)) name)),
   (λ x. limit_or_help false false (has_short (first (drop 5 greedy.rules)) x)),
 )
+no_flag_of_source verb.Speedup = (
+  (λ name. up_to_or_help (has_long (first (drop 2 speedup.rules)) name) (has_long (first (drop 3 speedup.rules)) name)
+      (has_long (first (drop 4 speedup.rules)) name) (has_long (first (drop 5 speedup.rules)) name) (has_long (first (drop 6 speedup.rules)) name)
+      (has_long (first (drop 7 speedup.rules)) name)),
+  (λ x. up_to_or_help false false false false false (has_short (first (drop 7 speedup.rules)) x)),
+)
 
 -- a source is required
 source_given : (m : Verb) (rows : List Row) → check_fault (shape_of m) rows false ≡ [] → is_given (codes "FILE") rows ≡ true
@@ -256,6 +274,7 @@ source_given m rows h = of_verb m h
     of_verb verb.Sites e = go (is_given (codes "FILE") rows) e
     of_verb verb.Gain e = go (is_given (codes "FILE") rows) e
     of_verb verb.Greedy e = behind (is_given (codes "P") rows) (is_given (codes "FILE") rows) e
+    of_verb verb.Speedup e = go (is_given (codes "FILE") rows) e
 
 -- a subcommand is required
 stopped_somewhere : (rows : List Row) (w : Walk) → w.stopped ≡ None → check_fault line.top rows (is_some (entered line w.stopped)) ≡ [] → ⊥
@@ -294,6 +313,7 @@ below_of verb.Scale rest h = at_level scale rest h
 below_of verb.Sites rest h = at_level sites rest h
 below_of verb.Gain rest h = at_level gain rest h
 below_of verb.Greedy rest h = at_level greedy rest h
+below_of verb.Speedup rest h = at_level speedup rest h
 
 entered_is : (m : Verb) (rest : List Text) → entered line (Some (command_name m, rest)) ≡ Some (command_name m, finished (shape_of m).rules (walk (shape_of m).rules [] nothing_held rest).held)
 entered_is verb.Check rest = refl
@@ -302,6 +322,7 @@ entered_is verb.Scale rest = refl
 entered_is verb.Sites rest = refl
 entered_is verb.Gain rest = refl
 entered_is verb.Greedy rest = refl
+entered_is verb.Speedup rest = refl
 
 pub taken : (given : List Text) → faults given ≡ [] → (words : Words) × AreRead given words
 taken given h =

@@ -31,6 +31,10 @@ burden_row = record { name = codes "burden"; least = 0; most = MOST_BURDEN; usua
 abbrev pub processors_row : NumberRow
 processors_row = record { name = codes "P"; least = 1; most = MOST_PROCESSORS; usual = codes "1" }
 
+-- the processors up to which speedups are reported
+abbrev pub up_to_row : NumberRow
+up_to_row = record { name = codes "processors"; least = 1; most = MOST_PROCESSORS; usual = codes "64" }
+
 -- the functions that a report of gains tells at most
 abbrev pub top_row : NumberRow
 top_row = record { name = codes "top"; least = 1; most = MOST_TOP; usual = codes "10" }
@@ -41,7 +45,7 @@ workers_row = record { name = codes "workers"; least = 1; most = MOST_WORKERS; u
 
 -- the numbers, in their order
 abbrev pub number_rows : List NumberRow
-number_rows = limit_row ∷ burden_row ∷ processors_row ∷ top_row ∷ workers_row ∷ []
+number_rows = limit_row ∷ burden_row ∷ processors_row ∷ up_to_row ∷ top_row ∷ workers_row ∷ []
 
 -- the words for the numbers that are not given
 abbrev pub usual_numbers : List Text
@@ -97,6 +101,7 @@ command_name verb.Scale = codes "scale"
 command_name verb.Sites = codes "sites"
 command_name verb.Gain = codes "gain"
 command_name verb.Greedy = codes "greedy"
+command_name verb.Speedup = codes "speedup"
 
 -- a command that runs a program and takes a burden: with its source, its arguments and the options
 abbrev pub running_line : Text → App
@@ -112,11 +117,16 @@ abbrev pub greedy_line : App
 greedy_line = fold with_rule (new_app (codes "greedy"))
     (needed_rule processors_row.name ∷ file_rule ∷ args_rule ∷ number_rule limit_row ∷ number_rule workers_row ∷ [])
 
+-- the command for speedups: with the number of processors up to which it reports them
+abbrev pub speedup_line : App
+speedup_line = with_rule (running_line (codes "speedup")) (number_rule up_to_row)
+
 -- the words of each command: a check has its source alone
 abbrev pub line_of : Verb → App
 line_of verb.Check = with_rule (new_app (codes "check")) file_rule
 line_of verb.Gain = gain_line
 line_of verb.Greedy = greedy_line
+line_of verb.Speedup = speedup_line
 line_of v = running_line (command_name v)
 
 -- a command is of this line, also below another one
@@ -132,7 +142,7 @@ with_words_alone a = record a { top = record a.top { no_binary_name = true; subc
 
 -- the commands, in their order
 abbrev pub verbs : List Verb
-verbs = verb.Check ∷ verb.Run ∷ verb.Scale ∷ verb.Sites ∷ verb.Gain ∷ verb.Greedy ∷ []
+verbs = verb.Check ∷ verb.Run ∷ verb.Scale ∷ verb.Sites ∷ verb.Gain ∷ verb.Greedy ∷ verb.Speedup ∷ []
 
 -- the whole command line
 abbrev pub command_line : App

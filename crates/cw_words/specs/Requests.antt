@@ -31,15 +31,16 @@ abbrev pub IsVerbNamed : Text → Option Verb → Type 0
 IsVerbNamed name None = (v : Verb) → command_name v ≢ name
 IsVerbNamed name (Some v) = command_name v ≡ name
 
--- the mode that a command asks for, with so many processors where it is a schedule, and so many functions where it tells
--- of these
-abbrev pub mode_with : Verb → (processors top : ℕ) → Mode
-mode_with verb.Check processors top = mode.Check
-mode_with verb.Run processors top = mode.Run
-mode_with verb.Scale processors top = mode.Scale
-mode_with verb.Sites processors top = mode.Sites
-mode_with verb.Gain processors top = mode.Gain top
-mode_with verb.Greedy processors top = mode.Greedy processors
+-- the mode that a command asks for: a schedule has its processors, speedups have the processors up to which they are
+-- reported, and gains the number of functions
+abbrev pub mode_with : Verb → (processors up_to top : ℕ) → Mode
+mode_with verb.Check processors up_to top = mode.Check
+mode_with verb.Run processors up_to top = mode.Run
+mode_with verb.Scale processors up_to top = mode.Scale
+mode_with verb.Sites processors up_to top = mode.Sites
+mode_with verb.Gain processors up_to top = mode.Gain top
+mode_with verb.Greedy processors up_to top = mode.Greedy processors
+mode_with verb.Speedup processors up_to top = mode.Speedup up_to
 
 -- the edges of this name, if there are any
 abbrev pub IsEdgesNamed : Text → Option Edges → Type 0
@@ -61,8 +62,8 @@ pub record Words : Type 0 where
 
 -- the options and the workers of a command with these numbers, in the order of the table, and this word for the edges
 abbrev pub AreOptionsOf : Verb → List ℕ → (edges : Text) → Options → (workers : ℕ) → Type 0
-AreOptionsOf v (limit ∷ charge ∷ processors ∷ top ∷ workers ∷ []) edges o w =
-    (o.mode ≡ mode_with v processors top) × (o.limit ≡ limit) × (o.burden.charge ≡ charge)
+AreOptionsOf v (limit ∷ charge ∷ processors ∷ up_to ∷ top ∷ workers ∷ []) edges o w =
+    (o.mode ≡ mode_with v processors up_to top) × (o.limit ≡ limit) × (o.burden.charge ≡ charge)
     × (edges_name o.burden.edges ≡ edges) × (w ≡ workers)
 AreOptionsOf v _ edges o w = ⊥
 

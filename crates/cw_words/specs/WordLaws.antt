@@ -4,9 +4,10 @@ use Rattle.clap.specs.Words.{Text}
 use Rattle.clap.specs.declared.error.ErrorKind.TheVariants as kind
 use Rattle.cw_model.specs.declared.limits.TheConstants.{USUAL_LIMIT, USUAL_BURDEN, USUAL_TOP}
 use Rattle.cw_model.specs.Pieces.{decimal_value}
-use Rattle.cw_words.specs.Command.{command_name, limit_row, burden_row, processors_row, top_row, workers_row, number_rows}
+use Rattle.cw_words.specs.Command.{command_name, limit_row, burden_row, processors_row, up_to_row, top_row, workers_row}
+use Rattle.cw_words.specs.Command.{number_rows}
 use Rattle.cw_words.specs.Command.{usual_numbers, usual_edges}
-use Rattle.cw_words.specs.declared.asked.TheConstants.{USUAL_WORKERS}
+use Rattle.cw_words.specs.declared.asked.TheConstants.{USUAL_PROCESSORS, USUAL_WORKERS}
 use Rattle.cw_words.specs.Requests.{AreRead, AreWithin, Words, faults}
 use Rattle.cw_words.specs.declared.verb.Verb.{Verb}
 use Rattle.cw_words.specs.declared.verb.Verb.TheVariants as verb
@@ -26,7 +27,7 @@ running v file args limit burden =
       verb = v;
       file = file;
       args = args;
-      numbers = limit ∷ burden ∷ processors_row.usual ∷ top_row.usual ∷ workers_row.usual ∷ [];
+      numbers = limit ∷ burden ∷ processors_row.usual ∷ up_to_row.usual ∷ top_row.usual ∷ workers_row.usual ∷ [];
       edges = usual_edges;
     }
 
@@ -42,7 +43,7 @@ running_on v file args workers =
       verb = v;
       file = file;
       args = args;
-      numbers = limit_row.usual ∷ burden_row.usual ∷ processors_row.usual ∷ top_row.usual ∷ workers ∷ [];
+      numbers = limit_row.usual ∷ burden_row.usual ∷ processors_row.usual ∷ up_to_row.usual ∷ top_row.usual ∷ workers ∷ [];
       edges = usual_edges;
     }
 
@@ -53,7 +54,7 @@ scheduling processors file args limit =
       verb = verb.Greedy;
       file = file;
       args = args;
-      numbers = limit ∷ burden_row.usual ∷ processors ∷ top_row.usual ∷ workers_row.usual ∷ [];
+      numbers = limit ∷ burden_row.usual ∷ processors ∷ up_to_row.usual ∷ top_row.usual ∷ workers_row.usual ∷ [];
       edges = usual_edges;
     }
 
@@ -64,7 +65,19 @@ gaining file args top burden =
       verb = verb.Gain;
       file = file;
       args = args;
-      numbers = limit_row.usual ∷ burden ∷ processors_row.usual ∷ top ∷ workers_row.usual ∷ [];
+      numbers = limit_row.usual ∷ burden ∷ processors_row.usual ∷ up_to_row.usual ∷ top ∷ workers_row.usual ∷ [];
+      edges = usual_edges;
+    }
+
+-- speedups of this source on these arguments, with the words for the processors up to which they are reported and for
+-- the burden
+abbrev pub speeding : (file : Text) (args : List Text) (up_to burden : Text) → Words
+speeding file args up_to burden =
+    record {
+      verb = verb.Speedup;
+      file = file;
+      args = args;
+      numbers = limit_row.usual ∷ burden ∷ processors_row.usual ∷ up_to ∷ top_row.usual ∷ workers_row.usual ∷ [];
       edges = usual_edges;
     }
 
@@ -73,6 +86,7 @@ abbrev pub TakesBurden : Verb → Type 0
 TakesBurden verb.Check = ⊥
 TakesBurden verb.Gain = ⊥
 TakesBurden verb.Greedy = ⊥
+TakesBurden verb.Speedup = ⊥
 TakesBurden _ = Unit {0}
 
 -- such a word after `check` is the source
@@ -141,6 +155,19 @@ GreedyLimitIsRead =
     → AreRead (codes "greedy" ∷ codes "--limit" ∷ limit ∷ processors ∷ file ∷ args)
     (scheduling processors file args limit)
 
+-- such words after `speedup` are the source and the arguments, in their order
+abbrev pub SpeedupIsRead : Type 0
+SpeedupIsRead =
+    (file : Text) (args : List Text) → IsPlain file → All IsPlain args → length args < 2 ^ 64
+    → AreRead (codes "speedup" ∷ file ∷ args) (speeding file args up_to_row.usual burden_row.usual)
+
+-- the same with processors before them
+abbrev pub SpeedupProcessorsAreRead : Type 0
+SpeedupProcessorsAreRead =
+    (up_to file : Text) (args : List Text) → IsPlain up_to → IsPlain file → All IsPlain args → length args < 2 ^ 64
+    → AreRead (codes "speedup" ∷ codes "--processors" ∷ up_to ∷ file ∷ args)
+    (speeding file args up_to burden_row.usual)
+
 -- words that are taken are read
 abbrev pub TakenWordsAreRead : Type 0
 TakenWordsAreRead = (given : List Text) → faults given ≡ [] → (words : Words) × AreRead given words
@@ -150,12 +177,12 @@ abbrev pub WordsAreReadOnce : Type 0
 WordsAreReadOnce = (given : List Text) (words words' : Words) → AreRead given words → AreRead given words'
     → words ≡ words'
 
--- the words for the usual numbers are numbers in range, and write the usual limit, the usual burden, one processor, ten
--- functions and two workers
+-- the words for the usual numbers are numbers in range, and write the usual limit, the usual burden, one processor, up
+-- to 64 processors, ten functions and two workers
 abbrev pub UsualNumbersAreWritten : Type 0
 UsualNumbersAreWritten =
     AreWithin number_rows usual_numbers
-    × (map decimal_value usual_numbers ≡ USUAL_LIMIT ∷ USUAL_BURDEN ∷ 1 ∷ USUAL_TOP ∷ USUAL_WORKERS ∷ [])
+    × (map decimal_value usual_numbers ≡ USUAL_LIMIT ∷ USUAL_BURDEN ∷ 1 ∷ USUAL_PROCESSORS ∷ USUAL_TOP ∷ USUAL_WORKERS ∷ [])
 
 -- numbers after the source, attached to their names, and words after `--`
 abbrev pub WordExamples : Type 0
@@ -187,11 +214,16 @@ WordExamples =
     (gaining (codes "f") (codes "4" ∷ codes "7" ∷ []) (codes "3") (codes "15000"))
     × AreRead (codes "gain" ∷ codes "--burden=0" ∷ codes "--top=64" ∷ codes "--" ∷ codes "-f" ∷ codes "-1" ∷ [])
     (gaining (codes "-f") (codes "-1" ∷ []) (codes "64") (codes "0"))
+    × AreRead (codes "speedup" ∷ codes "f" ∷ codes "4" ∷ codes "--processors" ∷ codes "48" ∷ codes "7" ∷ [])
+    (speeding (codes "f") (codes "4" ∷ codes "7" ∷ []) (codes "48") (codes "15000"))
+    × AreRead (codes "speedup" ∷ codes "--burden=0" ∷ codes "--processors=8" ∷ codes "--" ∷ codes "-f" ∷ [])
+    (speeding (codes "-f") [] (codes "8") (codes "0"))
 
 -- words that are not taken: none, no source, a word too many for a check, a limit, a burden, workers or edges for a
 -- check, an unknown word, a negative number, no limit, two limits, no burden, two burdens, no workers, no edges, gains
 -- without a source or with no count of functions, such a count for another command, a schedule without processors,
--- without a source, with a burden or with edges, and calls for help
+-- without a source, with a burden or with edges, speedups without a source or with no count of processors, such a count
+-- for another command, and calls for help
 abbrev pub RefusalExamples : Type 0
 RefusalExamples =
     (faults [] ≡ kind.MissingSubcommand ∷ [])
@@ -219,6 +251,9 @@ RefusalExamples =
     × (faults (codes "greedy" ∷ codes "2" ∷ []) ≡ kind.MissingRequiredArgument ∷ [])
     × (faults (codes "greedy" ∷ codes "2" ∷ codes "f" ∷ codes "--burden=9" ∷ []) ≡ kind.UnknownArgument ∷ [])
     × (faults (codes "greedy" ∷ codes "2" ∷ codes "f" ∷ codes "--edges=both" ∷ []) ≡ kind.UnknownArgument ∷ [])
+    × (faults (codes "speedup" ∷ []) ≡ kind.MissingRequiredArgument ∷ [])
+    × (faults (codes "speedup" ∷ codes "f" ∷ codes "--processors" ∷ []) ≡ kind.InvalidValue ∷ [])
+    × (faults (codes "scale" ∷ codes "f" ∷ codes "--processors=8" ∷ []) ≡ kind.UnknownArgument ∷ [])
     × (faults (codes "--help" ∷ []) ≡ kind.DisplayHelp ∷ [])
     × (faults (codes "check" ∷ codes "--help" ∷ []) ≡ kind.DisplayHelp ∷ [])
     × (faults (codes "run" ∷ codes "--help" ∷ []) ≡ kind.DisplayHelp ∷ [])
@@ -226,3 +261,4 @@ RefusalExamples =
     × (faults (codes "sites" ∷ codes "f" ∷ codes "--help" ∷ []) ≡ kind.DisplayHelp ∷ [])
     × (faults (codes "gain" ∷ codes "--help" ∷ []) ≡ kind.DisplayHelp ∷ [])
     × (faults (codes "greedy" ∷ codes "--help" ∷ []) ≡ kind.DisplayHelp ∷ [])
+    × (faults (codes "speedup" ∷ codes "--help" ∷ []) ≡ kind.DisplayHelp ∷ [])

@@ -8,13 +8,16 @@ use cw_model::limits::{USUAL_BURDEN, USUAL_LIMIT};
 use cw_text::Fault;
 use std::alloc::Global;
 
+/// The processors up to which speedups are reported by default.
+pub const USUAL_PROCESSORS: u64 = 64;
+
 /// The workers of a run where no number of them is given.
 pub const USUAL_WORKERS: u64 = 2;
 
 /// What the program is asked to write.
 #[derive(Clone, Copy, Debug, PartialEq, Eq)]
 pub enum Mode {
-    /// That the source compiles. Nothing is run.
+    /// Whether the source compiles. Nothing is run.
     Check,
     /// What the program prints, the totals of its reducers, and the value that its `main` gives.
     Run,
@@ -22,10 +25,13 @@ pub enum Mode {
     Scale,
     /// Calls, work and span of each call site.
     Sites,
-    /// Work and span of the run, and what its spans would be if each of at most so many functions, from 1 to 64, were free.
+    /// Work and span of the run, and its spans if a function cost nothing, for at most this number of functions (1 to 64).
     Gain(u64),
-    /// Work, span, and how many steps a greedy schedule of the run takes on so many processors, from 1 to 1,000,000.
+    /// Work, span, and the number of steps of the greedy schedule on this number of processors (1 to 1,000,000).
     Greedy(u64),
+    /// Steps and speedups on 1, 2, 4, .. processors up to this number (1 to 1,000,000), with the bound that work and span
+    /// set, and an estimate that charges the burden.
+    Speedup(u64),
 }
 
 /// How to analyse a program. A check uses neither the limit nor the burden; `Run`, `Sites` and `Greedy` take

@@ -18,8 +18,10 @@ ghost use Rattle.cw_words.specs.declared.verb.Verb.TheVariants as verb;
 ghost use Rattle.cw_words.specs.Rows.{row_of};
 
 use crate::edges::{EDGES, USUAL_EDGES};
-use crate::help::{OF_CHECK, OF_GAIN, OF_GREEDY, OF_PROGRAM, OF_RUN, OF_SCALE, OF_SITES};
-use crate::number::{BURDEN, LIMIT, NumberOption, PROCESSORS, TOP, WORKERS};
+use crate::help::{
+    OF_CHECK, OF_GAIN, OF_GREEDY, OF_PROGRAM, OF_RUN, OF_SCALE, OF_SITES, OF_SPEEDUP,
+};
+use crate::number::{BURDEN, LIMIT, NumberOption, PROCESSORS, TOP, UP_TO, WORKERS};
 use clap::{Arg, ArgAction, Command};
 use std::alloc::{AllocError, Global};
 
@@ -48,6 +50,7 @@ pub fn command<'a>(alloc: Global) -> Result<Command<'a>, AllocError>
     )?;
     let gain = gain_command(alloc)?;
     let greedy = greedy_command(alloc)?;
+    let speedup = speedup_command(alloc)?;
     let command = Command::new(alloc, "cilkwork")
         .bin_name("cilkwork")?
         .about("Measures how much parallelism a Cilk program has, and what limits it")
@@ -59,7 +62,8 @@ pub fn command<'a>(alloc: Global) -> Result<Command<'a>, AllocError>
         .subcommand(scale)?
         .subcommand(sites)?
         .subcommand(gain)?
-        .subcommand(greedy)?;
+        .subcommand(greedy)?
+        .subcommand(speedup)?;
     Ok(command)
 }
 
@@ -97,6 +101,19 @@ fn greedy_command<'a>(alloc: Global) -> Result<Command<'a>, AllocError>
         .arg(main_args(alloc))?
         .arg(number(alloc, LIMIT))?
         .arg(number(alloc, WORKERS))?;
+    Ok(command)
+}
+
+fn speedup_command<'a>(alloc: Global) -> Result<Command<'a>, AllocError>
+    ensures { IfOk result (IsCommandOf (line_of verb.Speedup)) }
+{
+    let running = running_command(
+        alloc,
+        "speedup",
+        "Runs a program and prints its speedup by number of processors",
+        OF_SPEEDUP,
+    )?;
+    let command = running.arg(number(alloc, UP_TO))?;
     Ok(command)
 }
 

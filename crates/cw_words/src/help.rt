@@ -12,14 +12,15 @@ is installed in PREFIX/bin, and in docs/ and examples/ of the repository.
 Without a command, the program runs the source on standard input without ARGS.
 
 Standard output:
-  check  'ok' if the source compiles
-  run    the printed values, the final value of each reducer and the value of
-         main, one on each line
-  scale  a table of work, span and parallelism of the run and of each region
-  sites  a table of calls, work and span of each call in the source
-  gain   a table of the spans that the run would have if a function cost
-         nothing, for the functions with the largest own spans
-  greedy the number of steps that the run takes on P processors
+  check    'ok' if the source compiles
+  run      the printed values, the final value of each reducer and the value of
+           main, one on each line
+  scale    a table of work, span and parallelism of the run and of each region
+  sites    a table of calls, work and span of each call in the source
+  gain     a table of the spans that the run would have if a function cost
+           nothing, for the functions with the largest own spans
+  greedy   the number of steps that the run takes on P processors
+  speedup  a table of steps and speedups on 1, 2, 4, .. processors
 A table is CSV; its first line names the columns. Work, span, limit and burden
 are numbers of instructions.
 
@@ -41,6 +42,7 @@ A number is one or more decimal digits; leading zeros are allowed:
   --workers 1 to 64; the number of threads that execute the run. No report
             depends on it
   --top     1 to 64
+  --processors  1 to 1000000; the largest number that speedup reports
 
 Exit status and standard error (L is a line of the source):
   0                     the report is on standard output
@@ -166,3 +168,25 @@ GUIDE.md explains how to read it; 'cilkwork --help' says where it is.
 
 --explain explains why the source was rejected or the run trapped. 'cilkwork
 --help' describes P, ARGS and numbers, and lists the exit statuses.";
+
+/// Follows the options in the help of `speedup`.
+pub const OF_SPEEDUP: &str = "\
+Prints a table as CSV, and nothing of what the program prints. The first line
+names the columns. Then each power of two below --processors has a line, and
+--processors itself has the last line.
+  processors        P
+  steps             steps of the greedy schedule on P processors, as greedy
+                    reports them; empty if the run has more than 1000000 strands
+  speedup           work divided by steps, three digits, rounded down; empty if
+                    steps is
+  speedup_bound     the minimum of P and work divided by span: no schedule is
+                    faster
+  burdened_steps    work plus P - 1 times the burdened span, divided by P and
+                    rounded down: an estimate for a run in which steals cost
+                    time
+  burdened_speedup  work divided by burdened_steps, rounded in the same way
+Work and span are those of scale; --burden and --edges act as in scale.
+GUIDE.md explains how to read them; 'cilkwork --help' says where it is.
+
+--explain explains why the source was rejected or the run trapped. 'cilkwork
+--help' describes ARGS and numbers, and lists the exit statuses.";

@@ -11,6 +11,8 @@ ghost use Rattle.cw_words.specs.WordLaws.{
   LimitIsRead,
   PlainWordsAreRead,
   RefusalExamples,
+  SpeedupIsRead,
+  SpeedupProcessorsAreRead,
   TakenWordsAreRead,
   UsualNumbersAreWritten,
   WordExamples,
@@ -21,7 +23,8 @@ ghost use Rattle.cw_words.specs.WordLaws.{
 /// A word after `check` that starts with no hyphen is the source. Such words after `run`, `scale` or
 /// `sites` are the source and the arguments, and `--limit`, `--burden` or `--workers` with a word before them is
 /// that number, `--edges` that word; after `gain` they are the same, and so is `--top`; after `greedy` they are the
-/// processors, the source and the arguments, and `--limit` is the same.
+/// processors, the source and the arguments, and `--limit` is the same; after `speedup` they are as after `run`, and
+/// `--processors` with a word is that number.
 pub fn plain_words()
     ensures check { CheckIsRead }
     ensures usual { PlainWordsAreRead }
@@ -33,6 +36,8 @@ pub fn plain_words()
     ensures gain_top { GainTopIsRead }
     ensures greedy { GreedyIsRead }
     ensures greedy_limited { GreedyLimitIsRead }
+    ensures speedup { SpeedupIsRead }
+    ensures speedup_processors { SpeedupProcessorsAreRead }
 {}
 
 /// Words that are taken are read as a command with a source, arguments and numbers, and in one way.

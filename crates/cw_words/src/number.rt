@@ -59,6 +59,15 @@ pub const PROCESSORS: NumberOption = NumberOption {
     help: "The number of processors of the schedule",
 };
 
+/// The processors up to which speedups are reported.
+pub const UP_TO: NumberOption = NumberOption {
+    name: "processors",
+    least: 1,
+    most: MOST_PROCESSORS,
+    usual: "64",
+    help: "The largest number of processors",
+};
+
 /// The functions that a report of gains tells at most.
 pub const TOP: NumberOption = NumberOption {
     name: "top",

@@ -14,6 +14,7 @@ pub enum Verb {
     Sites,
     Gain,
     Greedy,
+    Speedup,
 }
 
 impl Verb {
@@ -26,6 +27,9 @@ impl Verb {
             }
             Verb::Gain => "--limit, --burden, --edges, --workers, --top, --explain and --help",
             Verb::Greedy => "--limit, --workers, --explain and --help",
+            Verb::Speedup => {
+                "--limit, --burden, --edges, --workers, --processors, --explain and --help"
+            }
         }
     }
 }
@@ -41,13 +45,15 @@ pub fn verb_named(name: &str) -> Option<Verb>
         "sites" => Some(Verb::Sites),
         "gain" => Some(Verb::Gain),
         "greedy" => Some(Verb::Greedy),
+        "speedup" => Some(Verb::Speedup),
         _ => None,
     }
 }
 
-/// The mode that a verb asks for, on so many processors or with so many functions where it takes a number of them.
-pub fn mode_of(verb: Verb, processors: u64, top: u64) -> Mode
-    ensures { result ≡ mode_with verb processors top }
+/// Returns the mode that a verb asks for: a schedule on `processors`, speedups up to `up_to` processors, or the gains of
+/// at most `top` functions. Other modes have no number.
+pub fn mode_of(verb: Verb, processors: u64, up_to: u64, top: u64) -> Mode
+    ensures { result ≡ mode_with verb processors up_to top }
 {
     match verb {
         Verb::Check => Mode::Check,
@@ -56,5 +62,6 @@ pub fn mode_of(verb: Verb, processors: u64, top: u64) -> Mode
         Verb::Sites => Mode::Sites,
         Verb::Gain => Mode::Gain(top),
         Verb::Greedy => Mode::Greedy(processors),
+        Verb::Speedup => Mode::Speedup(up_to),
     }
 }

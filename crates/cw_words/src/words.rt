@@ -34,7 +34,7 @@ use crate::asked::{Options, Request, Said};
 use crate::command::command;
 use crate::edges::edges_of;
 use crate::misused::misuse_text;
-use crate::number::{BURDEN, LIMIT, NumberOption, PROCESSORS, TOP, WORKERS, read_number};
+use crate::number::{BURDEN, LIMIT, NumberOption, PROCESSORS, TOP, UP_TO, WORKERS, read_number};
 use crate::verb::{Verb, mode_of, verb_named};
 use clap::error::ErrorKind;
 use clap::{ArgMatches, Error};
@@ -93,6 +93,7 @@ fn asked_by(alloc: Global, verb: Verb, given: &ArgMatches<'_>) -> Result<Request
         Some(charge),
         Some(edges),
         Some(processors),
+        Some(up_to),
         Some(top),
         Some(workers),
     ) = (
@@ -101,6 +102,7 @@ fn asked_by(alloc: Global, verb: Verb, given: &ArgMatches<'_>) -> Result<Request
         number_of(given, BURDEN),
         edges_of(given),
         number_of(given, PROCESSORS),
+        number_of(given, UP_TO),
         number_of(given, TOP),
         number_of(given, WORKERS),
     ) else {
@@ -109,7 +111,7 @@ fn asked_by(alloc: Global, verb: Verb, given: &ArgMatches<'_>) -> Result<Request
     let args = args_of(alloc, given.get_strs("ARGS").unwrap_or(&[]))?;
     let file = String::from_str(alloc, file)?;
     let options = Options {
-        mode: mode_of(verb, processors, top),
+        mode: mode_of(verb, processors, up_to, top),
         limit,
         burden: Burden { charge, edges },
     };

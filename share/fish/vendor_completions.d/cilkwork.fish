@@ -1,8 +1,8 @@
 # Completion of cilkwork for fish.
 
-set -l commands check run scale sites gain greedy help
-set -l runs run scale sites gain greedy
-set -l burdened run scale sites gain
+set -l commands check run scale sites gain greedy speedup help
+set -l runs run scale sites gain greedy speedup
+set -l burdened run scale sites gain speedup
 
 complete -c cilkwork -f
 complete -c cilkwork -n "not __fish_seen_subcommand_from $commands" -a check -d 'compile a program and print ok'
@@ -11,6 +11,7 @@ complete -c cilkwork -n "not __fish_seen_subcommand_from $commands" -a scale -d 
 complete -c cilkwork -n "not __fish_seen_subcommand_from $commands" -a sites -d 'work and span of each call statement'
 complete -c cilkwork -n "not __fish_seen_subcommand_from $commands" -a gain -d 'spans if one function took no time'
 complete -c cilkwork -n "not __fish_seen_subcommand_from $commands" -a greedy -d 'number of steps of a greedy schedule on P processors'
+complete -c cilkwork -n "not __fish_seen_subcommand_from $commands" -a speedup -d 'steps and speedup by number of processors'
 complete -c cilkwork -n "not __fish_seen_subcommand_from $commands" -a help -d 'print the help of a command'
 complete -c cilkwork -n "not __fish_seen_subcommand_from $commands" -s V -l version -d 'print the version'
 complete -c cilkwork -n "__fish_seen_subcommand_from help" -a "$commands"
@@ -22,3 +23,4 @@ complete -c cilkwork -n "__fish_seen_subcommand_from $runs" -l workers -x -d 'nu
 complete -c cilkwork -n "__fish_seen_subcommand_from $burdened" -l burden -x -d 'instructions added for each charged edge'
 complete -c cilkwork -n "__fish_seen_subcommand_from $burdened" -l edges -x -a 'spawn both' -d 'edges that the burden is charged on'
 complete -c cilkwork -n "__fish_seen_subcommand_from gain" -l top -x -d 'maximum number of functions'
+complete -c cilkwork -n "__fish_seen_subcommand_from speedup" -l processors -x -d 'largest number of processors'

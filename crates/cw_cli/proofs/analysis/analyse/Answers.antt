@@ -1,7 +1,7 @@
 use Rattle.std.proofs.Common.{rules, ◌≢◌, subst}
 use Rattle.cw_words.specs.declared.asked.Mode.TheVariants as mode
 use Rattle.cw_cli.specs.Told.{HasTables}
-use Rattle.cw_cli.proofs.Modes.{gain_is_no_check, has_tables, run_is_no_check, running, schedule_is_no_check}
+use Rattle.cw_cli.proofs.Modes.{gain_is_no_check, has_tables, run_is_no_check, running, schedule_is_no_check, speedup_is_no_check}
 use Rattle.cw_cli.proofs.Runs.{by_crew, by_crowd, checked, refusal, run_is, sites_numbered}
 use Rattle.cw_cli.proofs.analysis.analyse.Goals as goal
 
@@ -48,3 +48,9 @@ returns-in-Greedy g c =
 
 pub run_gain_with-requires-clause-numbered : goal.run_gain_with-requires-clause-numbered
 run_gain_with-requires-clause-numbered g c κs within = sites_numbered c.derived_sites_are_numbered.ensures c.args.bytes.now _ c.in_ok-made.ensures.compiled
+
+pub returns-in-Speedup : goal.returns-in-Speedup
+returns-in-Speedup g c =
+    let runs = running c.args.options.mode (mode.Speedup c.in-Speedup.most) c.in-Speedup.is speedup_is_no_check in
+    by_crew g.W.Sink.seen c.args.out.now c.run_speedup_with.new.out c.args.bytes.now c.args.args.now c.args.options _ _ (search rules)
+    (run_is g.W.Sink.seen c.args.out.now c.run_speedup_with.new.out c.args.bytes.now c.args.args.now c.args.options runs c.run_speedup_with.result (c.run_speedup_with.ensures c.args.bytes.now c.in-Speedup.is c.in_ok-made.ensures.compiled))

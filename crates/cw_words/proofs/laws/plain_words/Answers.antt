@@ -2,6 +2,7 @@ use Rattle.std.proofs.Common.{None, Some}
 use Rattle.cw_words.proofs.Reading.{are_read, burdened, check_is_read, edged, limited, nothing, worked}
 use Rattle.cw_words.proofs.Gaining.{is_gaining}
 use Rattle.cw_words.proofs.Scheduling.{is_scheduled}
+use Rattle.cw_words.proofs.Speeding.{is_speeding}
 use Rattle.cw_words.proofs.laws.plain_words.Goals as goal
 
 pub returns : goal.returns
@@ -16,4 +17,6 @@ returns c = record {
   gain_top = λ top file args plain_top plain plains few. is_gaining (Some top) file args plain_top plain plains few;
   greedy = λ processors file args plain plain_file plains few. is_scheduled None processors file args tt plain plain_file plains few;
   greedy_limited = λ limit processors file args plain_limit plain plain_file plains few. is_scheduled (Some limit) processors file args plain_limit plain plain_file plains few;
+  speedup = λ file args plain plains few. is_speeding None file args tt plain plains few;
+  speedup_processors = λ up_to file args plain_up_to plain plains few. is_speeding (Some up_to) file args plain_up_to plain plains few;
 }
