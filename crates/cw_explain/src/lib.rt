@@ -20,6 +20,7 @@ mod owning;
 mod phrase;
 mod refusals;
 mod shortened;
+mod statement_habits;
 mod tables;
 mod traps;
 mod typing;

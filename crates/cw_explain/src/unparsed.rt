@@ -6,12 +6,11 @@ ghost use Rattle.cw_model.specs.Tokens.{IsTokenCut};
 
 use crate::around::Around;
 use crate::grammar::{ALL, keyword, shown};
-use crate::habits::{
-    Row, declared, further, habits, inside, items, loops, outside, parameters, typed, words,
-};
+use crate::habits::{Row, declared, items, loops, outside, parameters, typed, words};
 use crate::near::nearest;
 use crate::phrase::Marks;
 use crate::shortened::Shortened;
+use crate::statement_habits::{further, habits, inside};
 use crate::word::Word;
 use crate::words::{MIDDLES, STARTS};
 use cw_lex::lex;

@@ -1,0 +1,334 @@
+//! Habits of C programs in other statements; the rows are those of `habits`.
+
+use crate::habits::Row;
+
+static HABITS: &[Row] = &[
+    ("reducer", "", "", "declare a reducer outside of functions"),
+    ("*", "", "", "there are no pointers: write a[0] for *a"),
+    (
+        "",
+        "return",
+        "* x",
+        "there are no pointers: write @+[0] for *@+",
+    ),
+    (
+        "x",
+        "x =",
+        "* x",
+        "there are no pointers: write @+[0] for *@+",
+    ),
+    ("", "=", "* x", "there are no pointers: write @+[0] for *@+"),
+    (
+        "",
+        "",
+        "max (",
+        "max is a keyword: write int m = a; if (b > m) { m = b; } for the maximum of a and b",
+    ),
+    ("var x", "", "", "there is no var: write int @."),
+    (
+        "x = x",
+        "x = x",
+        "= ? ;",
+        "assign to one name at a time: write @1 = @+; @^ = @1;",
+    ),
+    (
+        "x = x",
+        "x = x",
+        "=",
+        "assign to one name at a time: write @1 @. @^ = @1;",
+    ),
+    (
+        "x =",
+        "=",
+        "++ x",
+        "++ is only for the head of a cilk_for: write @+ = @+ + 1; @^ = @+;",
+    ),
+    ("++ total", "", "++", "write @+ += 1;"),
+    (
+        "++ outer",
+        "",
+        "++",
+        "a cilk_for may not write @+: write reducer sum @r; outside of functions, and @r += 1; here",
+    ),
+    (
+        "++ x",
+        "",
+        "++",
+        "++ is only for the head of a cilk_for: write @+ = @+ + 1;",
+    ),
+    ("", "library", "(", "@l"),
+    (
+        "",
+        "operator x",
+        "(..)",
+        "@1(..) is a call, and a call is a statement of its own: write int @r = 0; @r = @1@(; and @r in its place: @[@r@;",
+    ),
+    (
+        "",
+        "( x",
+        "(..)",
+        "@1(..) is a call, and a call is a statement of its own: write int @r = 0; @r = @1@(; and @r in its place: @[@r@;",
+    ),
+    (
+        "",
+        ", x",
+        "(..)",
+        "@1(..) is a call, and a call is a statement of its own: write int @r = 0; @r = @1@(; and @r in its place: @[@r@;",
+    ),
+    (
+        "",
+        "[ x",
+        "(..)",
+        "@1(..) is a call, and a call is a statement of its own: write int @r = 0; @r = @1@(; and @r in its place: @[@r@;",
+    ),
+    (
+        "",
+        "! x",
+        "(..)",
+        "@1(..) is a call, and a call is a statement of its own: write int @r = 0; @r = @1@(; and @r in its place: @[@r@;",
+    ),
+    (
+        "",
+        "return x",
+        "(..)",
+        "@1(..) is a call, and a call is a statement of its own: write int @r = 0; @r = @1@(; and @r in its place: @[@r@;",
+    ),
+    (
+        "",
+        "] = x",
+        "(..)",
+        "a call assigns to an integer: write int @r = 0; @r = @1@(; @[@r@;",
+    ),
+    (
+        "int x = x",
+        "= x",
+        "(..)",
+        "@1(..) is a call, and a call is a statement of its own: write int @r = 0; @r = @1@(; and @r in its place: @[@r@;",
+    ),
+    (
+        "total +=",
+        "+= x",
+        "(..)",
+        "@1(..) is a call, and a call is a statement of its own: write int @r = 0; @r = @1@(; and @r in its place: @[@r@;",
+    ),
+    (
+        "x +=",
+        "+= x",
+        "(..)",
+        "@1(..) is a call, and a call is a statement of its own: write int @r = 0; @r = @1@(; and @r in its place: @[@r@;",
+    ),
+];
+
+static INSIDE: &[Row] = &[
+    (
+        "cilk_for (",
+        "cilk_for (",
+        "x",
+        "a cilk_for declares its variable: write cilk_for (int @0 = LOW; @0 < HIGH; @0++)",
+    ),
+    (
+        "cilk_for (",
+        "; x",
+        "",
+        "a cilk_for counts up by one: for steps of k write cilk_for (int j = 0; j < (HIGH - LOW + k - 1) / k; j++), and LOW + j * k for @1 in its body",
+    ),
+    (
+        "",
+        "cilk_spawn x",
+        "=",
+        "the name that takes the result comes first: write @1 = cilk_spawn @>",
+    ),
+    (
+        "",
+        "cilk_spawn",
+        "{",
+        "cilk_spawn needs a call: move the block into a function",
+    ),
+    (
+        "cilk_spawn x (",
+        ")",
+        "operator",
+        "a spawn is a statement of its own: write @<;",
+    ),
+    (
+        "",
+        "",
+        "cilk_spawn",
+        "a spawn is a statement of its own: write int @r = 0; @r = @. cilk_sync; before this statement, and @r in its place",
+    ),
+    (
+        "int x (",
+        "int x",
+        "(",
+        "a function is not declared inside another one: the { of line @{ is open; write } before this line",
+    ),
+    (
+        "int x (",
+        "",
+        "",
+        "a function is not declared inside another one: the { of line @{ is open; write } before this line",
+    ),
+    (
+        "void",
+        "",
+        "void",
+        "a function is not declared inside another one: the { of line @{ is open; write } before this line",
+    ),
+    (
+        "x = x (",
+        ")",
+        "operator",
+        "a call is a statement of its own: write int @r = 0; @r = @=; @^ = @r @.",
+    ),
+    (
+        "x = cilk_spawn",
+        ")",
+        "operator",
+        "a spawn is a statement of its own: write int @r = 0; @r = @=; cilk_sync; @^ = @r @.",
+    ),
+    (
+        "",
+        "x",
+        "(..)",
+        "@1(..) is a call, and a call is a statement of its own: write int @r = 0; @r = @1@(; and @r in its place: @[@r@;",
+    ),
+    ("", "(", "int", "there are no casts: delete (int)"),
+    (
+        "",
+        "",
+        "const",
+        "const is for array parameters only: delete it",
+    ),
+    (
+        "int x =",
+        "",
+        ", x =",
+        "a declaration has one name: write @<; int @>",
+    ),
+    (
+        "int x =",
+        "",
+        ",",
+        "a declaration has one name and a value: write @<; and a further declaration for the next name",
+    ),
+    ("x =", "", ",", "assign to one name at a time: write @<; @>"),
+    (
+        "if (",
+        "",
+        "=",
+        "= assigns, in a statement of its own: write == to compare",
+    ),
+    (
+        "while (",
+        "",
+        "=",
+        "= assigns, in a statement of its own: write == to compare",
+    ),
+    (
+        "",
+        "if",
+        "",
+        "the test of an if is in parentheses: write if (..) { .. }",
+    ),
+    (
+        "",
+        "while",
+        "",
+        "the test of a while is in parentheses: write while (..) { .. }",
+    ),
+    ("", "print", "", "write print(@.);"),
+    (
+        "print",
+        "",
+        ",",
+        "print takes one value: write print(..); for each",
+    ),
+];
+
+static FURTHER: &[Row] = &[
+    (
+        "x",
+        "]",
+        "+=",
+        "+= is only for reducers: write @< = @< + @>",
+    ),
+    (
+        "",
+        "x",
+        "++",
+        "++ is only for the head of a cilk_for: write @1 = @1 + 1; as a statement of its own",
+    ),
+    (
+        "",
+        "",
+        "++",
+        "++ is only for the head of a cilk_for: write i = i + 1; as a statement of its own",
+    ),
+    (
+        "x ==",
+        "",
+        "==",
+        "= assigns, and == compares: write @^ = @>",
+    ),
+    ("x =", "", "=", "assign to one name at a time"),
+    (
+        "",
+        ">",
+        ">",
+        "there are no shifts: divide by 2 to that power: @2 / 4 for @2 >> 2 (of @2 >= 0)",
+    ),
+    (
+        "cut",
+        "",
+        "{",
+        "a cut names its parts: write cut a at k as l, r { .. }",
+    ),
+    (
+        "",
+        "region",
+        "{",
+        "a region has a name: write region phase { .. }",
+    ),
+    (";", "", ";", "there is no empty statement: delete the ;"),
+    (
+        "else",
+        "",
+        "else",
+        "there is no if without else right before this else: delete it, or move it",
+    ),
+    (
+        "{",
+        "",
+        "first",
+        "a block belongs to a statement: delete its braces, or write cilk_scope { .. }",
+    ),
+    ("", "0", "x", "numbers are decimal: write @x"),
+    (
+        "",
+        "1",
+        "x",
+        "a number has decimal digits only: delete @0 or write the number out",
+    ),
+    (
+        "",
+        "0",
+        "1",
+        "a number has no leading 0: write @0 (C reads 0@0 as octal)",
+    ),
+    ("x x", "", "x", "there is no type @^: write int @."),
+];
+
+/// Returns the habits of other statements.
+pub fn habits() -> &'static [Row] {
+    HABITS
+}
+
+/// Returns the habits in functions, for sources in which no semicolon and no brace is missing.
+pub fn inside() -> &'static [Row] {
+    INSIDE
+}
+
+/// Returns the habits that are looked for after `inside`.
+pub fn further() -> &'static [Row] {
+    FURTHER
+}
