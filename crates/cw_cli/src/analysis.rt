@@ -77,8 +77,8 @@ pub fn analyse_alone<W: Sink>(
 /// on the crew, on what its bodies and the gate do, or on the order in which workers come to steal. A check and a run of
 /// code that spawns nothing are made by the caller's thread alone. In mode `Gain` the crew does the first run, and behind it
 /// as many threads as there are workers the further ones, side by side; in mode `Greedy` the crew does the run, and the
-/// caller's thread the schedule; in mode `Speedup` the crew does the run, and the caller's thread the schedules and, of a run
-/// of more than 1,000,000 strands, the measures.
+/// caller's thread the schedule; in mode `Speedup` the crew does the run, and the caller's thread a second run, which
+/// measures, and the schedules.
 ///
 /// Before all that, a crew of more than 63 bodies is `Arguments` in each mode, with nothing written.
 ///
