@@ -2,7 +2,7 @@
 """Runs by workers beside the run with one, on the built program.
 
     crew.py PROGRAM same [COUNT [TIMES]]   the programs of examples/ and so many random ones (200), each so many times (50) in the
-                                           modes run, scale, sites and greedy with 2, 3, 4 and 64 workers, each within another limit,
+                                           modes run, scale, sites, greedy and speedup with 2, 3, 4 and 64 workers, each within another limit,
                                            which none reaches: the bytes, both streams and the status of one worker. On a
                                            program of `unproved.py OUT stumbling` the limit says where workers are held
     crew.py PROGRAM limits                 each limit from 1 to the cost of a run and one more, on seven programs: the same
@@ -171,7 +171,7 @@ def same(program, count="200", times="50"):
     wrong = runs = 0
     with tempfile.TemporaryDirectory() as folder, concurrent.futures.ThreadPoolExecutor(3) as pool:
         for path, arguments in [*examples(), *random_programs(pathlib.Path(folder), int(count))]:
-            for mode in (["run"], ["scale"], ["sites"], ["greedy", "3"]):
+            for mode in (["run"], ["scale"], ["sites"], ["greedy", "3"], ["speedup"]):
                 words = [*mode, str(path), *arguments, "--limit"]
                 wanted = asked(program, [*words, str(MOST), "--workers", "1"])
                 tries = [pool.submit(differs, program, [*words, str(MOST + k)], workers, wanted) for workers in CREWS for k in range(int(times))]

@@ -3,7 +3,7 @@
 
     fuzz.py EXE START COUNT [no-loops] [consts]
 
-For each seed from START on, the program of that seed is checked, and run in the modes run, scale, sites, gain and greedy: within a
+For each seed from START on, the program of that seed is checked, and run in the modes run, scale, sites, gain, greedy and speedup: within a
 wide limit, within just what it costs, and within one instruction less. Exit status and both streams must be those that
 `ref.py` gives. Then three programs that differ from it in one statement are checked: each must be accepted, or refused
 in its line, as `rules.py` says. With `consts` functions have `const` parameters, too.
@@ -35,7 +35,7 @@ def answers(source, arguments, burden, processors, top):
     """What the program is asked in each mode, and what it must answer."""
     run = Run(Program(source), arguments, WIDE)
     yield ["check"], (0, "ok\n", "")
-    for mode in ("run", "scale", "sites", "gain", "greedy"):
+    for mode in ("run", "scale", "sites", "gain", "greedy", "speedup"):
         wanted = report(mode, run, burden, processors, top)
         yield [mode, WIDE], wanted
         if not run.is_over:
@@ -51,6 +51,7 @@ def asked(exe, path, words, arguments, burden, processors, top):
         command += [str(value) for value in arguments] + ["--limit", str(limit[0])]
         command += [] if mode == "greedy" else ["--burden", str(burden.charge), "--edges", burden.edges]
         command += ["--top", str(top)] if mode == "gain" else []
+        command += ["--processors", str(processors)] if mode == "speedup" else []
     done = subprocess.run(command, capture_output=True, text=True)
     return done.returncode, done.stdout, done.stderr
 
