@@ -11,7 +11,7 @@ import subprocess
 import sys
 
 EXAMPLES = pathlib.Path(__file__).resolve().parent.parent / "examples"
-ENDINGS = {"run": ".out", "scale": ".scale.csv", "sites": ".sites.csv", "greedy": ".greedy.csv", "gain": ".gain.csv"}
+ENDINGS = {"run": ".out", "scale": ".scale.csv", "sites": ".sites.csv", "greedy": ".greedy.csv", "gain": ".gain.csv", "speedup": ".speedup.csv"}
 PROCESSORS = "8"
 
 

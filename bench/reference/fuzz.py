@@ -3,8 +3,8 @@
 
     fuzz.py PROGRAM START COUNT [no-loops] [consts]
 
-For each of COUNT seeds from START on, the random program of the seed is checked, and run in the modes run, scale, sites, gain and
-greedy: with a large limit, with its cost as the limit, and with one instruction less. Exit status and both streams must be as
+For each of COUNT seeds from START on, the random program of the seed is checked, and run in the modes run, scale, sites, gain,
+greedy and speedup: with a large limit, with its cost as the limit, and with one instruction less. Exit status and both streams must be as
 `ref.py` computes them. Then three programs that differ from it in one statement are checked: each must be accepted or rejected,
 with the line, as by `rules.py`. With `consts` functions have `const` parameters, too.
 """
@@ -51,6 +51,7 @@ def asked(exe, path, words, arguments, burden, processors, top):
         command += [str(value) for value in arguments] + ["--limit", str(limit[0])]
         command += [] if mode == "greedy" else ["--burden", str(burden.charge), "--edges", burden.edges]
         command += ["--top", str(top)] if mode == "gain" else []
+        command += ["--processors", str(processors)] if mode == "speedup" else []
     done = subprocess.run(command, capture_output=True, text=True)
     return done.returncode, done.stdout, done.stderr
 

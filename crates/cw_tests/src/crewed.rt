@@ -129,6 +129,7 @@ const MODES: &[Mode] = &[
     Mode::Sites,
     Mode::Gain(1),
     Mode::Greedy(1),
+    Mode::Speedup(1),
 ];
 
 // Returns a crew with one body more than a run may have.

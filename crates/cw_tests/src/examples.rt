@@ -39,6 +39,7 @@ pub struct Example {
     pub sites: &'static str,
     pub gain: &'static str,
     pub greedy: &'static str,
+    pub speedup: &'static str,
 }
 
 // Returns whether the program prints `wanted` for the example in this mode.
@@ -87,5 +88,6 @@ pub fn holds<R: Abort + AllocGlobal + Threads + Wait + Copy + Drop + Send + 'sta
     reports(rt, "scale ", example, example.scale)?;
     reports(rt, "sites ", example, example.sites)?;
     reports(rt, "gain ", example, example.gain)?;
-    reports(rt, "greedy 8 ", example, example.greedy)
+    reports(rt, "greedy 8 ", example, example.greedy)?;
+    reports(rt, "speedup ", example, example.speedup)
 }

@@ -32,6 +32,8 @@ mod silent;
 #[cfg(test)]
 mod sinks;
 #[cfg(test)]
+mod speedups;
+#[cfg(test)]
 mod tables;
 #[cfg(test)]
 mod words;

@@ -135,6 +135,22 @@ const REQUESTS: &[Reading] = &[
         Edges::Spawn,
     ),
     (
+        "speedup f.cilk 3",
+        Mode::Speedup(64),
+        &[3],
+        1_000_000_000,
+        15_000,
+        Edges::Spawn,
+    ),
+    (
+        "speedup --processors 048 f.cilk --edges both --burden=7 --limit 9",
+        Mode::Speedup(48),
+        &[],
+        9,
+        7,
+        Edges::Both,
+    ),
+    (
         "scale f.cilk --edges both",
         Mode::Scale,
         &[],
