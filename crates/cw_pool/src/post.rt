@@ -9,7 +9,7 @@ ghost use Rattle.cw_jobs.specs.Means.{IsMeaningOf};
 ghost use Rattle.cw_pool.specs.Posts.{Begins, Ends, IsNewest, Lacks, Settles, TurnsTo, Works};
 
 use crate::gate::{Gate, Moment};
-use crate::sign::{BUDGET, Tally};
+use crate::sign::Tally;
 use cw_jobs::effect::Effect;
 use cw_jobs::job::Job;
 use cw_strand::strand::{End, Event, Spawns, Strand};
@@ -250,15 +250,15 @@ impl Post {
         }
     }
 
-    /// Gives back the memory that it does not use while it waits. Returns what it has, in bytes, if that is at most the
-    /// budget, otherwise any number above it.
-    pub(crate) fn settle_down(&mut self) -> usize
+    /// Gives back the memory that it does not use while it waits. Returns what it has, in bytes, if that is at most `enough`,
+    /// otherwise any number above it; of none, its arrays are not counted.
+    pub(crate) fn settle_down(&mut self, enough: usize) -> usize
         ensures of { self.new.strand.of ≡ self.old.strand.of }
         ensures works { (y : Yard) → Works y self.old → Works y self.new }
     {
         self.strand.trim();
         let kept = self.kept.capacity().saturating_mul(KEPT);
-        kept.saturating_add(self.strand.bytes(BUDGET as usize))
+        kept.saturating_add(self.strand.bytes(enough))
     }
 
     // What the strand did since it had done so many instructions is counted.

@@ -88,14 +88,15 @@ impl Search {
 
     // The bytes of what waits on the worker: a post, which gives back what it does not use when it begins to wait, and all
     // below it.
-    fn weigh(&mut self, post: &mut Post, below: &Vec<Below>) -> usize
+    fn weigh(&mut self, me: usize, post: &mut Post, below: &Vec<Below>) -> usize
         ensures of { post.new.strand.of ≡ post.old.strand.of }
         ensures works { (y : yards.Yard) → Works y post.old → Works y post.new }
     {
         if let Some(held) = self.held {
             return held;
         }
-        let held = post.settle_down().saturating_add(held_below(below));
+        let enough = enough_for(me, below);
+        let held = post.settle_down(enough).saturating_add(held_below(below));
         self.held = Some(held);
         held
     }
@@ -182,6 +183,14 @@ fn doze<R: Wait>(
     None
 }
 
+// Up to so many bytes a waiting post is weighed. The arrays of the root are not, since each strand of the run needs them.
+fn enough_for(me: usize, below: &Vec<Below>) -> usize {
+    if me == 0 && below.is_empty() {
+        return 0;
+    }
+    BUDGET as usize
+}
+
 // The bytes of all that waits below a worker's post.
 fn held_below(below: &Vec<Below>) -> usize {
     match below.last() {
@@ -253,7 +262,7 @@ fn run_above<G: Gate, R: Wait>(
     ensures seat { IsSeatOf yard.now seat.new }
     ensures stands { KeepsStanding yard.now post.old below.old.items post.new below.new.items }
 {
-    let held = search.weigh(post, below);
+    let held = search.weigh(tally.me, post, below);
     if held as u64 > BUDGET || tally.is_full() {
         search.wait(rt, key);
         return;
