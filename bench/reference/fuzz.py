@@ -35,7 +35,7 @@ def answers(source, arguments, burden, processors, top):
     """Yields the mode and limit of each run, with the answer that the program must give."""
     run = Run(Program(source), arguments, WIDE)
     yield ["check"], (0, "ok\n", "")
-    for mode in ("run", "scale", "sites", "gain", "greedy"):
+    for mode in ("run", "scale", "sites", "gain", "greedy", "speedup"):
         expected = report(mode, run, burden, processors, top)
         yield [mode, WIDE], expected
         if not run.is_over:

@@ -4,10 +4,16 @@ use crate::names::{bytes, names, rules};
 use crate::sources::sources;
 use crate::statements::{assignments, others, statements};
 use crate::told::{Habit, is_advised, told_between};
-use cw_explain::{all_bytes, all_names, all_rows};
+use cw_explain::{Row, all_bytes, all_names, all_rows};
 use std::alloc::{AllocError, Global};
 use std::process::Abort;
 use std::test::Fail;
+
+// A row of a table of names: a name, and what to write instead.
+type Call = (&'static str, &'static str);
+
+// A row of a table of bytes: the byte, three conditions, and what to write instead.
+type Foreign = (u8, &'static str, &'static str, &'static str, &'static str);
 
 // What precedes a statement, and what follows it.
 const FRONT: &str =
@@ -103,24 +109,38 @@ fn is_covered(told: &[String], says: &str) -> bool {
     false
 }
 
+// Asserts that an example says what each row of a table of tokens does.
+fn all_rows_covered(rt: &impl Abort, told: &[String], table: &[Row]) {
+    for row in table {
+        assert!(rt; is_covered(told, row.3), "{}", row.3);
+    }
+}
+
+// Asserts that an example says what each row of a table of names does.
+fn all_names_covered(rt: &impl Abort, told: &[String], table: &[Call]) {
+    for row in table {
+        assert!(rt; is_covered(told, row.1), "{}", row.0);
+    }
+}
+
+// Asserts that an example says what each row of a table of bytes does.
+fn all_bytes_covered(rt: &impl Abort, told: &[String], table: &[Foreign]) {
+    for row in table {
+        assert!(rt; is_covered(told, row.4), "{}", row.4);
+    }
+}
+
 #[test]
 fn each_habit_has_an_example(rt: HostRuntime) -> Result<(), Fail> {
     let told = all_told(rt.alloc())?;
-    let told = told.as_slice();
     for table in all_rows() {
-        for row in table {
-            assert!(rt; is_covered(told, row.3), "{}", row.3);
-        }
+        all_rows_covered(&rt, told.as_slice(), table);
     }
     for table in all_names() {
-        for row in table {
-            assert!(rt; is_covered(told, row.1), "{}", row.0);
-        }
+        all_names_covered(&rt, told.as_slice(), table);
     }
     for table in all_bytes() {
-        for row in table {
-            assert!(rt; is_covered(told, row.4), "{}", row.4);
-        }
+        all_bytes_covered(&rt, told.as_slice(), table);
     }
     Ok(())
 }

@@ -127,28 +127,28 @@ const COUNTED: &[Row] = &[
         MORE,
         4,
         "",
-        "too many strands\nf: the run has 1000003 strands, and a schedule is made of 1000000 at most; smaller arguments or coarser grains give fewer, and scale has no such limit\n",
+        "too many strands\nf: the run has 1000003 strands, but a schedule has at most 1000000: use smaller arguments or coarser grains, or scale, which has no such limit\n",
     ),
     (
         "greedy 1 f --explain --workers 4",
         MORE,
         4,
         "",
-        "too many strands\nf: the run has 1000003 strands, and a schedule is made of 1000000 at most; smaller arguments or coarser grains give fewer, and scale has no such limit\n",
+        "too many strands\nf: the run has 1000003 strands, but a schedule has at most 1000000: use smaller arguments or coarser grains, or scale, which has no such limit\n",
     ),
     (
         "greedy 1 f --explain --workers 1",
         MORE_CALLS,
         4,
         "",
-        "too many strands\nf: the run has 1999998 strands, and a schedule is made of 1000000 at most; smaller arguments or coarser grains give fewer, and scale has no such limit\n",
+        "too many strands\nf: the run has 1999998 strands, but a schedule has at most 1000000: use smaller arguments or coarser grains, or scale, which has no such limit\n",
     ),
     (
         "greedy 1 f --explain --workers 4",
         MORE_CALLS,
         4,
         "",
-        "too many strands\nf: the run has 1999998 strands, and a schedule is made of 1000000 at most; smaller arguments or coarser grains give fewer, and scale has no such limit\n",
+        "too many strands\nf: the run has 1999998 strands, but a schedule has at most 1000000: use smaller arguments or coarser grains, or scale, which has no such limit\n",
     ),
 ];
 

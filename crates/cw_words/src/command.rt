@@ -186,7 +186,7 @@ fn edges<'a>(alloc: Global) -> Arg<'a>
         EDGES,
         "E",
         USUAL_EDGES,
-        "The edges that cost the burden: spawn or both",
+        "The charged edges: spawn or both",
     )
 }
 

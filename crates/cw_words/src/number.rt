@@ -29,7 +29,7 @@ pub const LIMIT: NumberOption = NumberOption {
     least: 1,
     most: MOST_LIMIT,
     usual: "1000000000",
-    help: "The maximum cost of the run in instructions",
+    help: "The maximum number of instructions",
 };
 
 /// The burden of a charged edge.
@@ -38,7 +38,7 @@ pub const BURDEN: NumberOption = NumberOption {
     least: 0,
     most: MOST_BURDEN,
     usual: "15000",
-    help: "The cost of each charged edge in instructions",
+    help: "The instructions of a charged edge",
 };
 
 /// The workers of a run.
