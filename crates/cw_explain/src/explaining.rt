@@ -1,8 +1,7 @@
 //! From a fault to its explanation.
 
 use crate::checking::{add_checks, tokens_of};
-use crate::excerpt::{Lines, add_lines, line_of};
-use crate::lexical::OfText;
+use crate::excerpt::{Lines, add_lines};
 use crate::limits;
 use crate::listing::{Listing, Spot};
 use crate::others::{Named, of_run, parameters_of_main};
@@ -12,11 +11,11 @@ use crate::traps::trapped;
 use cw_gen::excess_of;
 use cw_lex::{Uncut, first_uncut};
 use cw_loops::lower;
+use cw_model::limits::MOST_SOURCE_BYTES;
 use cw_model::token::Token;
 use cw_model::trap::Trap;
 use cw_own::own;
 use cw_parse::{Recovered, parse, passed_by_tokens, recover};
-use cw_reasons::At;
 use cw_text::Fault;
 use cw_tree::syntax::Ast;
 use cw_types::{check, too_large};
@@ -85,7 +84,7 @@ fn add_reason(
         Fault::Lexical(_) | Fault::Syntax(_) | Fault::Types(_) | Fault::Ownership(_) => {
             of_source(alloc, out, refused)
         }
-        Fault::Size(place) => of_size(alloc, out, &refused.at(place.line)),
+        Fault::Size(place) => of_size(alloc, out, refused, place.line),
         Fault::Trap { code, line, .. } => of_trap(out, &refused.at(*line), *code),
         Fault::Arguments => of_arguments(alloc, out, refused),
         _ => of_run(out, refused, fault),
@@ -222,28 +221,37 @@ fn leave_out(found: &mut Recovered, tokens: &[Token], all: &[Bad]) {
     }
 }
 
-// Adds why bytes are not cut into tokens, and the line that matters, unless there are too many bytes.
-fn add_uncut(out: &mut String, subject: &Subject<'_>, found: &At<Uncut<'_>>) -> Result<(), Fault> {
-    let reason = OfText {
-        reason: found.reason,
-        line: line_of(subject.bytes, found.line),
-        place: 0,
-    };
-    match found.reason {
-        Uncut::TooLong(_) => {
-            write!(out, "{reason}\n")?;
-            Ok(())
-        }
-        _ => add_rule(out, subject, &reason, None),
+// Explains a limit: of the bytes, a name, the tokens, the program's parts, and its code, in this order.
+fn of_size(alloc: Global, out: &mut String, refused: &Refused<'_>, line: u32) -> Result<(), Fault> {
+    match first_uncut(refused.bytes) {
+        Some(found) => of_uncut(alloc, out, refused, &found.reason),
+        None => of_limit(alloc, out, &refused.at(line)),
     }
 }
 
-// Explains a limit: of the bytes, a name, the tokens, the program's parts, and its code, in this order.
-fn of_size(alloc: Global, out: &mut String, subject: &Subject<'_>) -> Result<(), Fault> {
-    add_place(out, subject.file, subject.line)?;
-    if let Some(found) = first_uncut(subject.bytes) {
-        return add_uncut(out, subject, &found);
+// Explains that there are too many bytes, or that a name is too long.
+fn of_uncut(
+    alloc: Global,
+    out: &mut String,
+    refused: &Refused<'_>,
+    reason: &Uncut<'_>,
+) -> Result<(), Fault> {
+    match reason {
+        Uncut::TooLong(bytes) => {
+            add_place(out, Named { path: refused.file }, 1)?;
+            write!(
+                out,
+                "the source has {bytes} bytes, but at most {MOST_SOURCE_BYTES} are allowed\n"
+            )?;
+            Ok(())
+        }
+        _ => of_source(alloc, out, refused),
     }
+}
+
+// Explains a limit of the tokens, the program's parts or its code.
+fn of_limit(alloc: Global, out: &mut String, subject: &Subject<'_>) -> Result<(), Fault> {
+    add_place(out, subject.file, subject.line)?;
     let (source, tokens) = tokens_of(alloc, subject.bytes)?;
     if let Some(at) = passed_by_tokens(tokens.as_slice()) {
         return add_rule(out, subject, &limits::of_tokens(at.reason), None);

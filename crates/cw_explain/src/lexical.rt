@@ -3,7 +3,7 @@
 use crate::foreign::{Byte, byte_at};
 use crate::word::{Shown, Word, is_printable};
 use cw_lex::Uncut;
-use cw_model::limits::{MOST_NAME_BYTES, MOST_NUMBER, MOST_SOURCE_BYTES};
+use cw_model::limits::{MOST_NAME_BYTES, MOST_NUMBER};
 use std::fmt;
 
 /// The most digits of a number that are shown.
@@ -35,10 +35,7 @@ impl fmt::Display for OfText<'_> {
             return write!(f, "{byte}");
         }
         match self.reason {
-            Uncut::TooLong(bytes) => write!(
-                f,
-                "the source has {bytes} bytes, but at most {MOST_SOURCE_BYTES} are allowed"
-            ),
+            Uncut::TooLong(_) => Ok(()),
             Uncut::NotAscii(byte) => write!(
                 f,
                 "the byte {byte} is not ASCII: replace the character, in comments too"
