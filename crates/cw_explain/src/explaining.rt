@@ -11,7 +11,7 @@ use crate::lexical::OfText;
 use crate::limits;
 use crate::others::{Named, of_run, parameters_of_main};
 use crate::refusals::{OfOwnership, OfTypes, Refusals};
-use crate::traps::trapped;
+use crate::traps::{multiplies, trapped};
 use crate::unparsed::first_unparsed;
 use cw_gen::excess_of;
 use cw_lex::{Uncut, first_uncut, lex};
@@ -94,7 +94,7 @@ fn add_reason(
         Fault::Types(place) => of_types(alloc, out, &refused.at(place.line)),
         Fault::Ownership(place) => of_ownership(alloc, out, &refused.at(place.line)),
         Fault::Size(place) => of_size(alloc, out, &refused.at(place.line)),
-        Fault::Trap { code, line, .. } => of_trap(out, &refused.at(*line), *code),
+        Fault::Trap { code, line, .. } => of_trap(alloc, out, &refused.at(*line), *code),
         Fault::Arguments => of_arguments(alloc, out, refused),
         _ => of_run(out, refused, fault),
     }
@@ -136,9 +136,16 @@ fn add_rule_at<D: fmt::Display>(
 }
 
 // Explains a trap.
-fn of_trap(out: &mut String, subject: &Subject<'_>, code: Trap) -> Result<(), Fault> {
+fn of_trap(
+    alloc: Global,
+    out: &mut String,
+    subject: &Subject<'_>,
+    code: Trap,
+) -> Result<(), Fault> {
     add_place(out, subject.file, subject.line)?;
-    add_rule(out, subject, &trapped(code), None)
+    let (_source, tokens) = tokens_of(alloc, subject.bytes)?;
+    let rule = trapped(code, multiplies(tokens.as_slice(), subject.line));
+    add_rule(out, subject, &rule, None)
 }
 
 // Explains a wrong number of arguments of main.
