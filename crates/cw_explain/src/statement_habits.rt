@@ -247,6 +247,12 @@ static INSIDE: &[Row] = &[
 
 static FURTHER: &[Row] = &[
     (
+        "outer [",
+        "]",
+        "+=",
+        "+= is only for reducers: write @< = @< + @> and over (@^) in the head of the cilk_for, which allows the element of its variable",
+    ),
+    (
         "x",
         "]",
         "+=",
