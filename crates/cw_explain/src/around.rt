@@ -131,6 +131,25 @@ impl Opened {
         self.front = None;
     }
 
+    /// Goes on at another token after a statement that does not parse; the statement goes on with its block if `is_block`.
+    pub fn resume(&mut self, place: usize, is_block: bool) {
+        self.brackets
+            .retain(|bracket| bracket.token.kind == Kind::LeftBrace);
+        self.is_headed = false;
+        self.count = place;
+        if !is_block {
+            self.first = place;
+            self.front = None;
+        }
+    }
+
+    /// Goes on at the first token of an item.
+    pub fn restart(&mut self, place: usize) {
+        self.brackets.clear();
+        self.braces = 0;
+        self.resume(place, false);
+    }
+
     /// Adds one token.
     pub fn add(&mut self, token: Token) -> Result<(), AllocError> {
         self.is_headed = false;

@@ -71,6 +71,13 @@ static DIRECTIVES: &[Foreign] = &[
         "there are no characters: write @k for @c",
     ),
     (
+        b'/',
+        "",
+        "",
+        "/*",
+        "write a comment after //, up to the end of its line",
+    ),
+    (
         b'\\',
         "",
         "",
