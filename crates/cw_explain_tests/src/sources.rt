@@ -309,6 +309,11 @@ static SOURCES: &[Habit] = &[
         "reducer sum r;\nint main(int n) {\n  int x = 0;\n  cilk_for (int i = 0; i < n; i++) {\n    r += i;\n  }\n  return x;\n}",
     ),
     (
+        "int main(int n) {\n  int x = 0;\n  cilk_for (int i = 0; i < n; i++) {\n    x += i;\n  }\n  n++;\n  return x;\n}",
+        "x is not a reducer: write reducer sum r; outside of functions, and r += i; here",
+        "reducer sum r;\nint main(int n) {\n  int x = 0;\n  cilk_for (int i = 0; i < n; i++) {\n    r += i;\n  }\n  n = n + 1;\n  return x;\n}",
+    ),
+    (
         "int main(int n) {\n  int x = 0;\n  cilk_for (int i = 0; i < n; i++) {\n    x = x + i;\n  }\n  return x;\n}",
         "write reducer sum r; outside of functions and r += ..; here",
         "reducer sum r;\nint main(int n) {\n  int x = 0;\n  cilk_for (int i = 0; i < n; i++) {\n    r += i;\n  }\n  return x;\n}",

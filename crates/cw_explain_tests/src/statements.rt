@@ -342,6 +342,11 @@ static STATEMENTS: &[Habit] = &[
 
 static ASSIGNMENTS: &[Habit] = &[
     (
+        "n += 2; n++;",
+        "n is not a reducer: write n = n + 2;",
+        "n = n + 2; n = n + 1;",
+    ),
+    (
         "sum += 2 * n;",
         "sum is a keyword: use another name, and write r = r + (2 * n);",
         "int r = 0; r = r + (2 * n);",
