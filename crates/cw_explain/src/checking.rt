@@ -160,8 +160,8 @@ fn remaining(
     Ok(remains.text)
 }
 
-// Whether a name is among tokens that are no function and no reducer, or in a directive, so that it may be declared there.
-fn is_suspect(outline: &Outline<'_>, name: &[u8]) -> bool {
+/// Whether a name is among tokens that are no function and no reducer, or in a directive, so that it may be declared there.
+pub fn is_suspect(outline: &Outline<'_>, name: &[u8]) -> bool {
     for item in outline.found.items.as_slice() {
         if !item.is_headed {
             let head = outline.tokens.get(item.first..item.body).unwrap_or(&[]);

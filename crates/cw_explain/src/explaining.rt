@@ -7,7 +7,7 @@ use crate::listing::{Listing, Spot};
 use crate::others::{Named, of_run, parameters_of_main};
 use crate::scan::{Bad, Scan, scanned};
 use crate::syntax::{Outline, add_syntax};
-use crate::traps::trapped;
+use crate::traps::{multiplies, trapped};
 use cw_gen::excess_of;
 use cw_lex::{Uncut, first_uncut};
 use cw_loops::lower;
@@ -85,7 +85,7 @@ fn add_reason(
             of_source(alloc, out, refused)
         }
         Fault::Size(place) => of_size(alloc, out, refused, place.line),
-        Fault::Trap { code, line, .. } => of_trap(out, &refused.at(*line), *code),
+        Fault::Trap { code, line, .. } => of_trap(alloc, out, &refused.at(*line), *code),
         Fault::Arguments => of_arguments(alloc, out, refused),
         _ => of_run(out, refused, fault),
     }
@@ -115,9 +115,16 @@ fn add_rule<D: fmt::Display>(
 }
 
 // Explains a trap.
-fn of_trap(out: &mut String, subject: &Subject<'_>, code: Trap) -> Result<(), Fault> {
+fn of_trap(
+    alloc: Global,
+    out: &mut String,
+    subject: &Subject<'_>,
+    code: Trap,
+) -> Result<(), Fault> {
     add_place(out, subject.file, subject.line)?;
-    add_rule(out, subject, &trapped(code), None)
+    let (_source, tokens) = tokens_of(alloc, subject.bytes)?;
+    let rule = trapped(code, multiplies(tokens.as_slice(), subject.line));
+    add_rule(out, subject, &rule, None)
 }
 
 // Explains a wrong number of arguments of main.

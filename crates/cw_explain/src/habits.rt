@@ -23,7 +23,7 @@ static OUTSIDE: &[Row] = &[
         "int main (",
         "int x ,",
         "type",
-        "main takes integers only: write int main(int n), and use n for the first argument",
+        "main takes integers only: write int main(int n), use n for the first argument, and delete tests of argc: the number of arguments is checked",
     ),
     (
         "type cilk_reducer",
@@ -612,6 +612,18 @@ static LOOPS: &[Row] = &[
 static DECLARED: &[Row] = &[
     ("", "int", "keyword", "@0 is a keyword: use another name"),
     (
+        "keyword +=",
+        "",
+        "keyword +=",
+        "@0 is a keyword: use another name, and write @r = @r + @)",
+    ),
+    (
+        "keyword =",
+        "",
+        "keyword =",
+        "@0 is a keyword: use another name",
+    ),
+    (
         "type keyword",
         "",
         "",
@@ -671,6 +683,18 @@ static DECLARED: &[Row] = &[
         "[",
         "arrays have one dimension: write a[i * m + j] for the element i, j of m columns",
     ),
+    (
+        "x = x",
+        "- -",
+        ";",
+        "there is no --: write @^ = @3; @3 = @3 - 1;",
+    ),
+    (
+        "int x = x",
+        "- -",
+        ";",
+        "there is no --: write int @& = @3; @3 = @3 - 1;",
+    ),
     ("total", "first", "- -", "write @1 += -1;"),
     (
         "outer",
@@ -688,15 +712,33 @@ static DECLARED: &[Row] = &[
     ),
     (
         "x =",
-        "x",
-        "++",
+        "= x",
+        "++ ;",
         "++ is only for the head of a cilk_for: write @^ = @1; @1 = @1 + 1;",
     ),
     (
         "int x =",
-        "x",
-        "++",
+        "= x",
+        "++ ;",
         "++ is only for the head of a cilk_for: write @<; @1 = @1 + 1;",
+    ),
+    (
+        "",
+        "[ x",
+        "++ ]",
+        "++ is only for the head of a cilk_for: write @1 for @1++ here, and @1 = @1 + 1; after this statement",
+    ),
+    (
+        "outer [",
+        "]",
+        "++",
+        "++ is only for the head of a cilk_for: write @< = @< + 1; and over (@^) in the head of the cilk_for, which allows the element of its variable",
+    ),
+    (
+        "outer [",
+        "]",
+        "operator =",
+        "there is no @0=: write @< = @< @0 @) and over (@^) in the head of the cilk_for, which allows the element of its variable",
     ),
     (
         "x [",
@@ -737,16 +779,22 @@ static DECLARED: &[Row] = &[
     ),
     ("total", "first", "- =", "write @1 += -@)"),
     (
-        "outer",
-        "first",
-        "operator =",
-        "a cilk_for may not write @1: write reducer sum @r; outside of functions, and @r += e; here",
-    ),
-    (
         "total",
         "first",
         "operator =",
         "a reducer only takes +=, or max= if it is declared by reducer max",
+    ),
+    (
+        "outer",
+        "first",
+        "- =",
+        "a cilk_for may not write @1: write reducer sum @r; outside of functions, and @r += -@) here",
+    ),
+    (
+        "outer",
+        "first",
+        "operator =",
+        "a cilk_for may not write @1: declare another integer in its body, or write a while, whose iterations run one by one",
     ),
     (
         "x",

@@ -247,6 +247,12 @@ static INSIDE: &[Row] = &[
 
 static FURTHER: &[Row] = &[
     (
+        "outer [",
+        "]",
+        "+=",
+        "+= is only for reducers: write @< = @< + @> and over (@^) in the head of the cilk_for, which allows the element of its variable",
+    ),
+    (
         "x",
         "]",
         "+=",
@@ -318,6 +324,21 @@ static FURTHER: &[Row] = &[
     ("x x", "", "x", "there is no type @^: write int @."),
 ];
 
+static UPDATES: &[Row] = &[
+    (
+        "outer",
+        "first",
+        "+=",
+        "@1 is not a reducer: write reducer sum @r; outside of functions, and @r += @> here",
+    ),
+    (
+        "x",
+        "first",
+        "+=",
+        "@1 is not a reducer: write @1 = @1 + @>",
+    ),
+];
+
 /// Returns the habits of other statements.
 pub fn habits() -> &'static [Row] {
     HABITS
@@ -331,4 +352,9 @@ pub fn inside() -> &'static [Row] {
 /// Returns the habits that are looked for after `inside`.
 pub fn further() -> &'static [Row] {
     FURTHER
+}
+
+/// Returns what to write instead of += on a name that is not a reducer.
+pub fn updates() -> &'static [Row] {
+    UPDATES
 }

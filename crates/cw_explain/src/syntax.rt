@@ -2,11 +2,13 @@
 //! stages after the parser do not see.
 
 use crate::around::{Around, Opened};
+use crate::checking::is_suspect;
 use crate::excerpt::column_of;
 use crate::listing::{Listing, Spot};
+use crate::phrase::Marks;
 use crate::scan::Bad;
 use crate::shortened::Shortened;
-use crate::unparsed::unparsed_at;
+use crate::unparsed::{unparsed_at, update_of};
 use crate::word::Word;
 use cw_model::token::{Kind, Token};
 use cw_parse::{Item, Recovered, Rejected};
@@ -38,6 +40,19 @@ impl fmt::Display for Advice<'_> {
         let name = self.name;
         let says = self.says;
         write!(f, "there is no {name}: {says}")
+    }
+}
+
+/// What to write instead of a statement.
+#[derive(Clone, Copy)]
+struct Said<'a> {
+    around: Around<'a>,
+    says: &'static str,
+}
+
+impl fmt::Display for Said<'_> {
+    fn fmt<W: fmt::Write>(&self, f: &mut fmt::Formatter<W>) -> fmt::Result {
+        self.around.write(f, self.says)
     }
 }
 
@@ -88,8 +103,12 @@ impl<'a> Traversal<'a> {
             return Ok(());
         };
         self.enter();
-        if token.kind == Kind::Name && self.at < rejected {
-            self.advise(listing, *token)?;
+        if self.at < rejected {
+            match token.kind {
+                Kind::Name => self.advise(listing, *token)?,
+                Kind::AddAssign => self.update(listing, *token)?,
+                _ => {}
+            }
         }
         self.opened.add(*token)?;
         self.short.add(token.kind)?;
@@ -109,13 +128,39 @@ impl<'a> Traversal<'a> {
         }
     }
 
-    // Adds what to write instead of a name of a library, in a function that the stages after the parser do not see.
-    fn advise(&mut self, listing: &mut Listing, token: Token) -> Result<(), Fault> {
+    // Whether the next token is in a function that the stages after the parser do not see, in a line as it was.
+    fn is_unseen(&mut self, line: u32) -> bool {
         match self.last {
             Some(item) if !item.is_whole => {}
-            _ => return Ok(()),
+            _ => return false,
         }
-        if self.outline.tokens.len() > MOST_SEARCHED || self.is_bad_line(token.line) {
+        self.outline.tokens.len() <= MOST_SEARCHED && !self.is_bad_line(line)
+    }
+
+    // Adds what to write instead of a += on a name that is not a reducer, in a function that the stages after the parser do not
+    // see.
+    fn update(&mut self, listing: &mut Listing, token: Token) -> Result<(), Fault> {
+        if !self.is_unseen(token.line) {
+            return Ok(());
+        }
+        let around = Around::behind(self.outline.bytes, self.outline.tokens, &self.opened);
+        let Some(name) = around.before(1) else {
+            return Ok(());
+        };
+        if is_suspect(&self.outline, around.word(name).text) {
+            return Ok(());
+        }
+        if let Some(says) = update_of(&around) {
+            if listing.takes() {
+                listing.add(self.spot(token, None), &Said { around, says })?;
+            }
+        }
+        Ok(())
+    }
+
+    // Adds what to write instead of a name of a library, in a function that the stages after the parser do not see.
+    fn advise(&mut self, listing: &mut Listing, token: Token) -> Result<(), Fault> {
+        if !self.is_unseen(token.line) {
             return Ok(());
         }
         let around = Around::behind(self.outline.bytes, self.outline.tokens, &self.opened);

@@ -2,11 +2,11 @@
 
 use crate::foreign::{Foreign, directives, operators};
 use crate::habits::{Row, declared, items, loops, outside, parameters, typed, words};
-use crate::statement_habits::{further, habits, inside};
+use crate::statement_habits::{further, habits, inside, updates};
 use crate::words::{Call, cilk_calls, library, other_calls};
 
 /// Returns the tables of tokens that cannot be where they are.
-pub fn all_rows() -> [&'static [Row]; 10] {
+pub fn all_rows() -> [&'static [Row]; 11] {
     [
         outside(),
         parameters(),
@@ -18,6 +18,7 @@ pub fn all_rows() -> [&'static [Row]; 10] {
         habits(),
         inside(),
         further(),
+        updates(),
     ]
 }
 

@@ -9,7 +9,7 @@ use crate::habits::{Row, declared, items, loops, outside, parameters, typed, wor
 use crate::near::nearest;
 use crate::phrase::Marks;
 use crate::shortened::Shortened;
-use crate::statement_habits::{further, habits, inside};
+use crate::statement_habits::{further, habits, inside, updates};
 use crate::word::Word;
 use crate::words::{MIDDLES, STARTS};
 use cw_lex::lex;
@@ -143,6 +143,14 @@ fn nowhere(around: &Around<'_>, by_front: bool) -> Option<&'static str> {
         .or(row_of(around, loops(), by_front))
         .or(row_of(around, declared(), by_front))
         .or(row_of(around, habits(), by_front))
+}
+
+/// The text for a += on a name that no reducer of the source has.
+pub fn update_of(around: &Around<'_>) -> Option<&'static str> {
+    if around.is_like("total", "first", "+=") {
+        return None;
+    }
+    row_of(around, updates(), true)
 }
 
 // The text for a token that is in the wrong place, by what precedes it.

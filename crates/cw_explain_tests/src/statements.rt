@@ -263,8 +263,8 @@ static STATEMENTS: &[Habit] = &[
     ),
     (
         "int x = rand();",
-        "keep a state of your own: x = (x * 1103515245 + 12345) % 2147483648;",
-        "int x = 1; x = (x * 1103515245 + 12345) % 2147483648;",
+        "or keep a state x in a while: x = (x * 1103515245 + 12345) % 2147483648;",
+        "int x = 1; while (n) { x = (x * 1103515245 + 12345) % 2147483648; n = n - 1; }",
     ),
     (
         "int x = f(n);",
@@ -341,7 +341,42 @@ static STATEMENTS: &[Habit] = &[
 ];
 
 static ASSIGNMENTS: &[Habit] = &[
+    (
+        "n += 2; n++;",
+        "n is not a reducer: write n = n + 2;",
+        "n = n + 2; n = n + 1;",
+    ),
+    (
+        "sum += 2 * n;",
+        "sum is a keyword: use another name, and write r = r + (2 * n);",
+        "int r = 0; r = r + (2 * n);",
+    ),
+    (
+        "sum = n;",
+        "sum is a keyword: use another name",
+        "int s = n;",
+    ),
     ("total--;", "write total += -1;", "total += -1;"),
+    (
+        "int x = 0; x = n--;",
+        "there is no --: write x = n; n = n - 1;",
+        "int x = 0; x = n; n = n - 1;",
+    ),
+    (
+        "int x = n--;",
+        "there is no --: write int x = n; n = n - 1;",
+        "int x = n; n = n - 1;",
+    ),
+    (
+        "int a[2]; int x = 0; x = a[n++];",
+        "write n for n++ here, and n = n + 1; after this statement",
+        "int a[2]; int x = 0; x = a[n]; n = n + 1;",
+    ),
+    (
+        "int a[2]; a[n++] = 3;",
+        "write n for n++ here, and n = n + 1; after this statement",
+        "int a[2]; a[n] = 3; n = n + 1;",
+    ),
     ("n--;", "write n = n - 1;", "n = n - 1;"),
     ("total++;", "write total += 1;", "total += 1;"),
     (
@@ -431,8 +466,8 @@ static ASSIGNMENTS: &[Habit] = &[
     ("++n;", "write n = n + 1;", "n = n + 1;"),
     (
         "n = 1 + rand();",
-        "keep a state of your own: x = (x * 1103515245 + 12345) % 2147483648;",
-        "int x = 1; x = (x * 1103515245 + 12345) % 2147483648; n = 1 + x;",
+        "write a function of an index i, as (i * 1103515245 + 12345) % 2147483648",
+        "n = 1 + (n * 1103515245 + 12345) % 2147483648;",
     ),
     (
         "n = 1 + f(n) * 2;",
