@@ -180,10 +180,10 @@ static STATEMENTS: &[Habit] = &[
         "there is no type long: write int, and delete a cast",
         "n = n - 1;\n f(n);",
     ),
-    ("/* n */", "write a comment behind //", "// n\n"),
+    ("/* n */", "write a comment after //", "// n\n"),
     (
         "n = 1 /* n */;",
-        "write a comment behind //",
+        "write a comment after //",
         "n = 1; // n\n",
     ),
     (
@@ -345,6 +345,21 @@ static ASSIGNMENTS: &[Habit] = &[
         "n += 2; n++;",
         "n is not a reducer: write n = n + 2;",
         "n = n + 2; n = n + 1;",
+    ),
+    (
+        "long m = argc > 1;",
+        "declare a parameter of main for each argument, as int main(int m), and delete this statement",
+        "",
+    ),
+    (
+        "int a[2]; memset(a, 0, 2 * sizeof(int));",
+        "there is no memset: delete this statement if the array is new",
+        "int a[2];",
+    ),
+    (
+        "int a[2]; int b[2]; memcpy(b, a, 2 * sizeof(int));",
+        "there is no memcpy: copy each element: int i = 0; while (i < len(a)) { b[i] = a[i]; i = i + 1; }",
+        "int a[2]; int b[2]; int i = 0; while (i < len(a)) { b[i] = a[i]; i = i + 1; }",
     ),
     (
         "sum += 2 * n;",
