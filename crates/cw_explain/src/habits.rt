@@ -447,13 +447,13 @@ static TYPED: &[Row] = &[
         "",
         "there is no type @^, and a declaration has a value: write int @n = 0;",
     ),
-    ("type x = library", "", "", "there is no type @^; @l"),
     (
         "type x = argc",
         "",
         "",
         "there is no type @^ and no argc: declare a parameter of main for each argument, as int main(int @n), and delete this statement",
     ),
+    ("type x = library", "", "", "there is no type @^; @l"),
     (
         "type x = cilk_spawn",
         "",
