@@ -490,7 +490,7 @@ static TYPED: &[Row] = &[
         "cilk_for (",
         "cilk_for (",
         "type x",
-        "there is no type @0: write cilk_for (int @n = ..)",
+        "there is no type @0: write cilk_for (int @n = LOW; @n < HIGH; @n++) { .. }",
     ),
     (
         "",
@@ -524,6 +524,18 @@ static TYPED: &[Row] = &[
     ),
     ("library (", "sizeof", "(", "@L"),
     ("", "sizeof", "(", "@l"),
+    (
+        "x - > x = x",
+        "first",
+        "- > x = x (..)",
+        "there are no structs, and a call is a statement of its own: write an array for each member and an index for the pointer: int @r = 0; @r = f(..); @*[@1] = @r;",
+    ),
+    (
+        "x - > x",
+        "first",
+        "- > x",
+        "there are no structs: write an array for each member, and an index for the pointer: @*[@1] for @1->@*",
+    ),
     (
         "",
         "x -",
@@ -567,7 +579,7 @@ static LOOPS: &[Row] = &[
         "cilk_for (",
         ";",
         "++",
-        "in the head of a cilk_for, ++ follows the name: write @+++",
+        "in the head of a cilk_for, ++ follows the name, and a block follows the head: write @+++) { .. }",
     ),
     (
         "cilk_for (",

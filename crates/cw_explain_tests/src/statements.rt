@@ -167,7 +167,7 @@ static STATEMENTS: &[Habit] = &[
     ),
     (
         "cilk_for (long i = 0; i < n; i++) { }",
-        "write cilk_for (int i = ..)",
+        "write cilk_for (int i = LOW; i < HIGH; i++) { .. }",
         "cilk_for (int i = 0; i < n; i++) { }",
     ),
     (
@@ -228,7 +228,7 @@ static STATEMENTS: &[Habit] = &[
     ),
     (
         "cilk_for (int i = 0; i < n; ++i) { }",
-        "++ follows the name: write i++",
+        "++ follows the name, and a block follows the head: write i++) { .. }",
         "cilk_for (int i = 0; i < n; i++) { }",
     ),
     (
@@ -360,6 +360,16 @@ static ASSIGNMENTS: &[Habit] = &[
         "int a[2]; int b[2]; memcpy(b, a, 2 * sizeof(int));",
         "there is no memcpy: copy each element: int i = 0; while (i < len(a)) { b[i] = a[i]; i = i + 1; }",
         "int a[2]; int b[2]; int i = 0; while (i < len(a)) { b[i] = a[i]; i = i + 1; }",
+    ),
+    (
+        "n->left = 3;",
+        "write an array for each member, and an index for the pointer: left[n] for n->left",
+        "int left[2]; left[n] = 3;",
+    ),
+    (
+        "n->left = f(n);",
+        "write an array for each member and an index for the pointer: int r = 0; r = f(..); left[n] = r;",
+        "int left[2]; int r = 0; r = f(n); left[n] = r;",
     ),
     (
         "sum += 2 * n;",
