@@ -5,11 +5,11 @@ ghost use Rattle.cw_explain.specs.Going.{CanFollow, GoesOn, followed};
 
 use crate::around::Around;
 use crate::grammar::{ALL, keyword, shown};
-use crate::habits::{Row, declared, items, loops, outside, parameters, typed, words};
+use crate::habits::{Row, items, loops, outside, parameters, typed, words};
 use crate::near::nearest;
 use crate::phrase::Marks;
 use crate::shortened::Shortened;
-use crate::statement_habits::{further, habits, inside, updates};
+use crate::statement_habits::{declared, further, habits, inside, updates};
 use crate::word::Word;
 use crate::words::{MIDDLES, STARTS};
 use cw_lex::lex;

@@ -30,7 +30,7 @@ static SOURCES: &[Habit] = &[
     ),
     (
         "/* c */\nint main(int n) {\n  return n;\n}",
-        "write a comment behind //",
+        "write a comment after //",
         "// c\nint main(int n) {\n  return n;\n}",
     ),
     (
@@ -307,6 +307,11 @@ static SOURCES: &[Habit] = &[
         "int main(int n) {\n  int x = 0;\n  cilk_for (int i = 0; i < n; i++) {\n    x += i;\n  }\n  return x;\n}",
         "write reducer sum r; outside of functions, and r += .. here",
         "reducer sum r;\nint main(int n) {\n  int x = 0;\n  cilk_for (int i = 0; i < n; i++) {\n    r += i;\n  }\n  return x;\n}",
+    ),
+    (
+        "int f(long n) {\n  return n;\n}\nint main(int n) {\n  return n;\n}",
+        "there is no type long: write int n; each parameter is int n, int a[] or const int a[]",
+        "int f(int n) {\n  return n;\n}\nint main(int n) {\n  return n;\n}",
     ),
     (
         "int main(int n) {\n  int x = 0;\n  cilk_for (int i = 0; i < n; i++) {\n    x += i;\n  }\n  n++;\n  return x;\n}",

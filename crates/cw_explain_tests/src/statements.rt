@@ -167,7 +167,7 @@ static STATEMENTS: &[Habit] = &[
     ),
     (
         "cilk_for (long i = 0; i < n; i++) { }",
-        "write cilk_for (int i = ..)",
+        "write cilk_for (int i = LOW; i < HIGH; i++) { .. }",
         "cilk_for (int i = 0; i < n; i++) { }",
     ),
     (
@@ -180,10 +180,10 @@ static STATEMENTS: &[Habit] = &[
         "there is no type long: write int, and delete a cast",
         "n = n - 1;\n f(n);",
     ),
-    ("/* n */", "write a comment behind //", "// n\n"),
+    ("/* n */", "write a comment after //", "// n\n"),
     (
         "n = 1 /* n */;",
-        "write a comment behind //",
+        "write a comment after //",
         "n = 1; // n\n",
     ),
     (
@@ -228,7 +228,7 @@ static STATEMENTS: &[Habit] = &[
     ),
     (
         "cilk_for (int i = 0; i < n; ++i) { }",
-        "++ follows the name: write i++",
+        "++ follows the name, and a block follows the head: write i++) { .. }",
         "cilk_for (int i = 0; i < n; i++) { }",
     ),
     (
@@ -345,6 +345,31 @@ static ASSIGNMENTS: &[Habit] = &[
         "n += 2; n++;",
         "n is not a reducer: write n = n + 2;",
         "n = n + 2; n = n + 1;",
+    ),
+    (
+        "long m = argc > 1;",
+        "declare a parameter of main for each argument, as int main(int m), and delete this statement",
+        "",
+    ),
+    (
+        "int a[2]; memset(a, 0, 2 * sizeof(int));",
+        "there is no memset: delete this statement if the array is new",
+        "int a[2];",
+    ),
+    (
+        "int a[2]; int b[2]; memcpy(b, a, 2 * sizeof(int));",
+        "there is no memcpy: copy each element: int i = 0; while (i < len(a)) { b[i] = a[i]; i = i + 1; }",
+        "int a[2]; int b[2]; int i = 0; while (i < len(a)) { b[i] = a[i]; i = i + 1; }",
+    ),
+    (
+        "n->left = 3;",
+        "write an array for each member, and an index for the pointer: left[n] for n->left",
+        "int left[2]; left[n] = 3;",
+    ),
+    (
+        "n->left = f(n);",
+        "write an array for each member and an index for the pointer: int r = 0; r = f(..); left[n] = r;",
+        "int left[2]; int r = 0; r = f(n); left[n] = r;",
     ),
     (
         "sum += 2 * n;",
