@@ -24,28 +24,29 @@ pub fn misused(alloc: Global, words: &[String]) -> Result<String, Fault> {
         return Ok(out);
     };
     if let Some((_, given)) = matches.subcommand() {
-        of_number(&mut out, given, PROCESSORS)?;
-        of_number(&mut out, given, LIMIT)?;
-        of_number(&mut out, given, BURDEN)?;
-        of_number(&mut out, given, UP_TO)?;
-        of_number(&mut out, given, TOP)?;
-        of_number(&mut out, given, WORKERS)?;
+        of_number(&mut out, given, "<P>", PROCESSORS)?;
+        of_number(&mut out, given, "--limit <N>", LIMIT)?;
+        of_number(&mut out, given, "--burden <N>", BURDEN)?;
+        of_number(&mut out, given, "--processors <N>", UP_TO)?;
+        of_number(&mut out, given, "--top <N>", TOP)?;
+        of_number(&mut out, given, "--workers <N>", WORKERS)?;
         of_edges(&mut out, given)?;
         for text in given.get_strs("ARGS").unwrap_or(&[]) {
-            of_range(&mut out, "an argument of main", text, 0, MOST_NUMBER)?;
+            of_range(&mut out, "[ARGS]...", text, 0, MOST_NUMBER)?;
         }
     }
     Ok(out)
 }
 
-// Adds a message for the number of an option, if it is malformed or out of range.
+// Adds a message for the number of an option, which the help shows by this name, if it is malformed or out of range.
 fn of_number(
     out: &mut String,
     given: &ArgMatches<'_>,
+    name: &str,
     option: NumberOption,
 ) -> Result<(), AllocError> {
     let text = given.get_str(option.name).unwrap_or(option.usual);
-    of_range(out, option.name, text, option.least, option.most)
+    of_range(out, name, text, option.least, option.most)
 }
 
 // Adds a message for a number, if it is malformed or out of range, unless the messages are already too long.
@@ -62,7 +63,7 @@ fn of_range(
         };
         write!(
             out,
-            "cilkwork: {name} is '{word}': it is a number from {least} to {most}, in decimal digits alone\n"
+            "error: invalid value '{word}' for '{name}': it is a number from {least} to {most}, in decimal digits only\n"
         )?;
     }
     Ok(())
@@ -75,7 +76,10 @@ fn of_edges(out: &mut String, given: &ArgMatches<'_>) -> Result<(), AllocError> 
         let word = Word {
             text: text.as_bytes(),
         };
-        write!(out, "cilkwork: edges is '{word}': it is spawn or both\n")?;
+        write!(
+            out,
+            "error: invalid value '{word}' for '--edges <E>': it is spawn or both\n"
+        )?;
     }
     Ok(())
 }

@@ -13,6 +13,9 @@ const MOST_TYPES: usize = 8;
 /// The most tokens that are searched for the declaration of a name.
 const MOST_SEARCHED: usize = 8_192;
 
+/// The most tokens of a source in which a name is looked up.
+const MOST_DECLARED: usize = 65_536;
+
 /// An open bracket: its token and place, and the place and kind of the first token of its statement.
 #[derive(Clone, Copy)]
 struct Bracket {
@@ -129,6 +132,25 @@ impl Opened {
     fn end(&mut self) {
         self.first = self.count.saturating_add(1);
         self.front = None;
+    }
+
+    /// Goes on at another token after a statement that does not parse; the statement goes on with its block if `is_block`.
+    pub fn resume(&mut self, place: usize, is_block: bool) {
+        self.brackets
+            .retain(|bracket| bracket.token.kind == Kind::LeftBrace);
+        self.is_headed = false;
+        self.count = place;
+        if !is_block {
+            self.first = place;
+            self.front = None;
+        }
+    }
+
+    /// Goes on at the first token of an item.
+    pub fn restart(&mut self, place: usize) {
+        self.brackets.clear();
+        self.braces = 0;
+        self.resume(place, false);
     }
 
     /// Adds one token.
@@ -268,7 +290,10 @@ impl<'a> Around<'a> {
     pub fn unknown(&self, token: Option<Token>) -> Option<Word<'a>> {
         let token = token?;
         let name = self.word(token);
-        if token.kind != Kind::Name || is_declared(self.text, self.tokens, name) {
+        if token.kind != Kind::Name
+            || self.tokens.len() > MOST_DECLARED
+            || is_declared(self.text, self.tokens, name)
+        {
             return None;
         }
         Some(name)

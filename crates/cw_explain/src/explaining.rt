@@ -1,34 +1,26 @@
 //! From a fault to its explanation.
 
-ghost use Rattle.std.specs.Prelude.{IfOk};
-ghost use Rattle.cw_model.specs.Tokens.{IsTokenCut};
-
-use crate::calling::Text;
-use crate::excerpt::{Lines, add_lines, column_of, line_of};
-use crate::further::{add_refusals, add_text, add_tokens};
-use crate::hinting::{closed_return, hint_in, near_main};
-use crate::lexical::OfText;
+use crate::checking::{add_checks, tokens_of};
+use crate::excerpt::{Lines, add_lines};
 use crate::limits;
+use crate::listing::{Listing, Spot};
 use crate::others::{Named, of_run, parameters_of_main};
-use crate::refusals::{OfOwnership, OfTypes, Refusals};
-use crate::traps::trapped;
-use crate::unparsed::first_unparsed;
+use crate::scan::{Bad, Scan, scanned};
+use crate::syntax::{Outline, add_syntax};
+use crate::traps::{multiplies, trapped};
 use cw_gen::excess_of;
-use cw_lex::{Uncut, first_uncut, lex};
+use cw_lex::{Uncut, first_uncut};
 use cw_loops::lower;
+use cw_model::limits::MOST_SOURCE_BYTES;
 use cw_model::token::Token;
 use cw_model::trap::Trap;
-use cw_own::{disowned, own};
-use cw_parse::{parse, passed_by_tokens};
-use cw_reasons::At;
-use cw_text::{Fault, Source};
+use cw_own::own;
+use cw_parse::{Recovered, parse, passed_by_tokens, recover};
+use cw_text::Fault;
 use cw_tree::syntax::Ast;
-use cw_types::{IllTyped, check, ill_typed, too_large};
-use std::alloc::{AllocError, Global};
+use cw_types::{check, too_large};
+use std::alloc::Global;
 use std::fmt;
-
-/// The text if the rule is not known.
-const BROKEN: &str = "this line breaks a rule";
 
 /// A source that is rejected, with the words that it was run with.
 #[derive(Clone, Copy)]
@@ -67,10 +59,10 @@ impl<'a> Refused<'a> {
 /// Explains why a source, or its run, has this fault.
 ///
 /// Returns the rule that is broken and what to write instead, on one line that begins with the source and its line; then the
-/// lines of the source that matter, with their numbers and a caret if the column is known; then the other lines that the stage
-/// rejects, in order, with their reasons: at most fifty with the first (twenty for names, types and ownership) and their
-/// number, with at most 4 KiB for each ten. Each line ends with a line feed. The text is empty if memory ran out or the
-/// verifier rejected code.
+/// lines of the source that matter, with their numbers and a caret if the column is known. For bytes, tokens, names, types and
+/// ownership these are all errors that are found, in order of lines: at most fifty (at most twenty lines for names and types,
+/// and for ownership) and the number of the others, with at most 4 KiB for each ten. Each line ends with a line feed. The text
+/// is empty if memory ran out or the verifier rejected code.
 ///
 /// # Errors
 ///
@@ -89,12 +81,11 @@ fn add_reason(
     fault: &Fault,
 ) -> Result<(), Fault> {
     match fault {
-        Fault::Lexical(place) => of_text(out, &refused.at(place.line)),
-        Fault::Syntax(place) => of_grammar(alloc, out, &refused.at(place.line)),
-        Fault::Types(place) => of_types(alloc, out, &refused.at(place.line)),
-        Fault::Ownership(place) => of_ownership(alloc, out, &refused.at(place.line)),
-        Fault::Size(place) => of_size(alloc, out, &refused.at(place.line)),
-        Fault::Trap { code, line, .. } => of_trap(out, &refused.at(*line), *code),
+        Fault::Lexical(_) | Fault::Syntax(_) | Fault::Types(_) | Fault::Ownership(_) => {
+            of_source(alloc, out, refused)
+        }
+        Fault::Size(place) => of_size(alloc, out, refused, place.line),
+        Fault::Trap { code, line, .. } => of_trap(alloc, out, &refused.at(*line), *code),
         Fault::Arguments => of_arguments(alloc, out, refused),
         _ => of_run(out, refused, fault),
     }
@@ -113,32 +104,27 @@ fn add_rule<D: fmt::Display>(
     rule: &D,
     other: Option<u32>,
 ) -> Result<(), Fault> {
-    add_rule_at(out, subject, rule, other, None)
-}
-
-// Adds the rule that is broken, the lines that matter, and a caret after the first bytes of the line.
-fn add_rule_at<D: fmt::Display>(
-    out: &mut String,
-    subject: &Subject<'_>,
-    rule: &D,
-    other: Option<u32>,
-    before: Option<usize>,
-) -> Result<(), Fault> {
     write!(out, "{rule}\n")?;
-    let line = subject.line;
     let lines = Lines {
-        line,
+        line: subject.line,
         other,
-        before,
+        before: None,
     };
     add_lines(out, subject.bytes, lines)?;
     Ok(())
 }
 
 // Explains a trap.
-fn of_trap(out: &mut String, subject: &Subject<'_>, code: Trap) -> Result<(), Fault> {
+fn of_trap(
+    alloc: Global,
+    out: &mut String,
+    subject: &Subject<'_>,
+    code: Trap,
+) -> Result<(), Fault> {
     add_place(out, subject.file, subject.line)?;
-    add_rule(out, subject, &trapped(code), None)
+    let (_source, tokens) = tokens_of(alloc, subject.bytes)?;
+    let rule = trapped(code, multiplies(tokens.as_slice(), subject.line));
+    add_rule(out, subject, &rule, None)
 }
 
 // Explains a wrong number of arguments of main.
@@ -155,146 +141,124 @@ fn of_arguments(alloc: Global, out: &mut String, refused: &Refused<'_>) -> Resul
     Ok(())
 }
 
-// Explains bytes that are not cut into tokens.
-fn of_text(out: &mut String, subject: &Subject<'_>) -> Result<(), Fault> {
-    add_place(out, subject.file, subject.line)?;
-    match first_uncut(subject.bytes) {
-        Some(found) => add_uncut(out, subject.bytes, &found)?,
-        None => add_rule(out, subject, &BROKEN, None)?,
-    }
-    add_text(out, subject)
+// Explains bytes that start no token, tokens that do not parse, and errors of names, types and ownership: all of them.
+fn of_source(alloc: Global, out: &mut String, refused: &Refused<'_>) -> Result<(), Fault> {
+    let bytes = refused.bytes;
+    let file = Named { path: refused.file };
+    let mut listing = Listing::new(alloc);
+    let scan = scanned(alloc, bytes)?;
+    add_bad(&mut listing, bytes, scan.bad.as_slice())?;
+    add_tokens(alloc, &mut listing, bytes, file, &scan)?;
+    listing.write(out, bytes, file)
 }
 
-// Adds why bytes are not cut into tokens, and the line that matters, unless there are too many bytes.
-fn add_uncut(out: &mut String, bytes: &[u8], found: &At<Uncut<'_>>) -> Result<(), Fault> {
-    let reason = found.reason;
-    let line = line_of(bytes, found.line);
-    let said = OfText { reason, line };
-    write!(out, "{said}\n")?;
-    if let Uncut::TooLong(_) = reason {
-        return Ok(());
-    }
-    let lines = Lines {
-        line: found.line,
-        other: None,
-        before: said.before(),
-    };
-    add_lines(out, bytes, lines)?;
-    Ok(())
-}
-
-// The tokens of bytes.
-fn tokens_of(alloc: Global, bytes: &[u8]) -> Result<(Source, Vec<Token>), Fault>
-    ensures { IfOk result (λ read. IsTokenCut read.0 read.1.items) }
-{
-    let source = Source::read(alloc, bytes)?;
-    let tokens = lex(alloc, &source)?;
-    Ok((source, tokens))
-}
-
-// Explains a syntax error.
-fn of_grammar(alloc: Global, out: &mut String, subject: &Subject<'_>) -> Result<(), Fault> {
-    add_place(out, subject.file, subject.line)?;
-    let (source, tokens) = tokens_of(alloc, subject.bytes)?;
-    let tokens = tokens.as_slice();
-    match first_unparsed(alloc, &source, subject.bytes, tokens)? {
-        Some(reason) => {
-            let column = reason
-                .found()
-                .map(|token| column_of(subject.bytes, token.start as usize));
-            add_rule_at(out, subject, &reason, reason.other_line(), column)?;
+// Adds the bytes that start no token.
+fn add_bad(listing: &mut Listing, bytes: &[u8], all: &[Bad]) -> Result<(), Fault> {
+    listing.begin();
+    for bad in all {
+        if bad.is_told && listing.takes() {
+            let reason = bad.reason(bytes);
+            let spot = Spot {
+                line: bad.line,
+                before: Some(reason.place),
+                other: None,
+            };
+            listing.add(spot, &reason)?;
         }
-        None => out.push_str("unexpected token\n")?,
-    }
-    add_tokens(alloc, out, subject, tokens)
-}
-
-// Adds what the tokens say about a name after the first reason of names and types, if anything.
-fn add_hint(
-    alloc: Global,
-    out: &mut String,
-    subject: &Subject<'_>,
-    tokens: &[Token],
-    reason: &IllTyped<'_>,
-) -> Result<(), Fault> {
-    let hint = match reason {
-        IllTyped::NoMain => near_main(subject.bytes, tokens),
-        _ => hint_in(alloc, subject.bytes, tokens, subject.line)?,
-    };
-    if let Some((hint, line)) = hint {
-        add_place(out, subject.file, line)?;
-        write!(out, "{hint}\n")?;
     }
     Ok(())
 }
 
-// The line of a return in a block, if a function in this line may end without a return because of it.
-fn inside_of(
+// Adds what the stages after the lexer reject.
+fn add_tokens(
     alloc: Global,
-    first: Option<At<IllTyped<'_>>>,
-    tokens: &[Token],
-    line: u32,
-) -> Result<Option<u32>, AllocError> {
-    match first.map(|at| at.reason) {
-        Some(IllTyped::MayNotReturn(_)) => closed_return(alloc, tokens, line),
-        _ => Ok(None),
-    }
-}
-
-// Explains an error of names or types.
-fn of_types(alloc: Global, out: &mut String, subject: &Subject<'_>) -> Result<(), Fault> {
-    add_place(out, subject.file, subject.line)?;
-    let (source, tokens) = tokens_of(alloc, subject.bytes)?;
+    listing: &mut Listing,
+    bytes: &[u8],
+    file: Named<'_>,
+    scan: &Scan,
+) -> Result<(), Fault> {
+    let text = scan.text.as_slice();
+    let (_source, tokens) = match tokens_of(alloc, text) {
+        Err(Fault::Memory) => return Err(Fault::Memory),
+        Err(_) => return Ok(()),
+        Ok(read) => read,
+    };
     let tokens = tokens.as_slice();
-    let ast = parse(alloc, &source, tokens)?;
-    let told = ill_typed(alloc, &ast)?;
-    let first = told.first();
-    let inside = inside_of(alloc, first, tokens, subject.line)?;
-    let text = Text {
-        bytes: subject.bytes,
-        tokens,
-    };
-    let told = OfTypes { told, inside, text };
-    add_first(out, subject, &told)?;
-    if let Some(at) = first {
-        add_hint(alloc, out, subject, tokens, &at.reason)?;
+    if let Some(at) = passed_by_tokens(tokens) {
+        let spot = Spot {
+            line: at.line,
+            before: None,
+            other: None,
+        };
+        return listing.add(spot, &limits::of_tokens(at.reason));
     }
-    add_refusals(out, subject.file, &told)
-}
-
-// Explains an error of ownership.
-fn of_ownership(alloc: Global, out: &mut String, subject: &Subject<'_>) -> Result<(), Fault> {
-    add_place(out, subject.file, subject.line)?;
-    let bytes = subject.bytes;
-    let (source, tokens) = tokens_of(alloc, bytes)?;
-    let ast = parse(alloc, &source, tokens.as_slice())?;
-    let typed = check(alloc, ast)?;
-    let text = Text {
+    let mut found = recover(alloc, text, tokens)?;
+    leave_out(&mut found, tokens, scan.bad.as_slice());
+    let outline = Outline {
         bytes,
-        tokens: tokens.as_slice(),
+        tokens,
+        bad: scan.bad.as_slice(),
+        found: &found,
     };
-    let told = OfOwnership {
-        told: disowned(alloc, &typed)?,
-        text,
-    };
-    add_first(out, subject, &told)?;
-    add_refusals(out, subject.file, &told)
+    add_syntax(alloc, listing, &outline)?;
+    add_checks(alloc, listing, file, &outline, text)
 }
 
-// Adds the rule that the first line breaks, and the lines that matter.
-fn add_first<R: Refusals>(out: &mut String, subject: &Subject<'_>, told: &R) -> Result<(), Fault> {
-    match told.at(0) {
-        Some(first) => add_rule(out, subject, &first.phrase, first.other_line),
-        None => add_rule(out, subject, &BROKEN, None),
+// Leaves out the functions in which bytes were replaced that names or types may depend on.
+fn leave_out(found: &mut Recovered, tokens: &[Token], all: &[Bad]) {
+    let mut next = 0;
+    for place in 0..found.items.len() {
+        let item = found.items[place];
+        let (Some(first), Some(last)) = (
+            tokens.get(item.first),
+            tokens.get(item.end.saturating_sub(1)),
+        ) else {
+            return;
+        };
+        for index in next..all.len() {
+            let bad = all[index];
+            if bad.place > last.end {
+                break;
+            }
+            next = index;
+            if bad.place >= first.start && !bad.is_typed() {
+                found.items[place].is_whole = false;
+            }
+        }
     }
 }
 
 // Explains a limit: of the bytes, a name, the tokens, the program's parts, and its code, in this order.
-fn of_size(alloc: Global, out: &mut String, subject: &Subject<'_>) -> Result<(), Fault> {
-    add_place(out, subject.file, subject.line)?;
-    if let Some(found) = first_uncut(subject.bytes) {
-        return add_uncut(out, subject.bytes, &found);
+fn of_size(alloc: Global, out: &mut String, refused: &Refused<'_>, line: u32) -> Result<(), Fault> {
+    match first_uncut(refused.bytes) {
+        Some(found) => of_uncut(alloc, out, refused, &found.reason),
+        None => of_limit(alloc, out, &refused.at(line)),
     }
+}
+
+// Explains that there are too many bytes, or that a name is too long.
+fn of_uncut(
+    alloc: Global,
+    out: &mut String,
+    refused: &Refused<'_>,
+    reason: &Uncut<'_>,
+) -> Result<(), Fault> {
+    match reason {
+        Uncut::TooLong(bytes) => {
+            add_place(out, Named { path: refused.file }, 1)?;
+            write!(
+                out,
+                "the source has {bytes} bytes, but at most {MOST_SOURCE_BYTES} are allowed\n"
+            )?;
+            Ok(())
+        }
+        _ => of_source(alloc, out, refused),
+    }
+}
+
+// Explains a limit of the tokens, the program's parts or its code.
+fn of_limit(alloc: Global, out: &mut String, subject: &Subject<'_>) -> Result<(), Fault> {
+    add_place(out, subject.file, subject.line)?;
     let (source, tokens) = tokens_of(alloc, subject.bytes)?;
     if let Some(at) = passed_by_tokens(tokens.as_slice()) {
         return add_rule(out, subject, &limits::of_tokens(at.reason), None);

@@ -17,7 +17,7 @@ static DIRECTIVES: &[Foreign] = &[
         "#define",
         "",
         "",
-        "there are no directives: delete the line, and write the value where the name is used",
+        "there are no directives: delete the line; write the value where the name is used, and a function for a macro with parameters",
     ),
     (b'#', "", "", "", "there are no directives: delete the line"),
     (b'"', "extern", "", "", "delete extern \"C\" and its braces"),
@@ -44,6 +44,13 @@ static DIRECTIVES: &[Foreign] = &[
     ),
     (
         b'"',
+        "wsp_dump",
+        "",
+        "",
+        "put region NAME { .. } around the part to measure; cilkwork scale reports its work and span",
+    ),
+    (
+        b'"',
         "",
         "",
         "",
@@ -62,6 +69,13 @@ static DIRECTIVES: &[Foreign] = &[
         "",
         "",
         "there are no characters: write @k for @c",
+    ),
+    (
+        b'/',
+        "",
+        "",
+        "/*",
+        "write a comment after //, up to the end of its line",
     ),
     (
         b'\\',
@@ -89,10 +103,17 @@ static OPERATORS: &[Foreign] = &[
     ),
     (
         b'&',
+        "pthread_mutex",
+        "",
+        "&",
+        "a lock has no replacement: add to a reducer (reducer sum s; outside of functions, s += e;), or give each call a part of the array by cut",
+    ),
+    (
+        b'&',
         "",
         "",
         "&",
-        "there are no addresses: write a for &a[0]; for &a[k] write cut a at k as l, r { .. } and pass r; for &x return the new value: x = f(x);",
+        "there are no addresses: write a for &a[0]; for &a[k] pass a and k, or write cut a at k as l, r { .. } and pass r; for &x return the new value: x = f(x);",
     ),
     (
         b'|',

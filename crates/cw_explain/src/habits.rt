@@ -10,7 +10,7 @@
 //! and stars, `@r` a name that the source does not declare. Parts of the statement: `@<` up to that token, `@.` from it on,
 //! `@m` from `@n` on, `@>` after it and `@)` after the next one, `@(` the group that it opens, `@;` the tokens after this
 //! group, `@[` the tokens before the name before it, `@=` the tokens after `x =` up to it. `@{` is the line of the innermost open bracket, `@l`
-//! the advice for a name of a library, `@x` the value of a hexadecimal number.
+//! the advice for a name of a library from the token before it on, `@L` from the first token on, `@x` the value of a hexadecimal number.
 //!
 //! Of several rows that apply the first counts. Each table is returned by a function of its own, because a function that
 //! names a table is checked with all of its rows.
@@ -23,7 +23,7 @@ static OUTSIDE: &[Row] = &[
         "int main (",
         "int x ,",
         "type",
-        "main takes integers only: write int main(int n), and use n for the first argument",
+        "main takes integers only: write int main(int n), use n for the first argument, and delete tests of argc: the number of arguments is checked",
     ),
     (
         "type cilk_reducer",
@@ -53,10 +53,15 @@ static OUTSIDE: &[Row] = &[
         "",
         "",
         "/ *",
-        "write a comment behind //, up to the end of its line",
+        "write a comment after //, up to the end of its line",
     ),
     ("cilk", "", "", "there is no cilk: delete the word"),
-    ("storage", "", "", "there is no @^: delete the word"),
+    (
+        "storage",
+        "",
+        "",
+        "there is no @^: delete the word; a function is int or void; each parameter is int n, int a[] or const int a[]",
+    ),
     (
         "typedef struct",
         "",
@@ -121,19 +126,19 @@ static OUTSIDE: &[Row] = &[
         "",
         "",
         "type x (",
-        "there is no type @0: write int @n(..), or void @n(..) if it returns nothing",
+        "there is no type @0: write int @n(..), or void @n(..) if it returns nothing; each parameter is int n, int a[] or const int a[]",
     ),
     (
         "",
         "const",
         "type *",
-        "there is no type @0, and there are no pointers: write const int @n[]",
+        "there is no type @0, and there are no pointers: write const int @n[]; each parameter is int n, int a[] or const int a[]",
     ),
     (
         "",
         "",
         "type *",
-        "there is no type @0, and there are no pointers: write int @n[], or const int @n[] if the function only reads it",
+        "there is no type @0, and there are no pointers: write int @n[], or const int @n[] if the function only reads it; each parameter is int n, int a[] or const int a[]",
     ),
     ("", "", "type x [", "there is no type @0: write int @n[]"),
     (
@@ -158,13 +163,25 @@ static OUTSIDE: &[Row] = &[
         "",
         "(",
         "void *",
-        "there are no pointers: write int @n[], or const int @n[] if the function only reads it",
+        "there are no pointers: write int @n[], or const int @n[] if the function only reads it; each parameter is int n, int a[] or const int a[]",
     ),
     (
         "",
         ",",
         "void *",
-        "there are no pointers: write int @n[], or const int @n[] if the function only reads it",
+        "there are no pointers: write int @n[], or const int @n[] if the function only reads it; each parameter is int n, int a[] or const int a[]",
+    ),
+    (
+        "",
+        "(",
+        "type",
+        "there is no type @0: write int @n; each parameter is int n, int a[] or const int a[]",
+    ),
+    (
+        "",
+        ",",
+        "type",
+        "there is no type @0: write int @n; each parameter is int n, int a[] or const int a[]",
     ),
     ("", "", "type", "there is no type @0: write int @n"),
     (
@@ -241,7 +258,7 @@ static PARAMETERS: &[Row] = &[
         "",
         "int",
         "* x",
-        "there are no pointers: write int @n[], or const int @n[] if the function only reads it",
+        "there are no pointers: write int @n[], or const int @n[] if the function only reads it; each parameter is int n, int a[] or const int a[]",
     ),
     ("", "int", "*", "there are no pointers: write int @n[]"),
     (
@@ -430,6 +447,12 @@ static TYPED: &[Row] = &[
         "",
         "there is no type @^, and a declaration has a value: write int @n = 0;",
     ),
+    (
+        "type x = argc",
+        "",
+        "",
+        "there is no type @^ and no argc: declare a parameter of main for each argument, as int main(int @n), and delete this statement",
+    ),
     ("type x = library", "", "", "there is no type @^; @l"),
     (
         "type x = cilk_spawn",
@@ -467,7 +490,7 @@ static TYPED: &[Row] = &[
         "cilk_for (",
         "cilk_for (",
         "type x",
-        "there is no type @0: write cilk_for (int @n = ..)",
+        "there is no type @0: write cilk_for (int @n = LOW; @n < HIGH; @n++) { .. }",
     ),
     (
         "",
@@ -485,13 +508,13 @@ static TYPED: &[Row] = &[
         "",
         "",
         "/ *",
-        "write a comment behind //, up to the end of its line",
+        "write a comment after //, up to the end of its line",
     ),
     (
         "",
         "/",
         "*",
-        "write a comment behind //, up to the end of its line",
+        "write a comment after //, up to the end of its line",
     ),
     (
         "",
@@ -499,7 +522,20 @@ static TYPED: &[Row] = &[
         "if",
         "an else has a block: write else { if (..) { .. } }",
     ),
+    ("library (", "sizeof", "(", "@L"),
     ("", "sizeof", "(", "@l"),
+    (
+        "x - > x = x",
+        "first",
+        "- > x = x (..)",
+        "there are no structs, and a call is a statement of its own: write an array for each member and an index for the pointer: int @r = 0; @r = f(..); @*[@1] = @r;",
+    ),
+    (
+        "x - > x",
+        "first",
+        "- > x",
+        "there are no structs: write an array for each member, and an index for the pointer: @*[@1] for @1->@*",
+    ),
     (
         "",
         "x -",
@@ -543,7 +579,7 @@ static LOOPS: &[Row] = &[
         "cilk_for (",
         ";",
         "++",
-        "in the head of a cilk_for, ++ follows the name: write @+++",
+        "in the head of a cilk_for, ++ follows the name, and a block follows the head: write @+++) { .. }",
     ),
     (
         "cilk_for (",
@@ -609,153 +645,6 @@ static LOOPS: &[Row] = &[
     ),
 ];
 
-static DECLARED: &[Row] = &[
-    ("", "int", "keyword", "@0 is a keyword: use another name"),
-    (
-        "type keyword",
-        "",
-        "",
-        "there is no type @^, and its name is a keyword: write int and another name",
-    ),
-    (
-        "",
-        "int",
-        "* x",
-        "there are no pointers: write int @+[N]; for an array of N elements, which are 0",
-    ),
-    (
-        "",
-        "int",
-        "*",
-        "there are no pointers: write int a[N]; for an array of N elements, which are 0",
-    ),
-    (
-        "",
-        "int x",
-        ";",
-        "a declaration has a value: write int @1 = 0;",
-    ),
-    (
-        "",
-        "int x",
-        ", x ;",
-        "a declaration has one name and a value: write int @1 = 0; int @+ = 0;",
-    ),
-    (
-        "",
-        "int x",
-        ",",
-        "a declaration has one name and a value: write int @1 = 0; and a further declaration for the next name",
-    ),
-    (
-        "int x",
-        "[",
-        "]",
-        "an array has its length in brackets: write int @2[N]; its N elements are 0",
-    ),
-    (
-        "int x",
-        "]",
-        "=",
-        "the elements of a new array are 0: write @<; and assign other values by statements",
-    ),
-    (
-        "int x [",
-        "]",
-        ", x",
-        "a declaration has one name: write @<; int @>",
-    ),
-    (
-        "",
-        "]",
-        "[",
-        "arrays have one dimension: write a[i * m + j] for the element i, j of m columns",
-    ),
-    ("total", "first", "- -", "write @1 += -1;"),
-    (
-        "outer",
-        "first",
-        "- -",
-        "a cilk_for may not write @1: write reducer sum @r; outside of functions, and @r += -1; here",
-    ),
-    ("x", "first", "- -", "there is no --: write @1 = @1 - 1;"),
-    ("total", "first", "++", "write @1 += 1;"),
-    (
-        "outer",
-        "first",
-        "++",
-        "a cilk_for may not write @1: write reducer sum @r; outside of functions, and @r += 1; here",
-    ),
-    (
-        "x =",
-        "x",
-        "++",
-        "++ is only for the head of a cilk_for: write @^ = @1; @1 = @1 + 1;",
-    ),
-    (
-        "int x =",
-        "x",
-        "++",
-        "++ is only for the head of a cilk_for: write @<; @1 = @1 + 1;",
-    ),
-    (
-        "x [",
-        "]",
-        "++",
-        "++ is only for the head of a cilk_for: write @< = @< + 1;",
-    ),
-    ("x [", "]", "- -", "there is no --: write @< = @< - 1;"),
-    (
-        "x [",
-        "]",
-        "operator =",
-        "there is no @0=: write @< = @< @0 @)",
-    ),
-    (
-        "x",
-        "first",
-        "< <=",
-        "there are no shifts: multiply by 2 to that power: @1 = @1 * 4; for @1 <<= 2;",
-    ),
-    (
-        "x",
-        "first",
-        "> >=",
-        "there are no shifts: divide by 2 to that power: @1 = @1 / 4; for @1 >>= 2; (of @1 >= 0)",
-    ),
-    (
-        "",
-        "<",
-        "<",
-        "there are no shifts: multiply by 2 to that power: @2 * 4 for @2 << 2",
-    ),
-    (
-        "x",
-        "first",
-        "++",
-        "++ is only for the head of a cilk_for: write @1 = @1 + 1;",
-    ),
-    ("total", "first", "- =", "write @1 += -@)"),
-    (
-        "outer",
-        "first",
-        "operator =",
-        "a cilk_for may not write @1: write reducer sum @r; outside of functions, and @r += e; here",
-    ),
-    (
-        "total",
-        "first",
-        "operator =",
-        "a reducer only takes +=, or max= if it is declared by reducer max",
-    ),
-    (
-        "x",
-        "first",
-        "operator =",
-        "there is no @0=: write @1 = @1 @0 @)",
-    ),
-];
-
 /// Returns the habits outside of functions, at a token that no source has there.
 pub fn outside() -> &'static [Row] {
     OUTSIDE
@@ -784,9 +673,4 @@ pub fn typed() -> &'static [Row] {
 /// Returns the habits of heads of loops, and of spawns and calls.
 pub fn loops() -> &'static [Row] {
     LOOPS
-}
-
-/// Returns the habits of declarations and assignments.
-pub fn declared() -> &'static [Row] {
-    DECLARED
 }

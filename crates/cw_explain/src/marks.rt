@@ -224,9 +224,12 @@ fn write_operand<W: fmt::Write>(around: &Around<'_>, f: &mut fmt::Formatter<W>) 
     write!(f, "{operand};")
 }
 
-// Writes what to write instead of the first name of a library from the token before the one that cannot be there on.
-fn write_advice<W: fmt::Write>(around: &Around<'_>, f: &mut fmt::Formatter<W>) -> fmt::Result {
-    let from = around.place.saturating_sub(1);
+// Writes what to write instead of the first name of a library from a place on.
+fn write_advice<W: fmt::Write>(
+    around: &Around<'_>,
+    f: &mut fmt::Formatter<W>,
+    from: usize,
+) -> fmt::Result {
     for at in from..around.tokens.len().min(from.saturating_add(MOST_TOKENS)) {
         let Some(token) = around.at(at) else {
             return Ok(());
@@ -285,7 +288,8 @@ impl Marks for Around<'_> {
                 let name = fresh_name(self.text, self.tokens);
                 write!(f, "{name}")
             }
-            b'l' => write_advice(self, f),
+            b'l' => write_advice(self, f, self.place.saturating_sub(1)),
+            b'L' => write_advice(self, f, self.first),
             b'x' => write_value(self, f),
             b')' => write_operand(self, f),
             _ => write_token(self, f, self.marked(mark)),

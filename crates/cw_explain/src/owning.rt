@@ -10,7 +10,7 @@ use cw_tree::resolved::{Listed, Use};
 
 // What to write if an iteration writes other elements.
 const PARTS: &str =
-    "; for other elements, write a function that cuts @a, spawns itself on one part and calls itself on the other, or add to a reducer";
+    "; for other elements, write a function that cuts @a, spawns itself on one part and calls itself on the other, or add to a reducer; if iterations write the same element, write a while";
 
 /// Returns the other line that matters, if there is one.
 pub fn other_line(reason: &Disowned<'_>) -> Option<u32> {

@@ -60,6 +60,22 @@ impl Shortened {
         self.open = 0;
     }
 
+    /// Removes the incomplete statement, which does not parse; it goes on with its block if `is_block`.
+    pub fn resume(&mut self, is_block: bool) {
+        self.behind_if = false;
+        if is_block {
+            self.open = 0;
+        } else {
+            self.drop_statement();
+        }
+    }
+
+    /// Removes all tokens.
+    pub fn restart(&mut self) {
+        self.blocks.clear();
+        self.resume(false);
+    }
+
     /// Adds one token.
     pub fn add(&mut self, kind: Kind) -> Result<(), AllocError> {
         if self.behind_if {
@@ -102,7 +118,9 @@ impl Shortened {
         let first = self.first;
         self.drop_statement();
         let start = self.text.len();
-        self.text.extend_from_slice(opening(first).as_bytes())?;
+        let is_inside = !self.blocks.is_empty();
+        self.text
+            .extend_from_slice(opening(first, is_inside).as_bytes())?;
         let inner = self.text.len();
         let is_if = matches!(first, Some(Kind::If));
         self.blocks.push(Block {
@@ -130,7 +148,7 @@ impl Shortened {
 }
 
 // The shortest statement or item with a block that begins with this token, up to the statements of the block.
-fn opening(first: Option<Kind>) -> &'static str {
+fn opening(first: Option<Kind>, is_inside: bool) -> &'static str {
     match first {
         Some(Kind::If) => "if (1) { ",
         Some(Kind::Else) => "if (1) { } else { ",
@@ -139,7 +157,8 @@ fn opening(first: Option<Kind>) -> &'static str {
         Some(Kind::Scope) => "cilk_scope { ",
         Some(Kind::Cut) => "cut x at 1 as x, x { ",
         Some(Kind::Region) => "region x { ",
-        Some(Kind::Int) | Some(Kind::Void) => "void x() { ",
-        _ => "{ ",
+        // a statement or a head that does not parse
+        _ if is_inside => "while (1) { ",
+        _ => "void x() { ",
     }
 }

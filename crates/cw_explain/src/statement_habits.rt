@@ -1,6 +1,201 @@
-//! Habits of C programs in other statements; the rows are those of `habits`.
+//! Habits of C programs in declarations, assignments and other statements; the rows are as in `habits`.
 
 use crate::habits::Row;
+
+static DECLARED: &[Row] = &[
+    ("", "int", "keyword", "@0 is a keyword: use another name"),
+    (
+        "keyword +=",
+        "",
+        "keyword +=",
+        "@0 is a keyword: use another name, and write @r = @r + @)",
+    ),
+    (
+        "keyword =",
+        "",
+        "keyword =",
+        "@0 is a keyword: use another name",
+    ),
+    (
+        "type keyword",
+        "",
+        "",
+        "there is no type @^, and its name is a keyword: write int and another name",
+    ),
+    (
+        "",
+        "int",
+        "* x",
+        "there are no pointers: write int @+[N]; for an array of N elements, which are 0",
+    ),
+    (
+        "",
+        "int",
+        "*",
+        "there are no pointers: write int a[N]; for an array of N elements, which are 0",
+    ),
+    (
+        "",
+        "int x",
+        ";",
+        "a declaration has a value: write int @1 = 0;",
+    ),
+    (
+        "",
+        "int x",
+        ", x ;",
+        "a declaration has one name and a value: write int @1 = 0; int @+ = 0;",
+    ),
+    (
+        "",
+        "int x",
+        ",",
+        "a declaration has one name and a value: write int @1 = 0; and a further declaration for the next name",
+    ),
+    (
+        "int x",
+        "[",
+        "]",
+        "an array has its length in brackets: write int @2[N]; its N elements are 0",
+    ),
+    (
+        "int x",
+        "]",
+        "=",
+        "the elements of a new array are 0: write @<; and assign other values by statements",
+    ),
+    (
+        "int x [",
+        "]",
+        ", x",
+        "a declaration has one name: write @<; int @>",
+    ),
+    (
+        "",
+        "]",
+        "[",
+        "arrays have one dimension: write a[i * m + j] for the element i, j of m columns",
+    ),
+    (
+        "x = x",
+        "- -",
+        ";",
+        "there is no --: write @^ = @3; @3 = @3 - 1;",
+    ),
+    (
+        "int x = x",
+        "- -",
+        ";",
+        "there is no --: write int @& = @3; @3 = @3 - 1;",
+    ),
+    ("total", "first", "- -", "write @1 += -1;"),
+    (
+        "outer",
+        "first",
+        "- -",
+        "a cilk_for may not write @1: write reducer sum @r; outside of functions, and @r += -1; here",
+    ),
+    ("x", "first", "- -", "there is no --: write @1 = @1 - 1;"),
+    ("total", "first", "++", "write @1 += 1;"),
+    (
+        "outer",
+        "first",
+        "++",
+        "a cilk_for may not write @1: write reducer sum @r; outside of functions, and @r += 1; here",
+    ),
+    (
+        "x =",
+        "= x",
+        "++ ;",
+        "++ is only for the head of a cilk_for: write @^ = @1; @1 = @1 + 1;",
+    ),
+    (
+        "int x =",
+        "= x",
+        "++ ;",
+        "++ is only for the head of a cilk_for: write @<; @1 = @1 + 1;",
+    ),
+    (
+        "",
+        "[ x",
+        "++ ]",
+        "++ is only for the head of a cilk_for: write @1 for @1++ here, and @1 = @1 + 1; after this statement",
+    ),
+    (
+        "outer [",
+        "]",
+        "++",
+        "++ is only for the head of a cilk_for: write @< = @< + 1; and over (@^) in the head of the cilk_for, which allows the element of its variable",
+    ),
+    (
+        "outer [",
+        "]",
+        "operator =",
+        "there is no @0=: write @< = @< @0 @) and over (@^) in the head of the cilk_for, which allows the element of its variable",
+    ),
+    (
+        "x [",
+        "]",
+        "++",
+        "++ is only for the head of a cilk_for: write @< = @< + 1;",
+    ),
+    ("x [", "]", "- -", "there is no --: write @< = @< - 1;"),
+    (
+        "x [",
+        "]",
+        "operator =",
+        "there is no @0=: write @< = @< @0 @)",
+    ),
+    (
+        "x",
+        "first",
+        "< <=",
+        "there are no shifts: multiply by 2 to that power: @1 = @1 * 4; for @1 <<= 2;",
+    ),
+    (
+        "x",
+        "first",
+        "> >=",
+        "there are no shifts: divide by 2 to that power: @1 = @1 / 4; for @1 >>= 2; (of @1 >= 0)",
+    ),
+    (
+        "",
+        "<",
+        "<",
+        "there are no shifts: multiply by 2 to that power: @2 * 4 for @2 << 2",
+    ),
+    (
+        "x",
+        "first",
+        "++",
+        "++ is only for the head of a cilk_for: write @1 = @1 + 1;",
+    ),
+    ("total", "first", "- =", "write @1 += -@)"),
+    (
+        "total",
+        "first",
+        "operator =",
+        "a reducer only takes +=, or max= if it is declared by reducer max",
+    ),
+    (
+        "outer",
+        "first",
+        "- =",
+        "a cilk_for may not write @1: write reducer sum @r; outside of functions, and @r += -@) here",
+    ),
+    (
+        "outer",
+        "first",
+        "operator =",
+        "a cilk_for may not write @1: declare another integer in its body, or write a while, whose iterations run one by one",
+    ),
+    (
+        "x",
+        "first",
+        "operator =",
+        "there is no @0=: write @1 = @1 @0 @)",
+    ),
+];
 
 static HABITS: &[Row] = &[
     ("reducer", "", "", "declare a reducer outside of functions"),
@@ -247,6 +442,12 @@ static INSIDE: &[Row] = &[
 
 static FURTHER: &[Row] = &[
     (
+        "outer [",
+        "]",
+        "+=",
+        "+= is only for reducers: write @< = @< + @> and over (@^) in the head of the cilk_for, which allows the element of its variable",
+    ),
+    (
         "x",
         "]",
         "+=",
@@ -318,6 +519,21 @@ static FURTHER: &[Row] = &[
     ("x x", "", "x", "there is no type @^: write int @."),
 ];
 
+static UPDATES: &[Row] = &[
+    (
+        "outer",
+        "first",
+        "+=",
+        "@1 is not a reducer: write reducer sum @r; outside of functions, and @r += @> here",
+    ),
+    (
+        "x",
+        "first",
+        "+=",
+        "@1 is not a reducer: write @1 = @1 + @>",
+    ),
+];
+
 /// Returns the habits of other statements.
 pub fn habits() -> &'static [Row] {
     HABITS
@@ -331,4 +547,14 @@ pub fn inside() -> &'static [Row] {
 /// Returns the habits that are looked for after `inside`.
 pub fn further() -> &'static [Row] {
     FURTHER
+}
+
+/// Returns what to write instead of += on a name that is not a reducer.
+pub fn updates() -> &'static [Row] {
+    UPDATES
+}
+
+/// Returns the habits of declarations and assignments.
+pub fn declared() -> &'static [Row] {
+    DECLARED
 }

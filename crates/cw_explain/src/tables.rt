@@ -1,12 +1,12 @@
 //! The tables of what C programs write, for tests: each row has an example there.
 
 use crate::foreign::{Foreign, directives, operators};
-use crate::habits::{Row, declared, items, loops, outside, parameters, typed, words};
-use crate::statement_habits::{further, habits, inside};
+use crate::habits::{Row, items, loops, outside, parameters, typed, words};
+use crate::statement_habits::{declared, further, habits, inside, updates};
 use crate::words::{Call, cilk_calls, library, other_calls};
 
 /// Returns the tables of tokens that cannot be where they are.
-pub fn all_rows() -> [&'static [Row]; 10] {
+pub fn all_rows() -> [&'static [Row]; 11] {
     [
         outside(),
         parameters(),
@@ -18,6 +18,7 @@ pub fn all_rows() -> [&'static [Row]; 10] {
         habits(),
         inside(),
         further(),
+        updates(),
     ]
 }
 

@@ -226,6 +226,8 @@ fn unknown<'a>(front: &'static str, says: &'static str, name: &'a Name) -> Phras
 // A name that is not an integer's, by what the line does with it.
 fn not_integer(other: Other, call: Call<'_>) -> &'static str {
     match (other, call) {
+        (Other::Reducer, Call::Target) =>
+            "@a is @b (line @1): write @a += e; for @a = @a + e; no other statement uses it, and the run prints @a at its end",
         (Other::Reducer, _) =>
             "@a is @b (line @1), and no statement reads it: delete the use; the run prints @a at its end. If the program needs the value, return it from functions or write it to arrays instead",
         (Other::Array, Call::Returned) | (Other::Const, Call::Returned) =>

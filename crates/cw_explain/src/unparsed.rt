@@ -2,20 +2,19 @@
 
 ghost use Rattle.std.specs.Prelude.{◌≡◌, ◌≤◌, All, IfOk, length, true};
 ghost use Rattle.cw_explain.specs.Going.{CanFollow, GoesOn, followed};
-ghost use Rattle.cw_model.specs.Tokens.{IsTokenCut};
 
 use crate::around::Around;
 use crate::grammar::{ALL, keyword, shown};
-use crate::habits::{Row, declared, items, loops, outside, parameters, typed, words};
+use crate::habits::{Row, items, loops, outside, parameters, typed, words};
 use crate::near::nearest;
 use crate::phrase::Marks;
 use crate::shortened::Shortened;
-use crate::statement_habits::{further, habits, inside};
+use crate::statement_habits::{declared, further, habits, inside, updates};
 use crate::word::Word;
 use crate::words::{MIDDLES, STARTS};
 use cw_lex::lex;
 use cw_model::token::{Kind, Token};
-use cw_parse::{first_refused, parse};
+use cw_parse::parse;
 use cw_text::{Fault, Source};
 use std::alloc::Global;
 use std::fmt;
@@ -84,15 +83,6 @@ fn with_word(alloc: Global, text: &[u8], word: &str) -> Result<Vec<u8>, Fault>
     Ok(longer)
 }
 
-// These tokens, shortened.
-fn shortened(alloc: Global, tokens: &[Token]) -> Result<Shortened, Fault> {
-    let mut short = Shortened::new(alloc);
-    for token in tokens {
-        short.add(token.kind)?;
-    }
-    Ok(short)
-}
-
 // What can follow a text: a source continues with each of these.
 fn choices(alloc: Global, text: &[u8]) -> Result<Vec<&'static str>, Fault>
     ensures { IfOk result (λ words. All (λ word. CanFollow text.now word.now) words.items) }
@@ -107,33 +97,27 @@ fn choices(alloc: Global, text: &[u8]) -> Result<Vec<&'static str>, Fault>
     Ok(expected)
 }
 
-/// Returns the first of these tokens of a text that no source continues with, and what is expected instead; none if they are
-/// a source. The expected tokens are those of the tokens before it, shortened.
-pub fn first_unparsed<'a>(
+/// Returns what is unexpected at a token, and what is expected instead after the tokens before it, shortened.
+///
+/// # Errors
+///
+/// Returns an error if memory runs out.
+pub fn unparsed_at<'a>(
     alloc: Global,
-    source: &Source,
-    text: &'a [u8],
-    tokens: &'a [Token],
-) -> Result<Option<Unparsed<'a>>, Fault>
-    requires { IsTokenCut source.now tokens.now }
-{
-    let Some(place) = first_refused(alloc, source, tokens)? else {
-        return Ok(None);
-    };
-    let before = &tokens[..place.min(tokens.len())];
-    let short = shortened(alloc, before)?;
+    around: Around<'a>,
+    short: &Shortened,
+) -> Result<Unparsed<'a>, Fault> {
     let expected = choices(alloc, short.text())?;
-    let around = Around::new(alloc, text, tokens, place)?;
     let why = why_of(&around, expected.as_slice());
-    Ok(Some(Unparsed {
+    Ok(Unparsed {
         around,
         why,
         expected,
-    }))
+    })
 }
 
-/// The text for a block without braces.
-pub const BARE: &str = "put the block of @^ in braces: { @. }";
+// The text for a block without braces.
+const BARE: &str = "put the block of @^ in braces: { @. }";
 
 // The text for a loop without a body.
 const EMPTY: &str = "write an empty block: { }";
@@ -149,8 +133,8 @@ fn row_of(around: &Around<'_>, rows: &[Row], by_front: bool) -> Option<&'static 
     None
 }
 
-/// The text of the first row that applies to a token where no source has it.
-pub fn nowhere(around: &Around<'_>, by_front: bool) -> Option<&'static str> {
+// The text of the first row that applies to a token where no source has it.
+fn nowhere(around: &Around<'_>, by_front: bool) -> Option<&'static str> {
     if !around.is_inside {
         return row_of(around, outside(), by_front).or(row_of(around, parameters(), by_front));
     }
@@ -159,6 +143,14 @@ pub fn nowhere(around: &Around<'_>, by_front: bool) -> Option<&'static str> {
         .or(row_of(around, loops(), by_front))
         .or(row_of(around, declared(), by_front))
         .or(row_of(around, habits(), by_front))
+}
+
+/// The text for a += on a name that no reducer of the source has.
+pub fn update_of(around: &Around<'_>) -> Option<&'static str> {
+    if around.is_like("total", "first", "+=") {
+        return None;
+    }
+    row_of(around, updates(), true)
 }
 
 // The text for a token that is in the wrong place, by what precedes it.

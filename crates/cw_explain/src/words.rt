@@ -133,15 +133,15 @@ static OTHER_CALLS: &[Call] = &[
     ("labs", "write if (x < 0) { x = -x; }"),
     (
         "rand",
-        "keep a state of your own: x = (x * 1103515245 + 12345) % 2147483648;",
+        "write a function of an index i, as (i * 1103515245 + 12345) % 2147483648, or keep a state x in a while: x = (x * 1103515245 + 12345) % 2147483648;",
     ),
     (
         "random",
-        "keep a state of your own: x = (x * 1103515245 + 12345) % 2147483648;",
+        "write a function of an index i, as (i * 1103515245 + 12345) % 2147483648, or keep a state x in a while: x = (x * 1103515245 + 12345) % 2147483648;",
     ),
     (
         "srand",
-        "keep a state of your own: x = (x * 1103515245 + 12345) % 2147483648;",
+        "write a function of an index i, as (i * 1103515245 + 12345) % 2147483648, or keep a state x in a while: x = (x * 1103515245 + 12345) % 2147483648;",
     ),
     (
         "assert",
@@ -225,6 +225,14 @@ static CILK_CALLS: &[Call] = &[
     (
         "mutex_unlock",
         "a lock has no replacement: add to a reducer (reducer sum s; outside of functions, s += e;), or give each call a part of the array by cut",
+    ),
+    (
+        "CILK_C_REDUCER_OPADD",
+        "write reducer sum s; outside of functions, and s += e; to add to it",
+    ),
+    (
+        "CILK_C_REDUCER_MAX",
+        "write reducer max m; outside of functions, and m max= e; for each value",
     ),
     (
         "CILK_C_REGISTER_REDUCER",

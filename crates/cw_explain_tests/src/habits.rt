@@ -131,7 +131,7 @@ static FIB: &[(&str, &str)] = &[
     ),
     (
         "int fib(int n) {\n  if (n < 2)\n    return n;\n  int x, y;\n  cilk_scope {\n    x = cilk_spawn fib(n - 1);\n    y = fib(n - 2);\n  }\n  return x + y;\n}\n\nint main(int argc, char *argv[]) {\n  int n = atoi(argv[1]);\n  int result = fib(n);\n  print(result);\n  return 0;\n}\n",
-        "refused 2 line 3\nt:3: unexpected return: put the block of if in braces: { return n; }\n  3 |     return n;\n    |     ^\nt:4: a declaration has one name and a value: write int x = 0; int y = 0;\nt:12: main takes integers only: write int main(int n), and use n for the first argument\nt:13: there is no atoi: declare a parameter of main for each argument, as int main(int n), and delete this statement\nt:14: a call is a statement of its own: write int result = 0; result = fib(n);\n",
+        "refused 2 line 3\nt:3: unexpected return: put the block of if in braces: { return n; }\n  3 |     return n;\n    |     ^\nt:4: a declaration has one name and a value: write int x = 0; int y = 0;\nt:12: main takes integers only: write int main(int n), use n for the first argument, and delete tests of argc: the number of arguments is checked\nt:13: there is no atoi: declare a parameter of main for each argument, as int main(int n), and delete this statement\nt:14: a call is a statement of its own: write int result = 0; result = fib(n);\n",
     ),
     (
         "int f(int n) {\n  int x = cilk_spawn f(n - 1);\n  int y = f(n - 2);\n  cilk_sync;\n  for (int i = 0; i < n; i++) { n++; }\n  if (n) { n--; } else n = 2;\n  long z;\n  cilk_for (int i = 0; i <= n; i++) { }\n  return x + y;\n}\n",

@@ -178,7 +178,7 @@ fn the_limit_of_loops(rt: HostRuntime) -> Result<(), Fail> {
 static TRAPS: &[(Trap, &str)] = &[
     (
         Trap::Overflow,
-        "t:2: overflow: the result of an operation is below -2^63 or above 2^63 - 1\n  2 |   int x = 1 / 0;\n",
+        "t:2: overflow: the result of an operation is below -2^63 or above 2^63 - 1: use smaller numbers\n  2 |   int x = 1 / 0;\n",
     ),
     (
         Trap::DivisionByZero,

@@ -10,8 +10,18 @@ static BYTES: &[Habit] = &[
     ),
     ("n = n & 15;", "write n % 16 for n & 15", "n = n % 16;"),
     (
+        "pthread_mutex_lock(&m);",
+        "a lock has no replacement: add to a reducer",
+        NONE,
+    ),
+    (
+        "wsp_dump(n, \"loop\");",
+        "put region NAME { .. } around the part to measure; cilkwork scale reports its work and span",
+        "region loop { n = n + 1; }",
+    ),
+    (
         "int a[2]; g(&a[1], n);",
-        "for &a[k] write cut a at k as l, r { .. } and pass r",
+        "for &a[k] pass a and k, or write cut a at k as l, r { .. } and pass r",
         "int a[2]; int k = 1; cut a at k as l, r { h(r); }",
     ),
     (
@@ -272,6 +282,16 @@ static NAMES: &[Habit] = &[
     ("mutex_lock(n);", "there is no mutex_lock: ", NONE),
     ("mutex_unlock(n);", "there is no mutex_unlock: ", NONE),
     (
+        "CILK_C_REDUCER_OPADD(n, 0);",
+        "there is no CILK_C_REDUCER_OPADD: write reducer sum s; outside of functions, and s += e; to add to it",
+        "total += n;",
+    ),
+    (
+        "CILK_C_REDUCER_MAX(n, 0);",
+        "there is no CILK_C_REDUCER_MAX: write reducer max m; outside of functions, and m max= e; for each value",
+        "n = n + 1;",
+    ),
+    (
         "CILK_C_REGISTER_REDUCER(n);",
         "there is no CILK_C_REGISTER_REDUCER: ",
         "",
@@ -311,6 +331,11 @@ static RULES: &[Habit] = &[
         "int a[2]; int i = 0; print(a[i]);",
     ),
     ("n += 2;", "write n = n + ..;", "n = n + 2;"),
+    (
+        "total = total + 2;",
+        "write total += e; for total = total + e;",
+        "total += 2;",
+    ),
     (
         "n max= 2;",
         "write if (n < x) { n = x; }",

@@ -146,7 +146,7 @@ static LOOPS: &[(&str, &str)] = &[
     ),
     (
         "int main() {\n  int a[4];\n  cilk_for (int i = 0; i < 4; i++) {\n    a[i] = i;\n  }\n  return 0;\n}",
-        "refused 4 line 4\nt:4: the cilk_for in line 3 may not use a: write over (a) in its head, and use only the element of the loop variable; for other elements, write a function that cuts a, spawns itself on one part and calls itself on the other, or add to a reducer\n  3 |   cilk_for (int i = 0; i < 4; i++) {\n  4 |     a[i] = i;\n",
+        "refused 4 line 4\nt:4: the cilk_for in line 3 may not use a: write over (a) in its head, and use only the element of the loop variable; for other elements, write a function that cuts a, spawns itself on one part and calls itself on the other, or add to a reducer; if iterations write the same element, write a while\n  3 |   cilk_for (int i = 0; i < 4; i++) {\n  4 |     a[i] = i;\n",
     ),
     (
         "int get(const int a[]) { return a[0]; }\nint main() {\n  int a[4];\n  cilk_for (int i = 0; i < 4; i++) {\n    get(a);\n  }\n  return 0;\n}",
@@ -154,7 +154,7 @@ static LOOPS: &[(&str, &str)] = &[
     ),
     (
         "int main() {\n  int a[4];\n  cilk_for (int i = 0; i < 4; i++) over (a) {\n    a[0] = i;\n  }\n  return 0;\n}",
-        "refused 4 line 4\nt:4: the cilk_for in line 3 has a in over, so its body may only use a[i]; for other elements, write a function that cuts a, spawns itself on one part and calls itself on the other, or add to a reducer\n  3 |   cilk_for (int i = 0; i < 4; i++) over (a) {\n  4 |     a[0] = i;\n",
+        "refused 4 line 4\nt:4: the cilk_for in line 3 has a in over, so its body may only use a[i]; for other elements, write a function that cuts a, spawns itself on one part and calls itself on the other, or add to a reducer; if iterations write the same element, write a while\n  3 |   cilk_for (int i = 0; i < 4; i++) over (a) {\n  4 |     a[0] = i;\n",
     ),
     (
         "int main() {\n  int a[4];\n  cilk_for (int i = 0; i < 4; i++) over (a) {\n    cilk_for (int j = 0; j < a[i]; j++) { }\n  }\n  return 0;\n}",
@@ -163,7 +163,7 @@ static LOOPS: &[(&str, &str)] = &[
     // of two arrays the one that is written
     (
         "int main() {\n  int a[4];\n  int b[4];\n  cilk_for (int i = 0; i < 4; i++) {\n    b[i] = a[i];\n  }\n  return 0;\n}",
-        "refused 4 line 5\nt:5: the cilk_for in line 4 may not use b: write over (b) in its head, and use only the element of the loop variable; for other elements, write a function that cuts b, spawns itself on one part and calls itself on the other, or add to a reducer\n  4 |   cilk_for (int i = 0; i < 4; i++) {\n  5 |     b[i] = a[i];\n",
+        "refused 4 line 5\nt:5: the cilk_for in line 4 may not use b: write over (b) in its head, and use only the element of the loop variable; for other elements, write a function that cuts b, spawns itself on one part and calls itself on the other, or add to a reducer; if iterations write the same element, write a while\n  4 |   cilk_for (int i = 0; i < 4; i++) {\n  5 |     b[i] = a[i];\n",
     ),
     // and else the one that is read
     (
@@ -173,7 +173,7 @@ static LOOPS: &[(&str, &str)] = &[
     // an element that is written, and one that is read
     (
         "int main() {\n  int a[4];\n  cilk_for (int i = 0; i < 4; i++) over (a) {\n    a[0] = a[i];\n  }\n  return 0;\n}",
-        "refused 4 line 4\nt:4: the cilk_for in line 3 has a in over, so its body may only use a[i]; for other elements, write a function that cuts a, spawns itself on one part and calls itself on the other, or add to a reducer\n  3 |   cilk_for (int i = 0; i < 4; i++) over (a) {\n  4 |     a[0] = a[i];\n",
+        "refused 4 line 4\nt:4: the cilk_for in line 3 has a in over, so its body may only use a[i]; for other elements, write a function that cuts a, spawns itself on one part and calls itself on the other, or add to a reducer; if iterations write the same element, write a while\n  3 |   cilk_for (int i = 0; i < 4; i++) over (a) {\n  4 |     a[0] = a[i];\n",
     ),
     (
         "int main() {\n  int a[4];\n  cilk_for (int i = 0; i < 4; i++) over (a) {\n    a[i] = a[0];\n  }\n  return 0;\n}",
@@ -182,15 +182,15 @@ static LOOPS: &[(&str, &str)] = &[
     // passed as a whole, cut, and named in a further loop
     (
         "void f(int a[]) { }\nint main() {\n  int a[4];\n  cilk_for (int i = 0; i < 4; i++) {\n    f(a);\n  }\n  return 0;\n}",
-        "refused 4 line 5\nt:5: the cilk_for in line 4 may not use a: write over (a) in its head, and use only the element of the loop variable; for other elements, write a function that cuts a, spawns itself on one part and calls itself on the other, or add to a reducer\n  4 |   cilk_for (int i = 0; i < 4; i++) {\n  5 |     f(a);\n",
+        "refused 4 line 5\nt:5: the cilk_for in line 4 may not use a: write over (a) in its head, and use only the element of the loop variable; for other elements, write a function that cuts a, spawns itself on one part and calls itself on the other, or add to a reducer; if iterations write the same element, write a while\n  4 |   cilk_for (int i = 0; i < 4; i++) {\n  5 |     f(a);\n",
     ),
     (
         "int main() {\n  int a[4];\n  cilk_for (int i = 0; i < 4; i++) over (a) {\n    cut a at 2 as l, r { }\n  }\n  return 0;\n}",
-        "refused 4 line 4\nt:4: the cilk_for in line 3 has a in over, so its body may only use a[i]; for other elements, write a function that cuts a, spawns itself on one part and calls itself on the other, or add to a reducer\n  3 |   cilk_for (int i = 0; i < 4; i++) over (a) {\n  4 |     cut a at 2 as l, r { }\n",
+        "refused 4 line 4\nt:4: the cilk_for in line 3 has a in over, so its body may only use a[i]; for other elements, write a function that cuts a, spawns itself on one part and calls itself on the other, or add to a reducer; if iterations write the same element, write a while\n  3 |   cilk_for (int i = 0; i < 4; i++) over (a) {\n  4 |     cut a at 2 as l, r { }\n",
     ),
     (
         "int main() {\n  int a[4];\n  cilk_for (int i = 0; i < 4; i++) over (a) {\n    cilk_for (int j = 0; j < 4; j++) over (a) { }\n  }\n  return 0;\n}",
-        "refused 4 line 4\nt:4: the cilk_for in line 3 has a in over, so its body may only use a[i]; for other elements, write a function that cuts a, spawns itself on one part and calls itself on the other, or add to a reducer\n  3 |   cilk_for (int i = 0; i < 4; i++) over (a) {\n  4 |     cilk_for (int j = 0; j < 4; j++) over (a) { }\n",
+        "refused 4 line 4\nt:4: the cilk_for in line 3 has a in over, so its body may only use a[i]; for other elements, write a function that cuts a, spawns itself on one part and calls itself on the other, or add to a reducer; if iterations write the same element, write a while\n  3 |   cilk_for (int i = 0; i < 4; i++) over (a) {\n  4 |     cilk_for (int j = 0; j < 4; j++) over (a) { }\n",
     ),
     // an array that is const stands in no over
     (

@@ -30,7 +30,7 @@ static SOURCES: &[Habit] = &[
     ),
     (
         "/* c */\nint main(int n) {\n  return n;\n}",
-        "write a comment behind //",
+        "write a comment after //",
         "// c\nint main(int n) {\n  return n;\n}",
     ),
     (
@@ -275,13 +275,48 @@ static SOURCES: &[Habit] = &[
     ),
     (
         "int main(int n) {\n  int x = 0;\n  cilk_for (int i = 0; i < n; i++) {\n    x -= i;\n  }\n  return x;\n}",
-        "write reducer sum r; outside of functions, and r += e; here",
-        "reducer sum r;\nint main(int n) {\n  int x = 0;\n  cilk_for (int i = 0; i < n; i++) {\n    int e = -i; r += e;\n  }\n  return x;\n}",
+        "write reducer sum r; outside of functions, and r += -i; here",
+        "reducer sum r;\nint main(int n) {\n  int x = 0;\n  cilk_for (int i = 0; i < n; i++) {\n    r += -i;\n  }\n  return x;\n}",
+    ),
+    (
+        "int main(int n) {\n  int x = 1;\n  cilk_for (int i = 0; i < n; i++) {\n    x *= 2;\n  }\n  return x;\n}",
+        "declare another integer in its body, or write a while, whose iterations run one by one",
+        "int main(int n) {\n  int x = 1;\n  int i = 0;\n  while (i < n) {\n    x = x * 2;\n    i = i + 1;\n  }\n  return x;\n}",
+    ),
+    (
+        "int main(int n) {\n  int a[n];\n  cilk_for (int i = 0; i < n; i++) {\n    a[i]++;\n  }\n  return n;\n}",
+        "write a[i] = a[i] + 1; and over (a) in the head of the cilk_for, which allows the element of its variable",
+        "int main(int n) {\n  int a[n];\n  cilk_for (int i = 0; i < n; i++) over (a) {\n    a[i] = a[i] + 1;\n  }\n  return n;\n}",
+    ),
+    (
+        "int main(int n) {\n  int a[n];\n  cilk_for (int i = 0; i < n; i++) {\n    a[i] *= 2;\n  }\n  return n;\n}",
+        "write a[i] = a[i] * 2; and over (a) in the head of the cilk_for, which allows the element of its variable",
+        "int main(int n) {\n  int a[n];\n  cilk_for (int i = 0; i < n; i++) over (a) {\n    a[i] = a[i] * 2;\n  }\n  return n;\n}",
+    ),
+    (
+        "int main(int n) {\n  int a[n];\n  cilk_for (int i = 0; i < n; i++) {\n    a[i] += 2;\n  }\n  return n;\n}",
+        "write a[i] = a[i] + 2; and over (a) in the head of the cilk_for, which allows the element of its variable",
+        "int main(int n) {\n  int a[n];\n  cilk_for (int i = 0; i < n; i++) over (a) {\n    a[i] = a[i] + 2;\n  }\n  return n;\n}",
+    ),
+    (
+        "reducer sum s;\nint main(int n) {\n  cilk_for (int i = 0; i < n; i++) {\n    s *= 2;\n  }\n  return n;\n}",
+        "a reducer only takes +=, or max= if it is declared by reducer max",
+        "reducer sum s;\nint main(int n) {\n  cilk_for (int i = 0; i < n; i++) {\n    s += 2;\n  }\n  return n;\n}",
     ),
     (
         "int main(int n) {\n  int x = 0;\n  cilk_for (int i = 0; i < n; i++) {\n    x += i;\n  }\n  return x;\n}",
         "write reducer sum r; outside of functions, and r += .. here",
         "reducer sum r;\nint main(int n) {\n  int x = 0;\n  cilk_for (int i = 0; i < n; i++) {\n    r += i;\n  }\n  return x;\n}",
+    ),
+    (
+        "int f(long n) {\n  return n;\n}\nint main(int n) {\n  return n;\n}",
+        "there is no type long: write int n; each parameter is int n, int a[] or const int a[]",
+        "int f(int n) {\n  return n;\n}\nint main(int n) {\n  return n;\n}",
+    ),
+    (
+        "int main(int n) {\n  int x = 0;\n  cilk_for (int i = 0; i < n; i++) {\n    x += i;\n  }\n  n++;\n  return x;\n}",
+        "x is not a reducer: write reducer sum r; outside of functions, and r += i; here",
+        "reducer sum r;\nint main(int n) {\n  int x = 0;\n  cilk_for (int i = 0; i < n; i++) {\n    r += i;\n  }\n  n = n + 1;\n  return x;\n}",
     ),
     (
         "int main(int n) {\n  int x = 0;\n  cilk_for (int i = 0; i < n; i++) {\n    x = x + i;\n  }\n  return x;\n}",
@@ -295,7 +330,7 @@ static SOURCES: &[Habit] = &[
     ),
     (
         "#define N 10\nint main(int n) {\n  return n;\n}",
-        "delete the line, and write the value where the name is used",
+        "delete the line; write the value where the name is used, and a function for a macro with parameters",
         "int main(int n) {\n  return n;\n}",
     ),
     (

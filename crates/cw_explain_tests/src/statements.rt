@@ -167,7 +167,7 @@ static STATEMENTS: &[Habit] = &[
     ),
     (
         "cilk_for (long i = 0; i < n; i++) { }",
-        "write cilk_for (int i = ..)",
+        "write cilk_for (int i = LOW; i < HIGH; i++) { .. }",
         "cilk_for (int i = 0; i < n; i++) { }",
     ),
     (
@@ -180,10 +180,10 @@ static STATEMENTS: &[Habit] = &[
         "there is no type long: write int, and delete a cast",
         "n = n - 1;\n f(n);",
     ),
-    ("/* n */", "write a comment behind //", "// n\n"),
+    ("/* n */", "write a comment after //", "// n\n"),
     (
         "n = 1 /* n */;",
-        "write a comment behind //",
+        "write a comment after //",
         "n = 1; // n\n",
     ),
     (
@@ -228,7 +228,7 @@ static STATEMENTS: &[Habit] = &[
     ),
     (
         "cilk_for (int i = 0; i < n; ++i) { }",
-        "++ follows the name: write i++",
+        "++ follows the name, and a block follows the head: write i++) { .. }",
         "cilk_for (int i = 0; i < n; i++) { }",
     ),
     (
@@ -263,8 +263,8 @@ static STATEMENTS: &[Habit] = &[
     ),
     (
         "int x = rand();",
-        "keep a state of your own: x = (x * 1103515245 + 12345) % 2147483648;",
-        "int x = 1; x = (x * 1103515245 + 12345) % 2147483648;",
+        "or keep a state x in a while: x = (x * 1103515245 + 12345) % 2147483648;",
+        "int x = 1; while (n) { x = (x * 1103515245 + 12345) % 2147483648; n = n - 1; }",
     ),
     (
         "int x = f(n);",
@@ -341,7 +341,67 @@ static STATEMENTS: &[Habit] = &[
 ];
 
 static ASSIGNMENTS: &[Habit] = &[
+    (
+        "n += 2; n++;",
+        "n is not a reducer: write n = n + 2;",
+        "n = n + 2; n = n + 1;",
+    ),
+    (
+        "long m = argc > 1;",
+        "declare a parameter of main for each argument, as int main(int m), and delete this statement",
+        "",
+    ),
+    (
+        "int a[2]; memset(a, 0, 2 * sizeof(int));",
+        "there is no memset: delete this statement if the array is new",
+        "int a[2];",
+    ),
+    (
+        "int a[2]; int b[2]; memcpy(b, a, 2 * sizeof(int));",
+        "there is no memcpy: copy each element: int i = 0; while (i < len(a)) { b[i] = a[i]; i = i + 1; }",
+        "int a[2]; int b[2]; int i = 0; while (i < len(a)) { b[i] = a[i]; i = i + 1; }",
+    ),
+    (
+        "n->left = 3;",
+        "write an array for each member, and an index for the pointer: left[n] for n->left",
+        "int left[2]; left[n] = 3;",
+    ),
+    (
+        "n->left = f(n);",
+        "write an array for each member and an index for the pointer: int r = 0; r = f(..); left[n] = r;",
+        "int left[2]; int r = 0; r = f(n); left[n] = r;",
+    ),
+    (
+        "sum += 2 * n;",
+        "sum is a keyword: use another name, and write r = r + (2 * n);",
+        "int r = 0; r = r + (2 * n);",
+    ),
+    (
+        "sum = n;",
+        "sum is a keyword: use another name",
+        "int s = n;",
+    ),
     ("total--;", "write total += -1;", "total += -1;"),
+    (
+        "int x = 0; x = n--;",
+        "there is no --: write x = n; n = n - 1;",
+        "int x = 0; x = n; n = n - 1;",
+    ),
+    (
+        "int x = n--;",
+        "there is no --: write int x = n; n = n - 1;",
+        "int x = n; n = n - 1;",
+    ),
+    (
+        "int a[2]; int x = 0; x = a[n++];",
+        "write n for n++ here, and n = n + 1; after this statement",
+        "int a[2]; int x = 0; x = a[n]; n = n + 1;",
+    ),
+    (
+        "int a[2]; a[n++] = 3;",
+        "write n for n++ here, and n = n + 1; after this statement",
+        "int a[2]; a[n] = 3; n = n + 1;",
+    ),
     ("n--;", "write n = n - 1;", "n = n - 1;"),
     ("total++;", "write total += 1;", "total += 1;"),
     (
@@ -431,8 +491,8 @@ static ASSIGNMENTS: &[Habit] = &[
     ("++n;", "write n = n + 1;", "n = n + 1;"),
     (
         "n = 1 + rand();",
-        "keep a state of your own: x = (x * 1103515245 + 12345) % 2147483648;",
-        "int x = 1; x = (x * 1103515245 + 12345) % 2147483648; n = 1 + x;",
+        "write a function of an index i, as (i * 1103515245 + 12345) % 2147483648",
+        "n = 1 + (n * 1103515245 + 12345) % 2147483648;",
     ),
     (
         "n = 1 + f(n) * 2;",

@@ -10,5 +10,6 @@ mod reason;
 mod tables;
 mod walk;
 
+pub use front::{Front, front_of};
 pub use lexer::{first_uncut, lex};
 pub use reason::Uncut;

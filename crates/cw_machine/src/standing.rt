@@ -20,8 +20,9 @@ use cw_runnable::verified::Verified;
 use cw_text::Fault;
 use std::alloc::{AllocError, Global};
 
-/// The most calls and loops round an instruction that are told one by one.
-pub const MOST_ROUND: usize = 10;
+/// The maximum number of calls and loops around an instruction that are returned one by one. It is above the number of
+/// nested calls that a run may have.
+pub const MOST_ROUND: usize = 16_384;
 
 /// The loop of a run up to a trap, as bursts know it.
 pub(crate) struct UpToTrap {}
@@ -65,9 +66,9 @@ pub struct Standing {
     pub line: u32,
     /// What the instruction had.
     pub had: Had,
-    /// The calls and loops round it, the innermost first, at most ten. A loop by halves is told once.
+    /// The calls and loops around it, the innermost first, at most `MOST_ROUND`. A loop by halves appears once.
     pub round: Vec<Round>,
-    /// How many more there are.
+    /// The number of further ones.
     pub further: usize,
 }
 
@@ -163,7 +164,8 @@ impl Machine {
         }
     }
 
-    // What stands round the call that runs, the innermost first, at most ten, and how many more there are.
+    // The calls and loops around the running call, the innermost first, at most `MOST_ROUND`, and the number of further
+    // ones.
     fn round(&self, alloc: Global, code: &Verified) -> Result<(Vec<Round>, usize), AllocError>
         ensures { IfOk result (λ told. length told.0.items ≤ MOST_ROUND) }
     {

@@ -119,9 +119,17 @@ fn reduction(tokens: &[Token]) -> Read<'_, Reduction>
     }
 }
 
-// Parses a reducer after its first token.
+/// Parses a reducer after its first token.
+///
+/// # Errors
+///
+/// Stops at the first token that does not fit, or if memory runs out.
 #[tactic(auto, unfolding(crate::specs::Parts::reducer))]
-fn reducer<'a>(reading: Reading<'_>, first: Token, tokens: &'a [Token]) -> Read<'a, Reducer>
+pub(crate) fn reducer<'a>(
+    reading: Reading<'_>,
+    first: Token,
+    tokens: &'a [Token],
+) -> Read<'a, Reducer>
     ensures { Parses reducer_of result (reducer reading.entry.text.now first tokens.now) }
 {
     let (how, rest) = reduction(tokens)?;
@@ -133,6 +141,19 @@ fn reducer<'a>(reading: Reading<'_>, first: Token, tokens: &'a [Token]) -> Read<
         line: first.line,
     };
     Ok((reducer, rest))
+}
+
+/// Parses the head of a function after its first token, and its opening brace.
+///
+/// # Errors
+///
+/// Stops at the first token that does not fit, or if memory runs out.
+pub(crate) fn head<'a>(reading: Reading<'_>, tokens: &'a [Token]) -> Read<'a, (Token, Vec<Param>)> {
+    let (found, rest) = expect(Mark::Name, tokens)?;
+    let (_, rest) = expect(Mark::LeftParen, rest)?;
+    let (params, rest) = list(reading, reading.limit, rest)?;
+    let (_, rest) = expect(Mark::LeftBrace, rest)?;
+    Ok(((found, params), rest))
 }
 
 // Parses a function after its first token; also returns the number of the next call statement.

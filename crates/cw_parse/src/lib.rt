@@ -11,9 +11,12 @@ mod names;
 mod nesting;
 mod opening;
 mod parser;
+mod recovering;
+mod resume;
 mod simple;
 mod stmt;
 mod stop;
 
 pub use nesting::{TooNested, passed_by_tokens};
 pub use parser::{first_refused, parse};
+pub use recovering::{Item, Recovered, Rejected, recover};

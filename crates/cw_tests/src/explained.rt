@@ -56,28 +56,28 @@ const MISUSED: &[Row] = &[
         "",
         5,
         "",
-        "arguments\ncilkwork: limit is '0': it is a number from 1 to 4611686018427387904, in decimal digits alone\n",
+        "arguments\nerror: invalid value '0' for '--limit <N>': it is a number from 1 to 4611686018427387904, in decimal digits only\n",
     ),
     (
         "scale f --burden +1 --edges all --explain",
         "",
         5,
         "",
-        "arguments\ncilkwork: burden is '+1': it is a number from 0 to 1000000000, in decimal digits alone\ncilkwork: edges is 'all': it is spawn or both\n",
+        "arguments\nerror: invalid value '+1' for '--burden <N>': it is a number from 0 to 1000000000, in decimal digits only\nerror: invalid value 'all' for '--edges <E>': it is spawn or both\n",
     ),
     (
         "gain f --top 65 --workers 65 --explain",
         "",
         5,
         "",
-        "arguments\ncilkwork: top is '65': it is a number from 1 to 64, in decimal digits alone\ncilkwork: workers is '65': it is a number from 1 to 64, in decimal digits alone\n",
+        "arguments\nerror: invalid value '65' for '--top <N>': it is a number from 1 to 64, in decimal digits only\nerror: invalid value '65' for '--workers <N>': it is a number from 1 to 64, in decimal digits only\n",
     ),
     (
         "greedy 0 f x --explain",
         "",
         5,
         "",
-        "arguments\ncilkwork: P is '0': it is a number from 1 to 1000000, in decimal digits alone\ncilkwork: an argument of main is 'x': it is a number from 0 to 9223372036854775807, in decimal digits alone\n",
+        "arguments\nerror: invalid value '0' for '<P>': it is a number from 1 to 1000000, in decimal digits only\nerror: invalid value 'x' for '[ARGS]...': it is a number from 0 to 9223372036854775807, in decimal digits only\n",
     ),
     ("run f --limit 0", "", 5, "", "arguments\n"),
 ];
@@ -144,6 +144,48 @@ const BEHIND: &str = "int main(int n) {
   return 0;
 }";
 
+// f(1), g(2), f(4), g(5), f(10), ..: in call k from 0, f gets 3 * 2^k - 2 and g gets 3 * 2^k - 1; the first product above
+// 2^63 - 1 is at k = 61, in the 62nd call of g
+const IN_TURN: &str = "int f(int n) {
+  int r = 0;
+  r = g(n + 1);
+  return r;
+}
+int g(int n) {
+  int r = 0;
+  r = f(n * 2);
+  return r;
+}
+int main() {
+  int r = 0;
+  r = f(1);
+  return r;
+}";
+
+const LOOPS_AND_CALLS: &str = "void walk(int n) {
+  int x = 6 / n;
+  cilk_for (int i = 0; i < 1; i++) {
+    walk(n - 1);
+  }
+}
+int main(int n) {
+  walk(n);
+  return 0;
+}";
+
+const FIVE: &str = "void a(int n) { b(n); }
+void b(int n) { c(n); }
+void c(int n) { d(n); }
+void d(int n) { e(n); }
+void e(int n) {
+  int x = 1 / n;
+  a(n - 1);
+}
+int main(int n) {
+  a(n);
+  return 0;
+}";
+
 // A trap of each kind with its values, and the calls and loops around it.
 const TRAPPED: &[Row] = &[
     (
@@ -151,7 +193,7 @@ const TRAPPED: &[Row] = &[
         ABOVE,
         3,
         "",
-        "trap 1 line 2\nf:2: overflow: the result of an operation is below -2^63 or above 2^63 - 1\n  2 |   return 9223372036854775807 + n;\nf:2: the operands of + are 9223372036854775807 and 1\nf:1: in main\n",
+        "trap 1 line 2\nf:2: overflow: the result of an operation is below -2^63 or above 2^63 - 1: use smaller numbers\n  2 |   return 9223372036854775807 + n;\nf:2: the operands of + are 9223372036854775807 and 1\nf:1: in main\n",
     ),
     (
         "scale --workers 3 f 3 --explain",
@@ -186,21 +228,49 @@ const TRAPPED: &[Row] = &[
         "int main() {\n  cilk_for (int i = 0; i < 2147483648; i++) {\n  }\n  return 0;\n}",
         3,
         "",
-        "trap 5 line 2\nf:2: a cilk_for has more than 2147483647 iterations: divide its range\n  2 |   cilk_for (int i = 0; i < 2147483648; i++) {\nf:2: the range is 0 to 2147483648, and a loop has at most 2147483647 turns\nf:1: in main\n",
+        "trap 5 line 2\nf:2: a cilk_for has more than 2147483647 iterations: divide its range\n  2 |   cilk_for (int i = 0; i < 2147483648; i++) {\nf:2: the range is 0 to 2147483648, and a loop has at most 2147483647 iterations\nf:1: in main\n",
     ),
     (
         "greedy 2 f 8 --explain",
         IN_TURNS,
         3,
         "",
-        "trap 2 line 3\nf:3: division or remainder by 0: test the divisor first\n  3 |   s += 6 / (i - 5);\nf:3: the operands of / are 6 and 0\nf:7: in add, called here\nf:6: in turns of this cilk_for\nf:5: in main\n",
+        "trap 2 line 3\nf:3: division or remainder by 0: test the divisor first\n  3 |   s += 6 / (i - 5);\nf:3: the operands of / are 6 and 0\nf:7: in add, called here\nf:6: in an iteration of this cilk_for\nf:5: in main\n",
     ),
     (
         "run f --explain",
         ENDLESS,
         3,
         "",
-        "trap 6 line 3\nf:3: more than 10000 nested calls, main included: end the recursion earlier, or write a while\n  3 |   r = f(n + 1);\nf:3: the call of f is made at depth 10000, and 10000 is the greatest\nf:3: in f, called here\nf:3: in f, called here\nf:3: in f, called here\nf:3: in f, called here\nf:3: in f, called here\nf:3: in f, called here\nf:3: in f, called here\nf:3: in f, called here\nf:3: in f, called here\nf:3: in f, called here\nf:6: in main, 9989 calls and loops further out\n",
+        "trap 6 line 3\nf:3: more than 10000 nested calls, main included: end the recursion earlier, or write a while\n  3 |   r = f(n + 1);\nf:3: the call of f is made at depth 10000, and the maximum is 10000\nf:3: in f, called here\nf:3: in f, called here\nf:3: in f, called here\nf: 9996 more calls of f\nf:6: in main\n",
+    ),
+    (
+        "run f --explain",
+        IN_TURN,
+        3,
+        "",
+        "trap 1 line 8\nf:8: overflow: the result of an operation is below -2^63 or above 2^63 - 1: if remainders are enough, write a * b % m for a * b; otherwise use smaller numbers\n  8 |   r = f(n * 2);\nf:8: the operands of * are 6917529027641081855 and 2\nf:3: in g, called here\nf:8: in f, called here\nf:3: in g, called here\nf:8: in f, called here\nf:3: in g, called here\nf: 59 more calls of g\nf:8: in f, called here\nf: 59 more calls of f\nf:11: in main\n",
+    ),
+    (
+        "run f 5 --explain",
+        LOOPS_AND_CALLS,
+        3,
+        "",
+        "trap 2 line 2\nf:2: division or remainder by 0: test the divisor first\n  2 |   int x = 6 / n;\nf:2: the operands of / are 6 and 0\nf:4: in walk, called here\nf:3: in an iteration of this cilk_for\nf:4: in walk, called here\nf:3: in an iteration of this cilk_for\nf:4: in walk, called here\nf: 3 more calls of walk\nf:3: in an iteration of this cilk_for\nf:3: 2 more iterations of this cilk_for\nf:7: in main\n",
+    ),
+    (
+        "run f 3 --explain",
+        LOOPS_AND_CALLS,
+        3,
+        "",
+        "trap 2 line 2\nf:2: division or remainder by 0: test the divisor first\n  2 |   int x = 6 / n;\nf:2: the operands of / are 6 and 0\nf:4: in walk, called here\nf:3: in an iteration of this cilk_for\nf:4: in walk, called here\nf:3: in an iteration of this cilk_for\nf:4: in walk, called here\nf: 1 more call of walk\nf:3: in an iteration of this cilk_for\nf:7: in main\n",
+    ),
+    (
+        "run f 2 --explain",
+        FIVE,
+        3,
+        "",
+        "trap 2 line 6\nf:6: division or remainder by 0: test the divisor first\n  6 |   int x = 1 / n;\nf:6: the operands of / are 1 and 0\nf:4: in e, called here\nf:3: in d, called here\nf:2: in c, called here\nf:1: in b, called here\nf:7: in a, called here\nf:4: in e, called here\nf:3: in d, called here\nf:2: in c, called here\nf:1: in b, called here\nf:7: in a, called here\nf:9: in main, and 5 more calls and loops\n",
     ),
 ];
 

@@ -362,12 +362,25 @@ const NO_COMMANDS: &[Misuse] = &[
     ),
     (
         "run f -5",
-        "error: unexpected argument '-5' found\n\n  tip: an argument of main is a number from 0 to 9223372036854775807\n",
+        "error: unexpected argument '-5' found\n\n  tip: a number has no sign; an argument of main is 0 to 9223372036854775807\n",
+    ),
+    (
+        "run f --limit -5",
+        "error: unexpected argument '-5' found\n\n  tip: a number has no sign; an argument of main is 0 to 9223372036854775807\n",
+    ),
+    // standard input in the place of the command
+    (
+        "- 10",
+        "error: unrecognized subcommand '-'\n\n  tip: to run a program, use 'cilkwork run - 10'\n",
     ),
     // control characters
     (
         "run f --\x1b[31m",
         "error: unexpected argument '--\\x1b[31m' found\n",
+    ),
+    (
+        "run f --\u{9b}31m",
+        "error: unexpected argument '--\\xc2\\x9b31m' found\n",
     ),
     // after `--` the word is an argument of main
     ("run f -- --explain", "arguments\n"),

@@ -1,6 +1,7 @@
-//! What is told of a run that trapped: the values that its last instruction had, and the calls and loops round it.
+//! The operands of a run that trapped, and the calls and loops around its last instruction, in words.
 #![tactic(auto)]
 
+mod around;
 mod telling;
 mod values;
 

@@ -1,19 +1,15 @@
-//! A run that trapped, told line by line.
+//! A run that trapped, line by line.
 
-use crate::values::{Values, site_at};
-use cw_code::code::{Code, Site};
-use cw_explain::Word;
-use cw_machine::standing::{Round, Standing, stand_at_trap};
-use cw_model::syntax::CallKind;
+use crate::around::add_around;
+use crate::values::Values;
+use cw_code::code::Code;
+use cw_machine::standing::{Standing, stand_at_trap};
 use cw_runnable::verified::Verified;
 use cw_text::Fault;
 use std::alloc::{AllocError, Global};
 use std::fmt;
 
-/// As many bytes are written, and one line more.
-const MOST_BYTES: usize = 3_072;
-
-/// A run that trapped: of this code, on these arguments, within so many instructions.
+/// A run that trapped: of this code, on these arguments, with this limit.
 #[derive(Clone, Copy)]
 pub struct Trapping<'a> {
     pub code: &'a Verified,
@@ -21,12 +17,16 @@ pub struct Trapping<'a> {
     pub limit: u64,
 }
 
-/// Adds the values that a run's last instruction had, if it traps, and the calls and loops round it, the innermost first:
-/// each on a line of its own, which begins with the file and a line of it and ends with a line feed. The run is made once
-/// more for this, by the caller's thread alone, up to that instruction. At most ten calls and loops have a line, and none
-/// is added where the text has 3,072 bytes or more.
+/// Adds the operands of a run's last instruction, if the run traps, and the calls and loops around it, the innermost first:
+/// each on a line of its own, which begins with the file and ends with a line feed. The caller's thread executes the run once
+/// more for this, up to that instruction. At most ten calls and loops have a line, at most three of them for the same
+/// function or loop, whose other calls are counted.
 ///
-/// Nothing is added where the run ends. The errors are those of `stand_at_trap`: `Arguments`, `OverLimit` and `Memory`.
+/// Adds nothing if the run finishes.
+///
+/// # Errors
+///
+/// As `stand_at_trap`: `Arguments`, `OverLimit` and `Memory`.
 pub fn add_trap<F: fmt::Display + Copy>(
     alloc: Global,
     out: &mut String,
@@ -36,12 +36,13 @@ pub fn add_trap<F: fmt::Display + Copy>(
     let Some(standing) = stand_at_trap(alloc, run.code, run.args, run.limit)? else {
         return Ok(());
     };
-    add_standing(out, file, &run.code.code, &standing)?;
+    add_standing(alloc, out, file, &run.code.code, &standing)?;
     Ok(())
 }
 
-// Adds how a run of code stood.
+// Adds the state of a run of code at its trap.
 fn add_standing<F: fmt::Display + Copy>(
+    alloc: Global,
     out: &mut String,
     file: F,
     code: &Code,
@@ -53,52 +54,15 @@ fn add_standing<F: fmt::Display + Copy>(
     };
     let line = standing.line;
     write!(out, "{file}:{line}: {values}\n")?;
-    for one in &standing.round {
-        if out.len() < MOST_BYTES {
-            add_round(out, file, code, *one)?;
-        }
-    }
-    if out.len() < MOST_BYTES {
-        let line = code.main_line;
-        let further = Further {
-            count: standing.further,
-        };
-        write!(out, "{file}:{line}: in main{further}\n")?;
-    }
-    Ok(())
+    let uncounted = add_around(alloc, out, file, code, standing.round.as_slice())?;
+    let line = code.main_line;
+    let further = Further {
+        count: uncounted.saturating_add(standing.further),
+    };
+    write!(out, "{file}:{line}: in main{further}\n")
 }
 
-// Adds a call or a loop.
-fn add_round<F: fmt::Display + Copy>(
-    out: &mut String,
-    file: F,
-    code: &Code,
-    one: Round,
-) -> Result<(), AllocError> {
-    match one {
-        Round::Turns(line) => write!(out, "{file}:{line}: in turns of this cilk_for\n"),
-        Round::Call(number) => match site_at(code, number) {
-            None => Ok(()),
-            Some(site) => add_call(out, file, site),
-        },
-    }
-}
-
-// Adds a call at a site.
-fn add_call<F: fmt::Display + Copy>(
-    out: &mut String,
-    file: F,
-    site: &Site,
-) -> Result<(), AllocError> {
-    let line = site.line;
-    let name = Word::of(&site.callee);
-    match site.kind {
-        CallKind::Plain => write!(out, "{file}:{line}: in {name}, called here\n"),
-        CallKind::Spawned => write!(out, "{file}:{line}: in {name}, spawned here\n"),
-    }
-}
-
-// How many calls and loops are not told one by one.
+// The number of calls and loops that have no line and are not counted in one.
 #[derive(Clone, Copy)]
 struct Further {
     count: usize,
@@ -107,9 +71,10 @@ struct Further {
 impl fmt::Display for Further {
     fn fmt<W: fmt::Write>(&self, f: &mut fmt::Formatter<W>) -> fmt::Result {
         let count = self.count;
-        if count == 0 {
-            return Ok(());
+        match count {
+            0 => Ok(()),
+            1 => write!(f, ", and 1 more call or loop"),
+            _ => write!(f, ", and {count} more calls and loops"),
         }
-        write!(f, ", {count} calls and loops further out")
     }
 }

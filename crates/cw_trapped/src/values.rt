@@ -1,4 +1,4 @@
-//! The values of an instruction that trapped, in words.
+//! The operands of an instruction that trapped, in words.
 
 use cw_code::code::{Code, Site, UnaryOperator};
 use cw_explain::Word;
@@ -7,7 +7,7 @@ use cw_model::limits::{MOST_DEPTH, MOST_ELEMENTS, MOST_TURNS};
 use cw_model::syntax::Operator;
 use std::fmt;
 
-/// The call site of a number; none where the code has no such site.
+/// Returns the call site with this number, if the code has one.
 pub fn site_at(code: &Code, number: u32) -> Option<&Site> {
     let number = number as usize;
     if number == 0 || number > code.sites.len() {
@@ -16,7 +16,7 @@ pub fn site_at(code: &Code, number: u32) -> Option<&Site> {
     Some(&code.sites[number - 1])
 }
 
-// An operator, as it is written.
+// Returns the spelling of an operator.
 fn sign(operator: Operator) -> &'static str {
     match operator {
         Operator::Equal => "==",
@@ -33,7 +33,7 @@ fn sign(operator: Operator) -> &'static str {
     }
 }
 
-// An operator on one operand, as it is written.
+// Returns the spelling of an operator with one operand.
 fn unary_sign(operator: UnaryOperator) -> &'static str {
     match operator {
         UnaryOperator::Negative => "-",
@@ -41,7 +41,7 @@ fn unary_sign(operator: UnaryOperator) -> &'static str {
     }
 }
 
-/// What an instruction of code had.
+/// The operands of an instruction of code.
 #[derive(Clone, Copy)]
 pub struct Values<'a> {
     pub code: &'a Code,
@@ -51,7 +51,7 @@ pub struct Values<'a> {
 impl fmt::Display for Values<'_> {
     fn fmt<W: fmt::Write>(&self, f: &mut fmt::Formatter<W>) -> fmt::Result {
         match self.had {
-            Had::Nothing => write!(f, "it has no values"),
+            Had::Nothing => write!(f, "it has no operands"),
             Had::One(operator, x) => {
                 let sign = unary_sign(operator);
                 write!(f, "the operand of {sign} is {x}")
@@ -74,7 +74,7 @@ impl fmt::Display for Values<'_> {
     }
 }
 
-// The range of a loop, and how long the shortest of its arrays is.
+// Writes the range of a loop, and the length of the shortest of its arrays.
 fn write_range<W: fmt::Write>(
     f: &mut fmt::Formatter<W>,
     low: i64,
@@ -83,12 +83,12 @@ fn write_range<W: fmt::Write>(
 ) -> fmt::Result {
     write!(f, "the range is {low} to {high}")?;
     match least {
-        None => write!(f, ", and a loop has at most {MOST_TURNS} turns"),
+        None => write!(f, ", and a loop has at most {MOST_TURNS} iterations"),
         Some(len) => write!(f, ", and the length of its shortest array is {len}"),
     }
 }
 
-// A call that would lie too deep.
+// Writes a call that exceeds the maximum depth.
 fn write_call<W: fmt::Write>(
     f: &mut fmt::Formatter<W>,
     depth: usize,
@@ -103,6 +103,6 @@ fn write_call<W: fmt::Write>(
     }
     write!(
         f,
-        " is made at depth {depth}, and {MOST_DEPTH} is the greatest"
+        " is made at depth {depth}, and the maximum is {MOST_DEPTH}"
     )
 }

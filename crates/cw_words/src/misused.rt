@@ -10,9 +10,9 @@ const NO_COMMAND: &str = "error: unrecognized subcommand '";
 // How `clap` begins the line that shows the form of a command.
 const USAGE: &str = "Usage: cilkwork ";
 
-/// Returns the text of an error of `clap` for these words as the program prints it: control characters are written as
-/// `\xNN`, a file in the place of the command gets the advice to name a command, and an option that the command does not
-/// accept gets the list of the options that it accepts.
+/// Returns the text of an error of `clap` for these words as the program prints it: the bytes of control characters are
+/// written as `\xNN`, a file in the place of the command gets the advice to name a command, and an option that the command
+/// does not accept gets the list of the options that it accepts.
 ///
 /// # Errors
 ///
@@ -60,16 +60,16 @@ fn push_run(out: &mut String, words: &[String]) -> Result<(), AllocError> {
     out.push_str("'\n")
 }
 
-// Returns whether a word looks like the name of a file.
+// Returns whether a word, which a quote follows, looks like the name of a file: standard input is `-`.
 fn names_file(word: &str) -> bool {
-    word.contains('.') || word.contains('/')
+    word.contains('.') || word.contains('/') || word == "-'"
 }
 
 // Adds the advice for an option or a negative number that a command does not accept.
 fn push_tip(out: &mut String, word: &str, verb: Option<Verb>) -> Result<(), AllocError> {
     if is_negative(word) {
         return out.push_str(
-            "  tip: an argument of main is a number from 0 to 9223372036854775807\n",
+            "  tip: a number has no sign; an argument of main is 0 to 9223372036854775807\n",
         );
     }
     match verb {
@@ -87,11 +87,14 @@ fn is_negative(word: &str) -> bool {
     matches!(word.as_bytes(), [b'-', digit, ..] if digit.is_ascii_digit())
 }
 
-// Adds a text with its control characters written as `\xNN`.
+// Adds a text with the bytes of its control characters written as `\xNN`.
 fn push_escaped(out: &mut String, text: &str) -> Result<(), AllocError> {
     for letter in text.chars() {
+        let code = letter as u32;
         if letter.is_ascii_control() {
-            write!(out, "\\x{:02x}", letter as u32)?;
+            write!(out, "\\x{code:02x}")?;
+        } else if code >= 0x80 && code < 0xa0 {
+            write!(out, "\\xc2\\x{code:02x}")?;
         } else {
             out.push(letter)?;
         }

@@ -1,0 +1,362 @@
+//! The errors of names, types and ownership in the functions that parse.
+
+ghost use Rattle.std.specs.Prelude.{IfOk};
+ghost use Rattle.cw_model.specs.Tokens.{IsTokenCut};
+
+use crate::around::word_of;
+use crate::calling::Text;
+use crate::excerpt::column_of;
+use crate::hinting::{closed_return, hint_in, near_main};
+use crate::listing::{Listing, Spot};
+use crate::others::Named;
+use crate::refusals::{OfOwnership, OfTypes, Refusal, Refusals};
+use crate::syntax::Outline;
+use crate::word::Word;
+use cw_lex::lex;
+use cw_model::token::{Kind, Token};
+use cw_own::disowned;
+use cw_parse::{Item, parse};
+use cw_reasons::{At, MOST_TOLD};
+use cw_text::{Fault, Source};
+use cw_tree::syntax::Ast;
+use cw_types::{IllTyped, check, ill_typed};
+use std::alloc::{AllocError, Global};
+
+/// The shortest function `main`.
+const MAIN: &str = "int main(){return 0;}";
+
+/// The tokens of bytes.
+pub fn tokens_of(alloc: Global, bytes: &[u8]) -> Result<(Source, Vec<Token>), Fault>
+    ensures { IfOk result (λ read. IsTokenCut read.0 read.1.items) }
+{
+    let source = Source::read(alloc, bytes)?;
+    let tokens = lex(alloc, &source)?;
+    Ok((source, tokens))
+}
+
+/// A source from which functions are left out.
+#[derive(Drop)]
+struct Remains<'a> {
+    outline: Outline<'a>,
+    /// The repaired text.
+    whole: &'a [u8],
+    text: Vec<u8>,
+    /// The lines of the functions that are left out because of their names or types.
+    lines: Vec<u32>,
+    has_main: bool,
+}
+
+impl<'a> Remains<'a> {
+    // Whether an item has an error.
+    fn is_left_out(&self, item: &Item) -> bool {
+        if !item.is_whole {
+            return true;
+        }
+        let tokens = self.outline.tokens;
+        let (Some(first), Some(last)) = (
+            tokens.get(item.first),
+            tokens.get(item.end.saturating_sub(1)),
+        ) else {
+            return true;
+        };
+        for line in self.lines.as_slice() {
+            if first.line <= *line && *line <= last.line {
+                return true;
+            }
+        }
+        false
+    }
+
+    // Adds the bytes between two places.
+    fn keep(&mut self, from: usize, end: usize) -> Result<(), AllocError> {
+        let bytes = self.whole.get(from..end).unwrap_or(&[]);
+        self.text.extend_from_slice(bytes)?;
+        Ok(())
+    }
+
+    // Adds the line feeds between two places.
+    fn keep_lines(&mut self, from: usize, end: usize) -> Result<(), AllocError> {
+        for byte in self.whole.get(from..end).unwrap_or(&[]) {
+            if *byte == b'\n' {
+                self.text.push(b'\n')?;
+            }
+        }
+        Ok(())
+    }
+
+    // The place after the token before an index.
+    fn end_before(&self, index: usize) -> usize {
+        match self.outline.tokens.get(index.saturating_sub(1)) {
+            Some(token) => token.end as usize,
+            None => self.whole.len(),
+        }
+    }
+
+    // The place of a token.
+    fn start_of(&self, index: usize) -> usize {
+        match self.outline.tokens.get(index) {
+            Some(token) => token.start as usize,
+            None => self.whole.len(),
+        }
+    }
+
+    // Adds an item, or its head with the shortest body, or its line feeds.
+    fn add(&mut self, item: &Item) -> Result<(), AllocError> {
+        let start = self.start_of(item.first);
+        let end = self.end_before(item.end);
+        if !self.is_left_out(item) {
+            self.has_main = self.has_main || self.is_main(item);
+            return self.keep(start, end);
+        }
+        if !item.is_headed || item.body >= item.end {
+            return self.keep_lines(start, end);
+        }
+        self.has_main = self.has_main || self.is_main(item);
+        let body = self.end_before(item.body);
+        self.keep(start, body)?;
+        let kind = self.outline.tokens.get(item.first).map(|token| token.kind);
+        if kind == Some(Kind::Int) {
+            self.text.extend_from_slice(b"return 0;")?;
+        }
+        self.keep_lines(body, end)?;
+        self.text.push(b'}')?;
+        Ok(())
+    }
+
+    // Whether an item is the function main.
+    fn is_main(&self, item: &Item) -> bool {
+        match self.outline.tokens.get(item.first.saturating_add(1)) {
+            Some(token) => word_of(self.whole, *token).is(b"main"),
+            None => false,
+        }
+    }
+}
+
+// The repaired source with the shortest bodies for functions that do not parse, or have one of these lines.
+fn remaining(
+    alloc: Global,
+    outline: &Outline<'_>,
+    whole: &[u8],
+    lines: Vec<u32>,
+) -> Result<Vec<u8>, AllocError> {
+    let mut remains = Remains {
+        outline: *outline,
+        whole,
+        text: Vec::new(alloc),
+        lines,
+        has_main: false,
+    };
+    let mut place = 0;
+    for item in outline.found.items.as_slice() {
+        let start = remains.start_of(item.first);
+        remains.keep_lines(place, start)?;
+        remains.add(item)?;
+        place = remains.end_before(item.end);
+    }
+    remains.keep_lines(place, whole.len())?;
+    if !remains.has_main && is_suspect(outline, b"main") {
+        remains.text.extend_from_slice(MAIN.as_bytes())?;
+    }
+    Ok(remains.text)
+}
+
+/// Whether a name is among tokens that are no function and no reducer, or in a directive, so that it may be declared there.
+pub fn is_suspect(outline: &Outline<'_>, name: &[u8]) -> bool {
+    for item in outline.found.items.as_slice() {
+        if !item.is_headed {
+            let head = outline.tokens.get(item.first..item.body).unwrap_or(&[]);
+            for token in head {
+                if word_of(outline.bytes, *token).is(name) {
+                    return true;
+                }
+            }
+        }
+    }
+    for bad in outline.bad {
+        if bad.is_directive() && bad.has_word(outline.bytes, name) {
+            return true;
+        }
+    }
+    false
+}
+
+// Whether an error may follow from what does not parse.
+fn follows(outline: &Outline<'_>, reason: &IllTyped<'_>) -> bool {
+    match reason {
+        IllTyped::Unknown(name) | IllTyped::NoFunction(name) | IllTyped::NotReducer(name, _) => {
+            is_suspect(outline, name.as_bytes())
+        }
+        _ => false,
+    }
+}
+
+// The line of a return in a block, if a function in this line may end without a return because of it.
+fn inside_of(
+    alloc: Global,
+    first: Option<At<IllTyped<'_>>>,
+    tokens: &[Token],
+) -> Result<Option<u32>, AllocError> {
+    match first {
+        Some(at) => match at.reason {
+            IllTyped::MayNotReturn(_) => closed_return(alloc, tokens, at.line),
+            _ => Ok(None),
+        },
+        None => Ok(None),
+    }
+}
+
+// Adds what the tokens say about a name after the first reason of names and types, if anything.
+fn add_hint(
+    alloc: Global,
+    listing: &mut Listing,
+    file: Named<'_>,
+    outline: &Outline<'_>,
+    at: &At<IllTyped<'_>>,
+) -> Result<(), Fault> {
+    let hint = match at.reason {
+        IllTyped::NoMain => near_main(outline.bytes, outline.tokens),
+        _ => hint_in(alloc, outline.bytes, outline.tokens, at.line)?,
+    };
+    match hint {
+        Some((hint, line)) => listing.add_further(file, line, &hint),
+        None => Ok(()),
+    }
+}
+
+// The number of bytes of a line before the first token that is a name.
+fn column_in(outline: &Outline<'_>, line: u32, name: Word<'_>) -> Option<usize> {
+    for token in outline.tokens {
+        if token.line == line && word_of(outline.bytes, *token).is(name.text) {
+            return Some(column_of(outline.bytes, token.start as usize));
+        }
+    }
+    None
+}
+
+// Adds an error of names, types or ownership.
+fn add_refusal(
+    listing: &mut Listing,
+    outline: &Outline<'_>,
+    refusal: &Refusal<'_>,
+) -> Result<(), Fault> {
+    if !listing.takes() {
+        return Ok(());
+    }
+    let spot = Spot {
+        line: refusal.line,
+        before: column_in(outline, refusal.line, refusal.phrase.names[0]),
+        other: refusal.other_line,
+    };
+    listing.add(spot, &refusal.phrase)
+}
+
+// Adds the errors of names and types, and returns the lines that have one.
+fn add_types(
+    alloc: Global,
+    listing: &mut Listing,
+    file: Named<'_>,
+    outline: &Outline<'_>,
+    ast: &Ast,
+) -> Result<Vec<u32>, Fault> {
+    let mut lines = Vec::new(alloc);
+    let told = ill_typed(alloc, ast)?;
+    let inside = inside_of(alloc, told.first(), outline.tokens)?;
+    let text = Text {
+        bytes: outline.bytes,
+        tokens: outline.tokens,
+    };
+    let told = OfTypes { told, inside, text };
+    listing.begin();
+    let mut is_first = true;
+    for place in 0..MOST_TOLD {
+        if let Some(Some(at)) = told.told.places.get(place) {
+            lines.push(at.line)?;
+            if !follows(outline, &at.reason) {
+                if let Some(refusal) = told.at(place) {
+                    add_refusal(listing, outline, &refusal)?;
+                    if is_first {
+                        add_hint(alloc, listing, file, outline, at)?;
+                    }
+                    is_first = false;
+                }
+            }
+        }
+    }
+    Ok(lines)
+}
+
+// Adds the errors of ownership of a source whose names and types are right.
+fn add_ownership(
+    alloc: Global,
+    listing: &mut Listing,
+    outline: &Outline<'_>,
+    ast: Ast,
+) -> Result<(), Fault> {
+    let typed = check(alloc, ast)?;
+    let told = OfOwnership {
+        told: disowned(alloc, &typed)?,
+        text: Text {
+            bytes: outline.bytes,
+            tokens: outline.tokens,
+        },
+    };
+    listing.begin();
+    for place in 0..MOST_TOLD {
+        if let Some(refusal) = told.at(place) {
+            add_refusal(listing, outline, &refusal)?;
+        }
+    }
+    Ok(())
+}
+
+// The tree of a source, with that of its functions that parse and have none of these lines.
+fn tree_of(
+    alloc: Global,
+    outline: &Outline<'_>,
+    whole: &[u8],
+    lines: Vec<u32>,
+) -> Result<Ast, Fault> {
+    let text = remaining(alloc, outline, whole, lines)?;
+    let (source, tokens) = tokens_of(alloc, text.as_slice())?;
+    let ast = parse(alloc, &source, tokens.as_slice())?;
+    Ok(ast)
+}
+
+// Nothing if the stages cannot read what is left of a source.
+fn unless_memory(added: Result<(), Fault>) -> Result<(), Fault> {
+    match added {
+        Err(Fault::Memory) => Err(Fault::Memory),
+        _ => Ok(()),
+    }
+}
+
+/// Adds the errors of names and types of the functions that parse, and those of ownership of the functions without such errors.
+///
+/// # Errors
+///
+/// `Memory` if memory runs out.
+pub fn add_checks(
+    alloc: Global,
+    listing: &mut Listing,
+    file: Named<'_>,
+    outline: &Outline<'_>,
+    whole: &[u8],
+) -> Result<(), Fault> {
+    unless_memory(add_both(alloc, listing, file, outline, whole))
+}
+
+fn add_both(
+    alloc: Global,
+    listing: &mut Listing,
+    file: Named<'_>,
+    outline: &Outline<'_>,
+    whole: &[u8],
+) -> Result<(), Fault> {
+    let ast = tree_of(alloc, outline, whole, Vec::new(alloc))?;
+    let lines = add_types(alloc, listing, file, outline, &ast)?;
+    if lines.is_empty() {
+        return add_ownership(alloc, listing, outline, ast);
+    }
+    let ast = tree_of(alloc, outline, whole, lines)?;
+    add_ownership(alloc, listing, outline, ast)
+}
