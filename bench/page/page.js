@@ -110,46 +110,84 @@ function findFunctions(run, gains) {
 // Words
 
 const burdenOf = run => group(run.about.burden ?? "15000");
+const code = text => h("code", {}, text);
 
-// The sentence at the top of the page, and what to do next: both are lists of text and elements.
+// The sentence at the top of the page and what to do next, each a list of texts and elements. The rules are those of
+// docs/GUIDE.md, "What you see and what to do".
 function verdict(run) {
   const { work, span, parallelism, burdened_parallelism } = run.program;
   const most = Number(parallelism), burdened = Number(burdened_parallelism);
-  const processors = Number(run.speedup.at(-1)?.processors ?? 64);
-  const name = f => h("code", {}, f.name);
-  const free = f => Number(f.gain.span_if_free);
-  const hot = run.functions.filter(f => f.gain).sort((a, b) => free(a) - free(b))[0];
+  const last = run.speedup.at(-1) ?? { processors: 64 }, many = plural(last.processors, "processor");
   const busy = run.speedup.filter(row => row.processors > 1 && row.speedup >= 0.8 * row.processors).at(-1);
-  const efficient = busy ? ` A greedy schedule keeps up to ${group(busy.processors)} processors at least 80% busy.` : "";
-
+  const busyWords = busy && ` A greedy schedule keeps ${plural(busy.processors, "processor")} at least 80% busy.`;
   if (work === span) {
-    return [["Nothing runs in parallel: work and span are equal, so more processors do not make this run faster."],
-      ["If the program has spawns, move each ", h("code", {}, "cilk_sync"), " after the calls that may run in parallel with them."]];
+    return [["Nothing runs in parallel: the span equals the work, so more processors do not make this run faster."],
+      run.lines.some(text => /\bcilk_(spawn|for)\b/.test(text.replace(/\/\/.*/, "")))
+        ? ["Move each ", code("cilk_sync"), " after the calls that may run in parallel with its spawn."]
+        : ["Spawn calls that do not need each other's results, or make loops parallel: begin with the function that has the most own span."]];
   }
   if (burdened < 1) {
-    return [[`Steals would cost more than they gain: at ${burdenOf(run)} instructions each, this run may well be slower in ` +
-      "parallel than serially."], ["Spawn larger pieces: take a coarser grain or a cut-off, and turn a loop of spawns into halves."]];
+    return [["This run may be slower on many processors than on one: with " + burdenOf(run) +
+      ` instructions for each continuation on a path, the parallelism of ${group(parallelism)} falls below 1.`], spawnAdvice(run)];
   }
-  if (most < processors) {
-    const top = run.functions[0];
-    const serial = hot && share(hot.own_work, hot.own_span);
-    const next = !hot ? [] : free(hot) === 0
-      ? ["All of the span is in ", name(hot), ": put a region around each of its phases to see which one limits it."]
-      : free(hot) > 0.95 * span
-      ? ["No function alone can shorten the span by 5%: several chains are about equally long, and a change has to reach them all."]
-      : ["Look at ", name(hot), ` first: if its instructions took no time, parallelism would be ${group(hot.gain.parallelism_if_free)}. ` +
-        (serial < 1.5 ? "All of its work is on the longest chain, so everything waits for it."
-        : serial > 10 ? "Its calls already run in parallel, so look at its grain or at its longest call."
-        : "Some of its calls run in parallel, but the longest ones do not.")];
+  if (burdened < most / 2 && burdened < last.processors) {
+    return [[`Steals may cost much of the parallelism: with ${burdenOf(run)} instructions for each continuation on a path, it falls from ` +
+      `${group(parallelism)} to ${group(burdened_parallelism)}.`], spawnAdvice(run)];
+  }
+  if (most < last.processors) {
+    const first = limiting(run) ?? run.functions[0];
     return [[`The span limits this run to ${group(parallelism)} times the speed of one processor`,
-      ...(top ? [`, and ${percent(share(top.own_span, span))} of the span is in `, name(top)] : []), "."], [...next, efficient]];
+      ...(first ? [`, and ${percent(share(first.own_span, span))} of the span is in `, code(first.name)] : []), "."],
+      [...spanAdvice(run), busyWords]];
   }
-  if (burdened < processors && burdened < most / 2) {
-    return [[`There is parallelism for ${group(processors)} processors, but steals cost much of it: at ${burdenOf(run)} instructions ` +
-      `each, it falls from ${group(parallelism)} to ${group(burdened_parallelism)}.`],
-      ["Give up parallelism that no machine can use: take a coarser grain or a cut-off.", efficient]];
+  if (burdened < last.processors) {
+    return [[`There is parallelism for ${many} (${group(parallelism)}), but not if each continuation on the path is stolen ` +
+      `(${group(burdened_parallelism)}).`], [...spawnAdvice(run), busyWords]];
   }
-  return [[`This run has parallelism to spare: ${group(parallelism)}, for ${group(processors)} processors.`], [efficient]];
+  if (most < 10 * last.processors) {
+    return [[`There is parallelism for ${many}: ${group(parallelism)}.`, last.speedup &&
+      ` A greedy schedule makes this run ${group(last.speedup)} times as fast as one processor.`], spanAdvice(run)];
+  }
+  const heavy = [...run.functions].sort((a, b) => Number(b.own_work - a.own_work))[0];
+  return [[`This run has parallelism to spare: ${group(parallelism)}, for ${many}.`],
+    heavy ? ["To make it faster, reduce its work: ", code(heavy.name), ` has ${percent(share(heavy.own_work, work))} of it.`] : []];
+}
+
+// The function without whose instructions the span would be least, if it would be 5% less.
+function limiting(run) {
+  const free = f => Number(f.gain.span_if_free);
+  const first = run.functions.filter(f => f.gain).sort((a, b) => free(a) - free(b))[0];
+  return first && free(first) <= 0.95 * run.program.span ? first : null;
+}
+
+// What to do about the span.
+function spanAdvice(run) {
+  const first = limiting(run), { span } = run.program;
+  if (!first) {
+    return run.functions.some(f => f.gain) ? ["No function shortens the span by 5%: many paths are about equally long. Take a smaller grain, " +
+      "or make a change that reaches all of them."] : [];
+  }
+  const free = Number(first.gain.span_if_free), ratio = share(first.own_work, first.own_span);
+  if (free === 0) return ["All of the span is in ", code(first.name), ": put a region around each of its loops to see which one limits it."];
+  return ["Look at ", code(first.name), ` first: if its own instructions took no time, the parallelism would be ` +
+    `${group(first.gain.parallelism_if_free)}. `,
+    ratio >= 1.5 ? ratio > 10 ? "Its calls already run in parallel: take a smaller grain, or shorten its longest call."
+      : "Its small calls run in parallel, but the longest ones do not: make it parallel inside."
+    : first.name === "main" ? "Its own loops are serial: divide them, or move them into calls that run in parallel."
+    : ["Everything waits for it: make it parallel inside or, if it is spawned, move the ", code("cilk_sync"), " down."],
+    span - free < 0.9 * Number(first.own_span) && " Then another path limits the run, so change both."];
+}
+
+// What to do about continuations on the path, by their number.
+function spawnAdvice(run) {
+  const { span, burdened_span } = run.program;
+  const count = Math.round(share(big(burdened_span) - big(span), run.about.burden));
+  const chain = count > 8 && run.sites.find(site => site.kind === "spawn" && site.calls < 2 * count && 2 * site.calls > count);
+  return [`The longest path has about ${plural(count, "continuation")}. `,
+    chain ? ["The spawns of line ", lineLink(chain.line), " follow one another: divide and conquer, or a ", code("cilk_for"),
+      ", leaves only the logarithm of their number on a path."]
+    : count > 40 ? "Many parallel parts follow one another: use fewer, larger ones."
+    : "Make the pieces larger, by a coarser grain or a larger cut-off, or take a larger problem."];
 }
 
 function numbers(run, before) {
@@ -161,12 +199,12 @@ function numbers(run, before) {
       h("dd", { class: "note" }, note));
   };
   return h("dl", { class: "numbers" },
-    item("value", "Value", r => r.about.value, "what main returned"),
-    item("work", "Work", r => r.program?.work, "instructions in all: the time on one processor"),
-    item("span", "Span", r => r.program?.span, "instructions on the longest chain: the time on unlimited processors"),
-    item("span", "Parallelism", r => r.program?.parallelism, "work / span: no machine makes the run faster than this"),
-    item("burdened", "Burdened parallelism", r => r.program?.burdened_parallelism,
-      `what is left if each steal costs ${burdenOf(run)} instructions`));
+    item("work", "Work", r => r.program.work, "instructions in all: the steps on one processor"),
+    item("span", "Span", r => r.program.span, "instructions that must run one after another: the steps on unlimited processors"),
+    item("span", "Parallelism", r => r.program.parallelism, "work / span: no number of processors makes the run faster than this"),
+    item("burdened", "Burdened parallelism", r => r.program.burdened_parallelism,
+      `the same, with ${burdenOf(run)} instructions for each continuation on a path, as if it were stolen`),
+    item("value", "Value", r => r.about.value, "what main returned"));
 }
 
 // The speedup plot
@@ -193,10 +231,10 @@ function speedupSection(run, before) {
     if (i === chosen && caption.textContent !== "") return;
     chosen = Math.max(0, Math.min(rows.length - 1, i));
     const row = rows[chosen];
-    const words = `On ${plural(row.processors, "processor")} ` +
-      (isCount(row.speedup) ? `a greedy schedule takes ${group(row.steps)} steps: ${group(row.speedup)} times as fast as one. `
-        : "no schedule is known, as the run has too many strands. ") +
-      `The bound is ${group(row.speedup_bound)}, and the estimate with the cost of steals ${group(row.burdened_speedup)}.`;
+    const words = `On ${plural(row.processors, "processor")}, ` + (isCount(row.speedup)
+      ? `a greedy schedule takes ${group(row.steps)} steps and is ${group(row.speedup)} times as fast as one processor. The`
+      : "no schedule is known, because the run has too many strands. The") +
+      ` bound is ${group(row.speedup_bound)}, and the estimate that charges steals is ${group(row.burdened_speedup)}.`;
     caption.textContent = words;
     plot.setAttribute("aria-valuenow", chosen + 1);
     plot.setAttribute("aria-valuetext", words);
@@ -218,20 +256,21 @@ function speedupSection(run, before) {
     select(chosen);
   });
   return section("speedup", "Speedup",
-    h("p", { class: "note" }, "Steps are those of a greedy schedule. The bound is the number of processors or the parallelism, " +
-      "whichever is less. Burdened steps are (work + (P - 1) * burdened span) / P."),
+    h("p", { class: "note" }, "A greedy schedule leaves no processor idle while there is work for it, and its steals cost nothing. The bound is " +
+      "the number of processors or the parallelism, whichever is less. Burdened steps, (work + (P - 1) * burdened span) / P, charge steals."),
     h("div", { class: "side" }, h("figure", {}, plot, caption), list.element));
 }
 
-// Draws speedup by processors on two logarithmic axes: the ideal, the bound, the greedy schedule and the burdened
-// estimate. The band reaches from the estimate to the bound. Curves are named at their right ends.
+// Draws speedup by processors on two logarithmic axes: the ideal, the bound, the greedy schedule, the burdened estimate, and
+// the greedy schedule of an earlier run, relative to one processor of this run. The band reaches from the estimate to the
+// bound. Curves are named at their right ends.
 function plotSpeedup(run, before, width, choose) {
   const height = Math.round(Math.min(430, Math.max(280, width * 0.62)));
   const points = (rows, key) => rows.filter(row => isCount(row[key])).map(row => [Number(row.processors), Number(row[key])]);
   const curves = {
     burdened: points(run.speedup, "burdened_speedup"),
     bound: points(run.speedup, "speedup_bound"),
-    before: points(before?.speedup ?? [], "speedup"),
+    before: points(before?.speedup ?? [], "steps").map(([p, steps]) => [p, run.program.work / steps]),
     greedy: points(run.speedup, "speedup"),
   };
   const processors = curves.bound.map(point => point[0]);
@@ -247,7 +286,7 @@ function plotSpeedup(run, before, width, choose) {
   const y = v => bottom - (bottom - top) * Math.max(-0.1, Math.log2(Math.max(v, 1e-9) / low) / Math.log2(high / low));
   const path = list => list.map(([p, v], i) => `${i ? "L" : "M"}${x(p).toFixed(1)} ${y(v).toFixed(1)}`).join("");
   const curve = kind => s("path", { class: "curve " + kind, d: path(curves[kind]) });
-  const dots = (kind, r) => curves[kind].map(([p, v]) => s("circle", { class: kind, cx: x(p), cy: y(v), r }));
+  const dots = (kind, r) => curves[kind].filter(([, v]) => v >= low).map(([p, v]) => s("circle", { class: kind, cx: x(p), cy: y(v), r }));
   const text = (kind, at, line, anchor, words) => s("text", { class: kind, x: at, y: line, "text-anchor": anchor }, words);
 
   const ticks = [];
@@ -274,12 +313,13 @@ function plotSpeedup(run, before, width, choose) {
       return text("soft", x(p), bottom + 17, "middle", group(p));
     }),
     text("soft", (left + right) / 2, bottom + 34, "middle", "processors"),
-    text("soft", 0, 11, "start", "times as fast"),
+    text("soft", 0, 11, "start", "times as fast as one processor"),
     s("g", { "clip-path": "url(#clip)" },
       s("path", { class: "band", d: path(curves.bound) + path(curves.burdened.slice().reverse()).replace("M", "L") + "Z" }),
       s("line", { class: "curve ideal", x1: x(1), y1: y(1), x2: x(exit), y2: y(exit) }),
       bent && s("line", { class: "knee", x1: x(knee), x2: x(knee), y1: y(knee), y2: bottom }),
-      rule, Object.keys(curves).map(curve), dots("burdened", 2.5), dots("greedy", 3.5)),
+      rule, Object.keys(curves).map(curve)),
+    dots("burdened", 2.5), dots("greedy", 3.5),
     text("ideal", x(exit) + 4, top - 6, "end", "ideal"),
     bent && width > 420 && text("bound", x(knee) + (room ? 5 : -5), bottom - 6, room ? "start" : "end", "work / span " + knee.toFixed(3)),
     ends.map(end => text(end.kind, right + 9, end.at + 4, "start", `${end.kind} ${group(end.v.toFixed(3))}`)));
@@ -326,6 +366,7 @@ function sharesFigure(run) {
 // line, if it holds lines of the source; kind, a class; tone(row), another; and share(row), for a bar behind the text.
 const column = (label, of, more) => ({ label, text: row => String((typeof of === "function" ? of(row) : row[of]) ?? ""), ...more });
 const words = { words: true }, line = { line: true };
+const lineLink = (line, shown = line) => h("a", { href: "#L" + line, onclick: follow }, shown);
 
 // The columns of a count: the count itself, and its share of the run's work or span.
 function shared(label, key, kind, run) {
@@ -371,8 +412,8 @@ function sortable(name, rows, columns, { sort = null, total = null } = {}) {
 const cells = (row, columns) => columns.map(({ words, line, kind, tone, text, share }) => {
   const part = share?.(row), shown = words ? text(row) : group(text(row));
   return h("td", { class: [words && "text name", kind, tone?.(row), isGiven(part) && "bar"].filter(name => name).join(" ") || null,
-    "--share": isGiven(part) && percent(Math.min(1, part)) },
-    line && row.line > 0 ? h("a", { href: "#L" + row.line, onclick: follow }, shown) : shown);
+    "--share": isGiven(part) && Math.min(1, part).toFixed(4) },
+    line && row.line > 0 ? lineLink(row.line, shown) : shown);
 });
 
 // Shows count things, ROWS at a time, by show(start, what is shown in words), with buttons if there are more.
@@ -391,11 +432,11 @@ function functionsSection(run) {
   if (run.functions.length === 0) return null;
   const free = key => row => row.gain?.[key];
   return section("functions", "Where work and span go",
-    h("p", {}, "Own work and own span count a function's own instructions, without the calls it makes. A function that is " +
-      "wider in the lower bar than in the upper one holds the others up."),
+    h("p", {}, "Own work and own span exclude the calls inside a function. If a function is wider in the lower bar than in " +
+      "the upper one, the others wait for it."),
     sharesFigure(run),
-    h("p", { class: "note" }, "Own work / own span is 1 if everything waits for the function. Span if free is the span if the " +
-      "function's own instructions took no time: however fast they are made, the span stays that long."),
+    h("p", { class: "note" }, "Own work / own span is 1 if everything waits for the function, and large if its calls run in parallel. " +
+      "Span if free is the span if the function's own instructions took no time: a faster function cannot make it shorter."),
     sortable("Functions", run.functions, [
       column("Function", "name", words),
       column("Line", "line", line),
@@ -403,8 +444,7 @@ function functionsSection(run) {
       ...shared("Own work", "own_work", "work", run),
       ...shared("Own span", "own_span", "span", run),
       column("Own work / own span", row => row.own_span > 0n ? share(row.own_work, row.own_span).toFixed(1) : ""),
-      column("Span if free", free("span_if_free"),
-        { kind: "span", share: row => row.gain && share(row.gain.span_if_free, run.program.span) }),
+      column("Span if free", free("span_if_free")),
       column("Parallelism if free", row => free("span_if_free")(row) === "0" ? "" : free("parallelism_if_free")(row)),
       column("Burdened span if free", free("burdened_span_if_free")),
     ], { sort: 5 }).element);
@@ -425,7 +465,8 @@ function regionsSection(run) {
 function sitesSection(run) {
   if (run.sites.length === 0) return null;
   return section("sites", "Call sites",
-    h("p", { class: "note" }, "Work and span are summed over the calls of a site, with everything they call."),
+    h("p", { class: "note" }, "Work and span include the calls inside. They add up the calls of a site that are not inside another call " +
+      "of the same site, so this span can exceed the span of the run."),
     sortable("Call sites", run.sites, [
       column("Site", "site"),
       column("Kind", "kind", words),
@@ -508,8 +549,8 @@ function sourceSection(run) {
   };
   page.go(0);
   return section("source", "Source",
-    h("p", { class: "note" }, "A line with calls shows what is spent in them. The line of a function's head shows, in bold, " +
-      "what all calls of the function spend. The stripe beside the line numbers is as strong as the function's share of the span."),
+    h("p", { class: "note" }, "A line with a call shows what its calls spend. The line where a function begins shows, in bold, " +
+      "what all calls of the function spend. The stripe by the line numbers is as strong as the function's share of the span."),
     h("div", { class: "scroll" }, h("table", { class: "source" }, caption,
       h("thead", {}, h("tr", {}, columns.map(({ kind, label }) => h("th", { scope: "col", class: kind }, label)),
         h("th", { scope: "col" }, "Line"), h("th", { scope: "col", class: "code" }, "Source"))), body)), page.element);
@@ -565,15 +606,17 @@ function comparisonSection(run, before) {
       [`${name}: ${field.replace("_", " ")}`, then.get(name)?.[field] ?? "", now.get(name)?.[field] ?? "", key === "tag"]));
   };
   const count = (name, field, less) => [name, before.program[field], run.program[field], less];
-  const steps = run.speedup.flatMap(row => {
-    const old = before.speedup.find(other => other.processors === row.processors);
-    return old?.steps && row.steps && row.processors > 1 ? [[`steps on ${row.processors} processors`, old.steps, row.steps, true]] : [];
-  });
+  const earlier = new Map(before.speedup.map(row => [row.processors, row.steps]));
+  const both = run.speedup.filter(row => row.processors > 1 && row.steps && earlier.get(row.processors))
+    .map(row => ({ ...row, before: earlier.get(row.processors) }));
+  const steps = both.map(row => [`steps on ${row.processors} processors`, row.before, row.steps, true]), last = both.at(-1);
   const regions = join("regions", "tag", ["work", "span"]);
   const found = section("comparison", "Compared with " + before.title,
-    differ.length > 0 && h("p", { class: "worse" }, `The two runs differ in ${differ.join(", ")}: read the changes with care.`),
+    differ.length > 0 && h("p", { class: "worse" }, `The runs have different ${differ.join(", ")}: not every change comes from the program.`),
     run.about.value !== before.about.value &&
       h("p", { class: "worse" }, `The value changed from ${group(before.about.value)} to ${group(run.about.value)}.`),
+    last && h("p", {}, `On ${plural(last.processors, "processor")}, a greedy schedule takes ${group(last.steps)} steps instead of ` +
+      `${group(last.before)}. The dotted curve of the plot is the earlier run, relative to one processor of this run.`),
     h("div", { class: "tables" },
       changes("Whole run", [count("work", "work", true), count("span", "span", true), count("parallelism", "parallelism"),
         count("burdened span", "burdened_span", true), count("burdened parallelism", "burdened_parallelism"), ...steps]),

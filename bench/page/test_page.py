@@ -23,7 +23,7 @@ from selenium.webdriver.common.keys import Keys
 
 import assemble
 
-SIZE_LIMIT = 48_000  # bytes of page.css and page.js together
+SIZE_LIMIT = 50_000  # bytes of page.css and page.js together
 TIME_LIMIT = 10      # seconds of a processor in which the greatest page is drawn, and used as a test does
 
 SOURCE = b"""int sum_to(int n) {
@@ -174,7 +174,7 @@ class Pages(unittest.TestCase):
         functions = self.table("#functions")
         self.assertEqual([row[:4] + [row[5]] + row[8:] for row in functions], rows_of(GAIN)[1:])
         figures = self.js("[...document.querySelectorAll('.figure')].map(e => e.textContent)")
-        self.assertEqual(figures, ["-45", "2,597,719", "476,401", "5.452", "3.957"])
+        self.assertEqual(figures, ["2,597,719", "476,401", "5.452", "3.957", "-45"])
         self.assertIn("5.452 times", self.text(".verdict"))
         self.assertEqual(self.text(".output"), "return -45")
 

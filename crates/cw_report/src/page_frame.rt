@@ -7,7 +7,7 @@ const BEFORE_TITLE: &[u8] = br##"<!DOCTYPE html>
 <head>
 <meta charset="utf-8">
 <meta name="viewport" content="width=device-width, initial-scale=1">
-<meta http-equiv="Content-Security-Policy" content="default-src 'none'; script-src 'sha256-GuXgsJF9buzQvmODqJbvZkB2yxQ4VhTcPRG7EC8Vq6w='; style-src 'sha256-S+TslSpGCWJf/GQk7UUU/xSFjiuM0IQR3IKnVzPBJss='; img-src data:; base-uri 'none'; form-action 'none'">
+<meta http-equiv="Content-Security-Policy" content="default-src 'none'; script-src 'sha256-7mjJnSZgjbhbrayjT2Gfom+BTq454ZffQ/W/5oppWmQ='; style-src 'sha256-6mbWN89tbcDRlfXa3Hme4PWH1EwzbmIv5ZIRWPiy/XM='; img-src data:; base-uri 'none'; form-action 'none'">
 <meta name="color-scheme" content="light dark">
 <link rel="icon" href="data:,">
 <title>"##;
@@ -73,7 +73,7 @@ pub fn before_about() -> &'static [u8]
 }
 
 const BEFORE_SCALE: &[u8] = br##"</pre></details>
-<details open><summary>Program and regions</summary>
+<details open><summary>Program and regions (<code>scale</code>)</summary>
 <pre id="data-scale">
 "##;
 
@@ -85,7 +85,7 @@ pub fn before_scale() -> &'static [u8]
 }
 
 const BEFORE_SPEEDUP: &[u8] = br##"</pre></details>
-<details open><summary>Speedup</summary>
+<details open><summary>Speedup (<code>speedup</code>)</summary>
 <pre id="data-speedup">
 "##;
 
@@ -97,7 +97,7 @@ pub fn before_speedup() -> &'static [u8]
 }
 
 const BEFORE_GAIN: &[u8] = br##"</pre></details>
-<details open><summary>Gain</summary>
+<details open><summary>Gain (<code>gain</code>)</summary>
 <pre id="data-gain">
 "##;
 
@@ -109,7 +109,7 @@ pub fn before_gain() -> &'static [u8]
 }
 
 const BEFORE_SITES: &[u8] = br##"</pre></details>
-<details open><summary>Call sites</summary>
+<details open><summary>Call sites (<code>sites</code>)</summary>
 <pre id="data-sites">
 "##;
 
@@ -121,7 +121,7 @@ pub fn before_sites() -> &'static [u8]
 }
 
 const BEFORE_OUTPUT: &[u8] = br##"</pre></details>
-<details open><summary>Output</summary>
+<details open><summary>Output (<code>run</code>)</summary>
 <pre id="data-output">
 "##;
 

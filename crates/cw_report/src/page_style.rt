@@ -38,7 +38,7 @@ const STYLE: &[u8] =
     --span: #f0a058;
     --span-fill: #6f3f14;
     --burden: #c3a1ea;
-    --burden-fill: #2a2436;
+    --burden-fill: #322a42;
     --better: #6fce8c;
     --worse: #ff8f85;
     --added: #17331f;
@@ -104,6 +104,7 @@ button:disabled { opacity: .5; cursor: default; }
 
 svg { display: block; width: 100%; height: auto; overflow: visible; font: 12px var(--sans); }
 svg text { fill: currentColor; }
+#speedup svg text { paint-order: stroke; stroke: var(--paper); stroke-width: 4px; stroke-linejoin: round; }
 svg .curve, svg circle { stroke: currentColor; stroke-width: 2; }
 svg .curve { fill: none; stroke-linejoin: round; }
 svg circle { fill: var(--paper); }
@@ -156,7 +157,8 @@ th button::after { position: absolute; right: -.85em; bottom: 0; content: "\2195
 th button:hover::after, th button:focus-visible::after { opacity: 1; }
 th[aria-sort=ascending] button::after { content: "\2191"; color: inherit; opacity: 1; }
 th[aria-sort=descending] button::after { content: "\2193"; color: inherit; opacity: 1; }
-.bar { min-width: 6.5rem; background-repeat: no-repeat; background-position: 0 50%; background-size: var(--share, 0%) 70%; }
+.bar { min-width: 8.5rem; background-repeat: no-repeat; background-position: .6rem 50%;
+  background-size: calc(var(--share, 0) * (100% - 4.5em)) 60%; }
 td.work.bar { background-image: linear-gradient(var(--work-fill), var(--work-fill)); }
 td.span.bar { background-image: linear-gradient(var(--span-fill), var(--span-fill)); }
 .pager { display: flex; gap: .5rem; align-items: baseline; margin-top: .4rem; }
@@ -190,7 +192,6 @@ td.span.bar { background-image: linear-gradient(var(--span-fill), var(--span-fil
   overflow-wrap: anywhere; }
 .output { max-height: 24rem; overflow: auto; }
 .drawing #reports { display: none; }
-details:has(pre:empty) { display: none; }
 summary { cursor: pointer; padding: .15rem 0; }
 
 @media (max-width: 960px) {
@@ -198,7 +199,7 @@ summary { cursor: pointer; padding: .15rem 0; }
   .side { grid-template-columns: minmax(0, 1fr); }
   table { font-size: .8125rem; }
   th, td { padding: .18rem .35rem; }
-  .bar { min-width: 3.6rem; }
+  .bar { min-width: 6rem; }
   .source .wide { display: none; }
 }
 
@@ -216,12 +217,12 @@ summary { cursor: pointer; padding: .15rem 0; }
   html { font-size: 12px; }
   body { max-width: none; padding: 0; background: none; font-size: 12px; }
   nav, button:not(th button), #reports, svg .rule { display: none; }
-  #speedup svg { font-size: 14px; }
+  #speedup figure { max-width: 130mm; }
   section { margin-top: 1.6rem; }
-  .side { grid-template-columns: minmax(0, 1fr) auto; }
+  .side { grid-template-columns: minmax(0, 1fr); }
   .scroll, .output, .difference { max-height: none; overflow: visible; }
   .bar, .source td.number::after { print-color-adjust: exact; -webkit-print-color-adjust: exact; }
-  .bar { min-width: 4.5rem; }
+  .bar { min-width: 6rem; }
   figure, tr, .numbers div { break-inside: avoid; }
   h2, h3, thead { break-after: avoid; }
 }
