@@ -5,12 +5,15 @@
 
 For NAME.cilk with NAME.args (one argument on each line) the reports are NAME.out (the output of `cilkwork run`), NAME.scale.csv,
 NAME.sites.csv, NAME.gain.csv, NAME.greedy.csv (of `cilkwork greedy 8`) and NAME.speedup.csv (up to 64 processors). It also writes all
-of them as constants of tests into crates/cw_tests/src/examples.
+of them as constants of tests into crates/cw_tests/src/examples. For PAGES, bench/page/assemble.py makes NAME.page.html of them.
 """
 import glob
 import os
 import sys
 
+sys.dont_write_bytecode = True
+sys.path.insert(1, os.path.join(os.path.dirname(os.path.abspath(__file__)), "..", "page"))
+import assemble
 import ref
 from ref import Program, Run, report
 from rules import broken
@@ -19,6 +22,7 @@ from trees import Burden
 TOP = os.path.normpath(os.path.join(os.path.dirname(os.path.abspath(__file__)), "..", ".."))
 MODES = [("run", ".out"), ("scale", ".scale.csv"), ("sites", ".sites.csv"), ("gain", ".gain.csv"), ("greedy", ".greedy.csv"), ("speedup", ".speedup.csv")]
 PROCESSORS = {"greedy": 8, "speedup": 64}
+PAGES = ["mergesort"]
 TEST = [
     "",
     "#[test]",
@@ -56,6 +60,10 @@ def texts_of(name, path):
     fields = [("words", " ".join([name + ".cilk"] + arguments)), ("source", source)]
     fields += [(mode, texts[path + ending]) for mode, ending in MODES]
     texts[os.path.join(TOP, "crates", "cw_tests", "src", "examples", name + ".rt")] = constant(name, fields)
+    if name in PAGES:
+        reports = {mode: texts[path + ending].encode() for mode, ending in MODES}
+        holes = assemble.texts_of(name.encode() + b".cilk", arguments, reports, source.encode())
+        texts[path + ".page.html"] = assemble.page(holes).decode()
     return texts
 
 
