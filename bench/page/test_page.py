@@ -1,27 +1,23 @@
 #!/usr/bin/env python3
 """Tests the page in headless Chromium.
 
-    test_page.py [unittest's words]
+    test_page.py [--if-installed] [unittest's words]
 
-Requires Chromium, its driver and selenium (Debian: chromium, chromium-driver, python3-selenium). The reports here are
-made up or copied from the documents, so that the program is not needed.
+Requires Chromium, its driver and selenium (Debian: chromium, chromium-driver, python3-selenium). With --if-installed, the script
+says so and succeeds if one of them is missing. The reports here are made up or copied from the documents: the program is not needed.
 """
-
 import http.server
 import json
 import os
 import re
+import sys
 import tempfile
 import threading
 import time
 import unittest
 
-from selenium import webdriver
-from selenium.webdriver.chrome.options import Options
-from selenium.webdriver.chrome.service import Service
-from selenium.webdriver.common.keys import Keys
-
 import assemble
+from browser import Browser, Keys
 
 SIZE_LIMIT = 50_000  # bytes of page.css and page.js together
 TIME_LIMIT = 10      # seconds of a processor in which the greatest page is drawn, and used as a test does
@@ -67,6 +63,7 @@ SPEEDUP = b"""processors,steps,speedup,speedup_bound,burdened_steps,burdened_spe
 TEXTS = {"TITLE": b"sum.cilk 9", "HEADING": b"sum.cilk 9", "ABOUT": ABOUT, "SCALE": SCALE, "SPEEDUP": SPEEDUP, "GAIN": GAIN, "SITES": SITES,
          "OUTPUT": b"return -45\n", "SOURCE": SOURCE}
 HACK = b"window.hacked=1"
+PATIENCE = 60  # seconds until a page must have done what it was asked
 
 
 def counts(most: int) -> list:
@@ -88,18 +85,14 @@ def shown(source: bytes) -> str:
 class Pages(unittest.TestCase):
     @classmethod
     def setUpClass(cls):
-        options = Options()
-        for word in ("--headless=new", "--no-sandbox", "--disable-gpu", "--disable-dev-shm-usage", "--window-size=1280,900"):
-            options.add_argument(word)
-        options.set_capability("goog:loggingPrefs", {"browser": "ALL", "performance": "ALL"})
-        cls.driver = webdriver.Chrome(service=Service("/usr/bin/chromedriver"), options=options)
-        cls.driver.set_script_timeout(60)
+        cls.browser = Browser()
+        cls.driver = cls.browser.driver
         cls.driver.execute_cdp_cmd("Performance.enable", {"timeDomain": "threadTicks"})
         cls.folder = tempfile.TemporaryDirectory()
 
     @classmethod
     def tearDownClass(cls):
-        cls.driver.quit()
+        cls.browser.close()
         cls.folder.cleanup()
 
     def setUp(self):
@@ -117,12 +110,22 @@ class Pages(unittest.TestCase):
         self.assertLessEqual(urls, {self.url})
 
     def media(self, **features):
-        self.driver.execute_cdp_cmd("Emulation.setEmulatedMedia", {"media": features.pop("media", ""), "features": [
-            {"name": name.replace("_", "-"), "value": value} for name, value in features.items()]})
+        self.browser.media(**features)
 
-    def width(self, width, height=900):
-        self.driver.execute_cdp_cmd("Emulation.setDeviceMetricsOverride",
-                                    {"width": width, "height": height, "deviceScaleFactor": 1, "mobile": False})
+    def width(self, width):
+        self.browser.width(width)
+
+    def wait(self, condition):
+        """Waits until a condition of the page holds."""
+        end = time.monotonic() + PATIENCE
+        while not self.js(condition):
+            self.assertLess(time.monotonic(), end, condition)
+            time.sleep(0.02)
+
+    def drawn(self):
+        """Waits until the plot is drawn for the width that it has."""
+        self.wait("(() => { const plot = document.querySelector('[role=slider]'); return plot.firstChild?.viewBox.baseVal.width === "
+                  "Math.max(plot.clientWidth, 260); })()")
 
     def write(self, name, data):
         path = os.path.join(self.folder.name, name)
@@ -160,8 +163,9 @@ class Pages(unittest.TestCase):
         return [[cell.replace(",", "") for cell in row] for row in rows]
 
     def compare_with(self, data, name="before.html"):
+        self.js("document.getElementById('load-message').replaceChildren('waiting')")
         self.driver.find_element("css selector", "input[type=file]").send_keys(self.write(name, data))
-        time.sleep(0.5)
+        self.wait("document.getElementById('load-message').textContent !== 'waiting'")
 
     # What is shown
 
@@ -299,7 +303,7 @@ class Pages(unittest.TestCase):
         self.js("""(() => { const files = new DataTransfer();
             files.items.add(new File([arguments[0]], "old.html", { type: "text/html" }));
             dispatchEvent(new DragEvent("drop", { dataTransfer: files, cancelable: true })); })()""", assemble.page(TEXTS).decode())
-        time.sleep(0.5)
+        self.wait("document.getElementById('comparison')")
         self.assertEqual(self.text("#comparison-heading"), "Compared with sum.cilk 9")
 
     def test_keyboard(self):
@@ -389,7 +393,7 @@ class Pages(unittest.TestCase):
             self.open()
             self.compare_with(assemble.page(TEXTS))
             self.assertLessEqual(self.js("document.documentElement.scrollWidth"), width)
-            time.sleep(0.2)
+            self.drawn()
             outside = self.js("""[...document.querySelectorAll("svg text")].filter(e => { const box = e.getBoundingClientRect();
                 return box.width > 0 && (box.right > innerWidth || box.left < 0); }).map(e => e.textContent)""")
             self.assertEqual(outside, [])
@@ -402,7 +406,7 @@ class Pages(unittest.TestCase):
             for width in (400, 1280):
                 self.width(width)
                 self.open(SPEEDUP=SPEEDUP.split(b"\n")[0] + b"\n" + "\n".join(rows).encode(), SCALE=SCALE.replace(b"5.452", parallelism.encode()))
-                time.sleep(0.2)
+                self.drawn()
                 boxes = self.js("""[...document.querySelectorAll("#speedup svg text")].map(e => { const b = e.getBBox();
                     return [b.x, b.y + 2, b.x + b.width, b.y + b.height - 2, e.textContent]; })""")
                 self.assertGreater(len(boxes), 10)
@@ -456,4 +460,7 @@ class Pages(unittest.TestCase):
 
 
 if __name__ == "__main__":
-    unittest.main()
+    if missing := Browser.missing():
+        print("skipped the browser tests, because these are not installed: " + missing)
+        sys.exit("--if-installed" not in sys.argv)
+    unittest.main(argv=[word for word in sys.argv if word != "--if-installed"])

@@ -5,8 +5,8 @@ ghost use Rattle.std.specs.Prelude.{◌≡◌};
 const SCRIPT: &[u8] = br##"// Draws a cilkwork page from the reports that it holds as text.
 //
 // The reports are the only data: each is the text of a <pre>, and every number shown is copied from there or computed
-// from numbers there. Text goes into the page by textContent alone, never as HTML. Counts reach 2^62, so they are shown
-// from their digits, added as BigInt, and turned into a Number only to draw, sort or take a ratio.
+// from numbers there. Text goes into the page by textContent, never as HTML. Counts reach 2^62, so they are shown from
+// their digits, added as BigInt, and turned into a Number only to draw, sort or take a ratio.
 
 "use strict";
 
@@ -116,8 +116,8 @@ function findFunctions(run, gains) {
 const burdenOf = run => group(run.about.burden ?? "15000");
 const code = text => h("code", {}, text);
 
-// The sentence at the top of the page and what to do next, each a list of texts and elements. The rules are those of
-// docs/GUIDE.md, "What you see and what to do".
+// The sentence at the top of the page and what to do next, each a list of texts and elements, by the tables of
+// docs/GUIDE.md ("What you see and what to do").
 function verdict(run) {
   const { work, span, parallelism, burdened_parallelism } = run.program;
   const most = Number(parallelism), burdened = Number(burdened_parallelism);
@@ -367,7 +367,7 @@ function sharesFigure(run) {
 // Tables
 
 // A column of a table: its label, and the name of a field or a function of a row. It may have words, if it holds text;
-// line, if it holds lines of the source; kind, a class; tone(row), another; and share(row), for a bar behind the text.
+// line, if it holds lines of the source; kind, a class; tone(row), another; and share(row), for a bar beside the text.
 const column = (label, of, more) => ({ label, text: row => String((typeof of === "function" ? of(row) : row[of]) ?? ""), ...more });
 const words = { words: true }, line = { line: true };
 const lineLink = (line, shown = line) => h("a", { href: "#L" + line, onclick: follow }, shown);

@@ -194,9 +194,13 @@ td.span.bar { background-image: linear-gradient(var(--span-fill), var(--span-fil
 .drawing #reports { display: none; }
 summary { cursor: pointer; padding: .15rem 0; }
 
+@media (max-width: 1100px) {
+  .side { grid-template-columns: minmax(0, 1fr); }
+  .side figure { max-width: 46rem; }
+}
+
 @media (max-width: 960px) {
   body { padding: 1rem 1rem 3rem; }
-  .side { grid-template-columns: minmax(0, 1fr); }
   table { font-size: .8125rem; }
   th, td { padding: .18rem .35rem; }
   .bar { min-width: 6rem; }
