@@ -182,7 +182,7 @@ function spanAdvice(run) {
 function spawnAdvice(run) {
   const { span, burdened_span } = run.program;
   const count = Math.round(share(big(burdened_span) - big(span), run.about.burden));
-  const chain = count > 8 && run.sites.find(site => site.kind === "spawn" && site.calls < 2 * count && 2 * site.calls > count);
+  const chain = count > 16 && run.sites.find(site => site.kind === "spawn" && Math.abs(site.calls - count) < count / 10);
   return [`The longest path has about ${plural(count, "continuation")}. `,
     chain ? ["The spawns of line ", lineLink(chain.line), " follow one another: divide and conquer, or a ", code("cilk_for"),
       ", leaves only the logarithm of their number on a path."]
@@ -443,7 +443,7 @@ function functionsSection(run) {
       column("Calls", "calls"),
       ...shared("Own work", "own_work", "work", run),
       ...shared("Own span", "own_span", "span", run),
-      column("Own work / own span", row => row.own_span > 0n ? share(row.own_work, row.own_span).toFixed(1) : ""),
+      column("Own\u00a0work\u00a0/ own\u00a0span", row => row.own_span > 0n ? share(row.own_work, row.own_span).toFixed(1) : ""),
       column("Span if free", free("span_if_free")),
       column("Parallelism if free", row => free("span_if_free")(row) === "0" ? "" : free("parallelism_if_free")(row)),
       column("Burdened span if free", free("burdened_span_if_free")),

@@ -204,6 +204,21 @@ class Pages(unittest.TestCase):
         code = self.js("[...document.querySelectorAll('#source .code')].slice(1).map(td => td.textContent)")
         self.assertEqual(code, SOURCE.decode().splitlines())
 
+    def test_verdict(self):
+        for scale, sentence, advice in (
+            ("1000,1000,1.000,1000,1.000", "Nothing runs in parallel", "Move each cilk_sync"),
+            ("257707,22746,11.329,30022009,0.008", "slower on many processors than on one", "about 2,000 continuations. Many parallel parts"),
+            ("2597719,22746,114.205,60007746,0.043", "slower on many processors than on one", "The spawns of line 6 follow one another"),
+            ("2597719,26401,98.394,156338,16.616", "falls from 98.394 to 16.616", "about 9 continuations. Make the pieces larger"),
+            ("2597719,476401,5.452,656338,3.957", "The span limits this run to 5.452 times", "Look at sum_to first"),
+            ("100000000,1000000,100.000,1700000,58.823", "(100.000), but not if each continuation", "about 47 continuations"),
+            ("100000000,1000000,100.000,1100000,90.909", "There is parallelism for 64 processors: 100.000.", "Look at sum_to first"),
+            ("100000000,10000,10000.000,11000,9090.909", "to spare: 10,000.000, for 64", "sum_to has 2.5% of it"),
+        ):
+            self.open(SCALE=SCALE.split(b"\n")[0] + b"\n," + scale.encode() + b"\n")
+            self.assertIn(sentence, self.text(".verdict"))
+            self.assertIn(advice, self.text(".advice"))
+
     def test_without_schedule(self):
         rows = [row[:1] + ["", ""] + row[3:] for row in rows_of(SPEEDUP)]
         csv = SPEEDUP.split(b"\n")[0] + b"\n" + "\n".join(map(",".join, rows)).encode() + b"\n"

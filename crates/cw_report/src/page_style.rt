@@ -157,8 +157,9 @@ th button::after { position: absolute; right: -.85em; bottom: 0; content: "\2195
 th button:hover::after, th button:focus-visible::after { opacity: 1; }
 th[aria-sort=ascending] button::after { content: "\2191"; color: inherit; opacity: 1; }
 th[aria-sort=descending] button::after { content: "\2193"; color: inherit; opacity: 1; }
-.bar { min-width: 8.5rem; background-repeat: no-repeat; background-position: .6rem 50%;
-  background-size: calc(var(--share, 0) * (100% - 4.5em)) 60%; }
+.bar { min-width: 8.5rem; background-repeat: no-repeat; background-position: .6rem .45em;
+  background-size: calc(var(--share, 0) * (100% - 4.8em)) 1.05em; }
+.source .bar { background-position-y: .25em; }
 td.work.bar { background-image: linear-gradient(var(--work-fill), var(--work-fill)); }
 td.span.bar { background-image: linear-gradient(var(--span-fill), var(--span-fill)); }
 .pager { display: flex; gap: .5rem; align-items: baseline; margin-top: .4rem; }
@@ -214,6 +215,7 @@ summary { cursor: pointer; padding: .15rem 0; }
   .numbers .figure { font-size: 1.25rem; }
   nav .compare { margin-left: 0; }
   .source .middle { display: none; }
+  .source .bar { min-width: 3rem; background-position-x: 0; background-size: calc(var(--share, 0) * 100%) 1.05em; }
 }
 
 @media print {
