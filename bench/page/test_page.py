@@ -211,9 +211,10 @@ class Pages(unittest.TestCase):
             ("2597719,22746,114.205,60007746,0.043", "slower on many processors than on one", "The spawns of line 6 follow one another"),
             ("2597719,26401,98.394,156338,16.616", "falls from 98.394 to 16.616", "about 9 continuations. Make the pieces larger"),
             ("2597719,476401,5.452,656338,3.957", "The span limits this run to 5.452 times", "Look at sum_to first"),
-            ("100000000,1000000,100.000,1700000,58.823", "(100.000), but not if each continuation", "about 47 continuations"),
+            ("100000000,1000000,100.000,1700000,58.823", "64 processors (100.000), but not with 15,000 instructions", "about 47 continuations"),
             ("100000000,1000000,100.000,1100000,90.909", "There is parallelism for 64 processors: 100.000.", "Look at sum_to first"),
             ("100000000,10000,10000.000,11000,9090.909", "to spare: 10,000.000, for 64", "sum_to has 2.5% of it"),
+            ("100000000,10000,10000.000,100000,1000.000", "for each continuation on a path, 1,000.000 is left.", "reduce its work"),
         ):
             self.open(SCALE=SCALE.split(b"\n")[0] + b"\n," + scale.encode() + b"\n")
             self.assertIn(sentence, self.text(".verdict"))
@@ -403,7 +404,7 @@ class Pages(unittest.TestCase):
     # Looks
 
     def test_no_sideways_scroll(self):
-        for width in (400, 800, 1280):
+        for width in (360, 400, 800, 1280):
             self.width(width)
             self.open()
             self.compare_with(assemble.page(TEXTS))
