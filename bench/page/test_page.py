@@ -284,13 +284,15 @@ class Pages(unittest.TestCase):
     def test_comparison(self):
         self.quiet = False  # Chromium reports what it did not run
         self.open()
-        before = {**TEXTS, "HEADING": b"old.cilk 9", "SCALE": SCALE.replace(b"476401,5.452", b"952802,2.726"),
+        before = {**TEXTS, "HEADING": b"old.cilk 9", "SCALE": SCALE.replace(b"476401,5.452", b"952802,2.726").replace(b"2517690,396372", b"2517700,396372") + b"old,7,7,1.000,7,1.000\n",
                   "SOURCE": SOURCE.replace(b"n < 2", b"n < 3").replace(b"  cilk_sync;\n", b"")}
         self.compare_with(assemble.page(before).replace(b"<main", b"<script>" + HACK + b"</script><img src=x onerror='" + HACK + b"'><main"))
         self.assertEqual(self.text("#comparison-heading"), "Compared with old.cilk 9")
         whole = {row[0]: row[1:] for row in self.table("#comparison")}
         self.assertEqual(whole["span"], ["952802", "476401", "\u221250.0%", "better"])
         self.assertEqual(whole["work"], ["2597719", "2597719", "same", ""])
+        self.assertEqual(whole["whole: work"], ["2517700", "2517690", "less than 0.1%", "better"])
+        self.assertEqual(whole["old: work"], ["7", "", "gone", ""])
         self.assertEqual(whole["steps on 8 processors"], ["729429", "729429", "same", ""])
         self.assertEqual(whole["sum_to: own span"], ["396371", "396371", "same", ""])
         changed = self.js("[...document.querySelectorAll('.difference .added, .difference .removed')].map(e => e.textContent)")

@@ -594,9 +594,11 @@ function changes(name, rows) {
     if (from === "" || to === "") return to === "" ? "gone" : "new";
     if (String(from) === String(to)) return "same";
     if (ratio >= 10) return "\u00d7" + group(ratio.toFixed(0));
-    return Number(from) === 0 ? "" : (ratio < 1 ? "\u2212" : "+") + percent(Math.abs(ratio - 1));
+    if (Number(from) === 0) return "";
+    return Math.abs(ratio - 1) < 0.0005 ? "less than 0.1%" : (ratio < 1 ? "\u2212" : "+") + percent(Math.abs(ratio - 1));
   };
-  const tone = ([, from, to, less]) => !less || Number(from) === Number(to) ? "" : Number(to) < Number(from) ? "better" : "worse";
+  const tone = ([, from, to, less]) => !less || from === "" || to === "" || Number(from) === Number(to) ? ""
+    : Number(to) < Number(from) ? "better" : "worse";
   return h("div", {}, h("h3", {}, name), sortable(name, rows, [
     column("Count", 0, words), column("Before", 1), column("After", 2), column("Change", by, { tone }), column("", tone, { ...words, tone }),
   ]).element);
