@@ -4,8 +4,9 @@
     gate.py
 
 1. The samples take a few minutes: the reports of examples/ against the independent implementation, that implementation
-   against answers worked out by hand, the random programs of the tests of worlds, the list of definitions in docs/PROOFS.md,
-   the texts of all mutants, and some mutated clauses. In parallel, ./build makes and installs the program into a temporary
+   against answers worked out by hand, the random programs of the tests of worlds, the constants of the page against its files,
+   the page in a browser if one is installed, the list of definitions in docs/PROOFS.md, the texts of all mutants, and some
+   mutated clauses. In parallel, ./build makes and installs the program into a temporary
    folder. If one of them fails, nothing else is run.
 2. `rt ci` proves and tests all crates.
 3. The program that `rt ci` built must be, byte for byte, the one of ./build, and have its SHA-256 in building/PROVED;
@@ -50,6 +51,8 @@ BEFORE = [
     ["bench/reference/examples.py", "--check"],
     ["bench/reference/check.py"],
     ["bench/reference/walks.py", "--check"],
+    ["bench/page/constants.py", "--check"],
+    ["bench/page/test_page.py", "--if-installed"],
     ["bench/unfolded.py", "--check"],
     ["bench/wrong/wrong.py"],
     ["bench/turned/turn.py", "--turn", NUMBER, "--jobs", "4"],
@@ -57,7 +60,7 @@ BEFORE = [
 SEEDS = ["1", "40", "consts"]
 WRONG = ["bench/wrong/wrong.py", "--turn", NUMBER, "--jobs", str(min(LANES, 2))]
 # seconds of processor time of everything except `rt ci`
-SAMPLES = 1100
+SAMPLES = 1200
 INSTALLED = ["bin/cilkwork"] + ["share/doc/cilkwork/" + it for it in ("GUIDE.md", "LANGUAGE.md", "examples/fib.cilk")]
 WORDED = ["man/man1/cilkwork.1", "bash-completion/completions/cilkwork", "zsh/site-functions/_cilkwork", "fish/vendor_completions.d/cilkwork.fish"]
 

@@ -11,11 +11,15 @@ import glob
 import os
 import sys
 
-import ref
-from ref import Program, Run, report
-from rules import broken
-from trees import Burden
+sys.dont_write_bytecode = True
+sys.path.insert(1, os.path.join(os.path.dirname(os.path.abspath(__file__)), "..", "page"))
+import assemble  # noqa: E402
+import ref  # noqa: E402
+from ref import Program, Run, report  # noqa: E402
+from rules import broken  # noqa: E402
+from trees import Burden  # noqa: E402
 
+PAGES = ["mergesort"]  # with NAME.page.html, made of the reports
 TOP = os.path.normpath(os.path.join(os.path.dirname(os.path.abspath(__file__)), "..", ".."))
 MODES = [("run", ".out"), ("scale", ".scale.csv"), ("sites", ".sites.csv"), ("gain", ".gain.csv"), ("greedy", ".greedy.csv"), ("speedup", ".speedup.csv")]
 PROCESSORS = {"greedy": 8, "speedup": 64}
@@ -56,6 +60,10 @@ def texts_of(name, path):
     fields = [("words", " ".join([name + ".cilk"] + arguments)), ("source", source)]
     fields += [(mode, texts[path + ending]) for mode, ending in MODES]
     texts[os.path.join(TOP, "crates", "cw_tests", "src", "examples", name + ".rt")] = constant(name, fields)
+    if name in PAGES:
+        reports = {mode: texts[path + ending].encode() for mode, ending in MODES}
+        holes = assemble.texts_of(name.encode() + b".cilk", arguments, reports, source.encode())
+        texts[path + ".page.html"] = assemble.page(holes).decode()
     return texts
 
 
