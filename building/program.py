@@ -45,7 +45,7 @@ def link(kit, file, to):
 
 def build(kit, folder, say):
     """Makes the program in a folder and returns its path; reports each step."""
-    say("compiling the sources and the kit's libraries to LLVM code: about a minute, 1.5 GiB of memory")
+    say("compiling the sources and the kit's libraries to LLVM code: about a minute, 1.6 GiB of memory")
     arguments = write_module(kit, folder, folder / "program.ll")
     say("optimising it: a minute or two, 0.5 GB of memory")
     compile_module(kit, arguments, folder / "program.ll", folder / "program.o")

@@ -29,13 +29,17 @@ def minutes(seconds):
 
 
 class Progress:
-    """Reports each crate that is proved, and how long the others will take."""
+    """Reports each crate that is proved, with the minutes since the start, and how long the others will take."""
 
     def __init__(self, crates, say):
         self.seconds = {it.name: costs.measured().get(it.name, costs.SMALL)[0] for it in crates}
         self.uses = {it.name: [dep.name for dep in it.deps] for it in crates}
         self.left, self.say = list(self.seconds), say
-        self.begun, self.proved = time.monotonic(), 0
+        self.begun, self.proved, self.kept = time.monotonic(), 0, 0
+
+    def elapsed(self):
+        """Returns the minutes since the start."""
+        return (time.monotonic() - self.begun) / 60
 
     def remaining(self):
         """Returns an estimate of the seconds that are left, at the pace of the proofs so far."""
@@ -44,12 +48,22 @@ class Progress:
 
     def read(self, line):
         """Reads a line of `rt ci`, and reports the crate that it says is proved."""
-        found = re.match(r"rt: (\w+) (proved$|is kept)", line)
-        if found and found[1] in self.left:
-            self.left.remove(found[1])
-            self.proved += self.seconds[found[1]] if found[2] == "proved" else 0
-            ahead = f"{len(self.left)} of {len(self.seconds)} left, {minutes(self.remaining())}" if self.left else "none left"
-            self.say(f"proved {found[1]}{'' if found[2] == 'proved' else ' by an earlier run'}; {ahead}")
+        found = re.match(r"rt: (\w+) (proved$|is kept|NOT PROVED)", line)
+        if not found or found[1] not in self.left:
+            return
+        if found[2] == "NOT PROVED":
+            self.say(f"{self.elapsed():4.0f} min: {found[1]} is NOT PROVED")
+            return
+        self.left.remove(found[1])
+        is_kept = found[2] != "proved"
+        self.kept += is_kept
+        self.proved += 0 if is_kept else self.seconds[found[1]]
+        ahead = f"{len(self.left)} of {len(self.seconds)} left, {minutes(self.remaining())}" if self.left else "none left"
+        self.say(f"{self.elapsed():4.0f} min: proved {found[1]}{' by an earlier run' if is_kept else ''}; {ahead}")
+
+    def conclude(self):
+        """Reports the total time."""
+        self.say(f"proved {len(self.seconds)} crates, {self.kept} of them by earlier runs, and built the program in {self.elapsed():.1f} minutes")
 
 
 def copy_crates(top, crates, to):
@@ -106,4 +120,5 @@ def prove(kit, top, to, say):
             progress.read(line)
     if ran.returncode or not (to / PROGRAM).exists():
         sys.exit(f"Not proved (status {ran.returncode}):\n{''.join(lines[-40:])}")
+    progress.conclude()
     return to

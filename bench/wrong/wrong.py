@@ -56,9 +56,10 @@ REFUSED, LET_THROUGH, BAD, NOT_TRIED = "refused", "let through", "bad edit", "no
 LATEST = 600
 # Every crate is in the sample of at least one of so many commits.
 PERIOD = 10
-# Seconds of processor time: of a sample, of the mutants of one crate in it, and of a proof of a function from nothing.
-SAMPLE = 700
-SHARE = 300
+# Seconds of processor time: of a sample (more only if one mutant takes longer), of the mutants of one crate in it, and of a proof
+# of a function from nothing.
+SAMPLE = 450
+SHARE = 250
 EACH = 2
 # a crate that budget.csv does not list
 SMALL = 60
