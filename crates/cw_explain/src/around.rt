@@ -14,7 +14,7 @@ const MOST_TYPES: usize = 8;
 const MOST_SEARCHED: usize = 8_192;
 
 /// The most tokens of a source in which a name is looked up.
-const MOST_DECLARED: usize = 65_536;
+const MOST_DECLARED: usize = 16_384;
 
 /// An open bracket: its token and place, and the place and kind of the first token of its statement.
 #[derive(Clone, Copy)]

@@ -5,7 +5,7 @@ ghost use Rattle.cw_model.specs.Tokens.{IsTokenCut};
 
 use crate::around::word_of;
 use crate::calling::Text;
-use crate::excerpt::column_of;
+use crate::excerpt::line_start;
 use crate::hinting::{closed_return, hint_in, near_main};
 use crate::listing::{Listing, Spot};
 use crate::others::Named;
@@ -133,10 +133,10 @@ impl<'a> Remains<'a> {
 }
 
 // The repaired source with the shortest bodies for functions that do not parse, or have one of these lines.
-fn remaining(
+fn remaining<'a>(
     alloc: Global,
-    outline: &Outline<'_>,
-    whole: &[u8],
+    outline: &Outline<'a>,
+    whole: &'a [u8],
     lines: Vec<u32>,
 ) -> Result<Vec<u8>, AllocError> {
     let mut remains = Remains {
@@ -186,8 +186,24 @@ fn follows(outline: &Outline<'_>, reason: &IllTyped<'_>) -> bool {
         IllTyped::Unknown(name) | IllTyped::NoFunction(name) | IllTyped::NotReducer(name, _) => {
             is_suspect(outline, name.as_bytes())
         }
+        IllTyped::MayNotReturn(name) => is_cut_off(outline, name.as_bytes()),
         _ => false,
     }
+}
+
+// Whether what follows the functions with this name is neither a function nor a reducer, as after a `}` too early.
+fn is_cut_off(outline: &Outline<'_>, name: &[u8]) -> bool {
+    let mut is_last = false;
+    for item in outline.found.items.as_slice() {
+        if is_last && !item.is_headed && item.body == item.end {
+            return true;
+        }
+        is_last = match outline.tokens.get(item.first.saturating_add(1)) {
+            Some(token) => word_of(outline.bytes, *token).is(name),
+            None => false,
+        };
+    }
+    false
 }
 
 // The line of a return in a block, if a function in this line may end without a return because of it.
@@ -223,14 +239,18 @@ fn add_hint(
     }
 }
 
-// The number of bytes of a line before the first token that is a name.
-fn column_in(outline: &Outline<'_>, line: u32, name: Word<'_>) -> Option<usize> {
+// Where a name is in a line.
+fn spot_of(outline: &Outline<'_>, line: u32, name: Word<'_>, other: Option<u32>) -> Spot {
     for token in outline.tokens {
+        if token.line > line {
+            break;
+        }
         if token.line == line && word_of(outline.bytes, *token).is(name.text) {
-            return Some(column_of(outline.bytes, token.start as usize));
+            let place = token.start as usize;
+            return Spot::at(line, line_start(outline.bytes, place), place, other);
         }
     }
-    None
+    Spot::of_line(line, other)
 }
 
 // Adds an error of names, types or ownership.
@@ -242,11 +262,8 @@ fn add_refusal(
     if !listing.takes() {
         return Ok(());
     }
-    let spot = Spot {
-        line: refusal.line,
-        before: column_in(outline, refusal.line, refusal.phrase.names[0]),
-        other: refusal.other_line,
-    };
+    let name = refusal.phrase.names[0];
+    let spot = spot_of(outline, refusal.line, name, refusal.other_line);
     listing.add(spot, &refusal.phrase)
 }
 
@@ -285,8 +302,12 @@ fn add_types(
     Ok(lines)
 }
 
-// Adds the errors of ownership of a source whose names and types are right.
-fn add_ownership(
+/// Adds the errors of ownership of a program whose names and types are right.
+///
+/// # Errors
+///
+/// `Memory` if memory runs out; another fault if they are not.
+pub fn add_ownership(
     alloc: Global,
     listing: &mut Listing,
     outline: &Outline<'_>,
@@ -309,11 +330,11 @@ fn add_ownership(
     Ok(())
 }
 
-// The tree of a source, with that of its functions that parse and have none of these lines.
-fn tree_of(
+// The tree of the functions that parse and have none of these lines.
+fn tree_of<'a>(
     alloc: Global,
-    outline: &Outline<'_>,
-    whole: &[u8],
+    outline: &Outline<'a>,
+    whole: &'a [u8],
     lines: Vec<u32>,
 ) -> Result<Ast, Fault> {
     let text = remaining(alloc, outline, whole, lines)?;
@@ -322,41 +343,71 @@ fn tree_of(
     Ok(ast)
 }
 
-// Nothing if the stages cannot read what is left of a source.
-fn unless_memory(added: Result<(), Fault>) -> Result<(), Fault> {
+/// Returns nothing if the stages cannot read what is left of a source.
+///
+/// # Errors
+///
+/// `Memory` if memory ran out.
+pub fn unless_memory(added: Result<(), Fault>) -> Result<(), Fault> {
     match added {
         Err(Fault::Memory) => Err(Fault::Memory),
         _ => Ok(()),
     }
 }
 
-/// Adds the errors of names and types of the functions that parse, and those of ownership of the functions without such errors.
+/// Adds the errors of names and types of the functions that parse, and the errors of ownership of the functions without such
+/// errors.
 ///
 /// # Errors
 ///
-/// `Memory` if memory runs out.
-pub fn add_checks(
+/// `Memory` if memory runs out; another fault if the stages cannot read these functions.
+pub fn add_checks<'a>(
     alloc: Global,
     listing: &mut Listing,
     file: Named<'_>,
-    outline: &Outline<'_>,
-    whole: &[u8],
-) -> Result<(), Fault> {
-    unless_memory(add_both(alloc, listing, file, outline, whole))
-}
-
-fn add_both(
-    alloc: Global,
-    listing: &mut Listing,
-    file: Named<'_>,
-    outline: &Outline<'_>,
-    whole: &[u8],
+    outline: &Outline<'a>,
+    whole: &'a [u8],
 ) -> Result<(), Fault> {
     let ast = tree_of(alloc, outline, whole, Vec::new(alloc))?;
+    let lines = add_checks_of(alloc, listing, file, outline, ast)?;
+    if lines.is_empty() {
+        return Ok(());
+    }
+    add_others(alloc, listing, outline, whole, lines)
+}
+
+/// Adds the errors of names and types of a program, or, if it has no such error, the errors of ownership; returns the lines of
+/// the errors of names and types.
+///
+/// # Errors
+///
+/// `Memory` if memory runs out; another fault if the tree is too large.
+pub fn add_checks_of(
+    alloc: Global,
+    listing: &mut Listing,
+    file: Named<'_>,
+    outline: &Outline<'_>,
+    ast: Ast,
+) -> Result<Vec<u32>, Fault> {
     let lines = add_types(alloc, listing, file, outline, &ast)?;
     if lines.is_empty() {
-        return add_ownership(alloc, listing, outline, ast);
+        add_ownership(alloc, listing, outline, ast)?;
     }
+    Ok(lines)
+}
+
+/// Adds the errors of ownership of the functions that parse and have none of these lines.
+///
+/// # Errors
+///
+/// `Memory` if memory runs out; another fault if the stages cannot read these functions.
+pub fn add_others<'a>(
+    alloc: Global,
+    listing: &mut Listing,
+    outline: &Outline<'a>,
+    whole: &'a [u8],
+    lines: Vec<u32>,
+) -> Result<(), Fault> {
     let ast = tree_of(alloc, outline, whole, lines)?;
     add_ownership(alloc, listing, outline, ast)
 }

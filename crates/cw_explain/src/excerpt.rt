@@ -74,17 +74,16 @@ fn digits(number: u32) -> usize {
     }
 }
 
-/// Returns the number of bytes between the start of a line and a place in it.
-pub fn column_of(source: &[u8], place: usize) -> usize {
-    let mut column: usize = 0;
-    for byte in source.get(..place).unwrap_or(source) {
-        column = if *byte == b'\n' {
-            0
-        } else {
-            column.saturating_add(1)
-        };
+/// Returns the place where the line begins that has a place.
+pub fn line_start(source: &[u8], place: usize) -> usize {
+    let mut at = place;
+    for _ in 0..place {
+        match source.get(at.saturating_sub(1)) {
+            Some(b'\n') => return at,
+            _ => at = at.saturating_sub(1),
+        }
     }
-    column
+    at
 }
 
 /// The lines that an explanation shows.
@@ -96,6 +95,23 @@ pub struct Lines {
     pub other: Option<u32>,
     /// The number of bytes of the line before the error, if it is known.
     pub before: Option<usize>,
+    /// The place where the line begins, if it is known.
+    pub start: Option<usize>,
+}
+
+/// The most bytes of a line that are read.
+const MOST_BYTES: usize = 640;
+
+// The first bytes of a line that begins at a place, if that is known.
+fn text_of(source: &[u8], line: u32, start: Option<usize>) -> &[u8] {
+    let text = match start {
+        Some(start) => {
+            let end = start.saturating_add(MOST_BYTES).min(source.len());
+            first_line(source.get(start..end).unwrap_or(&[]))
+        }
+        None => line_of(source, line),
+    };
+    text.get(..MOST_BYTES).unwrap_or(text)
 }
 
 /// Adds these lines of the source, each once, the least first, with their numbers before them, and a caret below the error.
@@ -103,14 +119,15 @@ pub fn add_lines(out: &mut String, source: &[u8], lines: Lines) -> Result<(), Al
     let other = lines.other.unwrap_or(lines.line);
     let columns = digits(lines.line.max(other));
     if other < lines.line {
-        add_line(out, source, other, columns)?;
+        add_line(out, text_of(source, other, None), other, columns)?;
     }
-    add_line(out, source, lines.line, columns)?;
+    let text = text_of(source, lines.line, lines.start);
+    add_line(out, text, lines.line, columns)?;
     if let Some(before) = lines.before {
-        add_caret(out, line_of(source, lines.line), before, columns)?;
+        add_caret(out, text, before, columns)?;
     }
     if other > lines.line {
-        add_line(out, source, other, columns)?;
+        add_line(out, text_of(source, other, None), other, columns)?;
     }
     Ok(())
 }
@@ -145,9 +162,9 @@ fn add_caret(
     out.push_str("^\n")
 }
 
-// Adds a line of the source, with its number in this number of columns.
-fn add_line(out: &mut String, source: &[u8], line: u32, columns: usize) -> Result<(), AllocError> {
-    let text = trimmed(line_of(source, line));
+// Adds a line of the source with this text, with its number in this number of columns.
+fn add_line(out: &mut String, text: &[u8], line: u32, columns: usize) -> Result<(), AllocError> {
+    let text = trimmed(text);
     if text.is_empty() {
         return Ok(());
     }

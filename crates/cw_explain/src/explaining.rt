@@ -1,6 +1,8 @@
 //! From a fault to its explanation.
 
-use crate::checking::{add_checks, tokens_of};
+use crate::checking::{
+    add_checks, add_checks_of, add_others, add_ownership, tokens_of, unless_memory,
+};
 use crate::excerpt::{Lines, add_lines};
 use crate::limits;
 use crate::listing::{Listing, Spot};
@@ -15,11 +17,11 @@ use cw_model::limits::MOST_SOURCE_BYTES;
 use cw_model::token::Token;
 use cw_model::trap::Trap;
 use cw_own::own;
-use cw_parse::{Recovered, parse, passed_by_tokens, recover};
+use cw_parse::{Item, Recovered, parse, passed_by_tokens, recover};
 use cw_text::Fault;
 use cw_tree::syntax::Ast;
 use cw_types::{check, too_large};
-use std::alloc::Global;
+use std::alloc::{AllocError, Global};
 use std::fmt;
 
 /// A source that is rejected, with the words that it was run with.
@@ -81,9 +83,9 @@ fn add_reason(
     fault: &Fault,
 ) -> Result<(), Fault> {
     match fault {
-        Fault::Lexical(_) | Fault::Syntax(_) | Fault::Types(_) | Fault::Ownership(_) => {
-            of_source(alloc, out, refused)
-        }
+        Fault::Lexical(_) | Fault::Syntax(_) => of_source(alloc, out, refused),
+        Fault::Types(_) => of_program(alloc, out, refused, true),
+        Fault::Ownership(_) => of_program(alloc, out, refused, false),
         Fault::Size(place) => of_size(alloc, out, refused, place.line),
         Fault::Trap { code, line, .. } => of_trap(alloc, out, &refused.at(*line), *code),
         Fault::Arguments => of_arguments(alloc, out, refused),
@@ -109,6 +111,7 @@ fn add_rule<D: fmt::Display>(
         line: subject.line,
         other,
         before: None,
+        start: None,
     };
     add_lines(out, subject.bytes, lines)?;
     Ok(())
@@ -158,24 +161,21 @@ fn add_bad(listing: &mut Listing, bytes: &[u8], all: &[Bad]) -> Result<(), Fault
     for bad in all {
         if bad.is_told && listing.takes() {
             let reason = bad.reason(bytes);
-            let spot = Spot {
-                line: bad.line,
-                before: Some(reason.place),
-                other: None,
-            };
-            listing.add(spot, &reason)?;
+            let place = bad.place as usize;
+            let start = place.saturating_sub(reason.place);
+            listing.add(Spot::at(bad.line, start, place, None), &reason)?;
         }
     }
     Ok(())
 }
 
 // Adds what the stages after the lexer reject.
-fn add_tokens(
+fn add_tokens<'a>(
     alloc: Global,
     listing: &mut Listing,
-    bytes: &[u8],
+    bytes: &'a [u8],
     file: Named<'_>,
-    scan: &Scan,
+    scan: &'a Scan,
 ) -> Result<(), Fault> {
     let text = scan.text.as_slice();
     let (_source, tokens) = match tokens_of(alloc, text) {
@@ -185,47 +185,93 @@ fn add_tokens(
     };
     let tokens = tokens.as_slice();
     if let Some(at) = passed_by_tokens(tokens) {
-        let spot = Spot {
-            line: at.line,
-            before: None,
-            other: None,
-        };
-        return listing.add(spot, &limits::of_tokens(at.reason));
+        return listing.add(Spot::of_line(at.line, None), &limits::of_tokens(at.reason));
     }
+    let all = scan.bad.as_slice();
     let mut found = recover(alloc, text, tokens)?;
-    leave_out(&mut found, tokens, scan.bad.as_slice());
+    found.items = left_out(alloc, found.items.as_slice(), tokens, all)?;
     let outline = Outline {
         bytes,
         tokens,
-        bad: scan.bad.as_slice(),
+        bad: all,
         found: &found,
     };
     add_syntax(alloc, listing, &outline)?;
-    add_checks(alloc, listing, file, &outline, text)
+    unless_memory(add_checks(alloc, listing, file, &outline, text))
 }
 
-// Leaves out the functions in which bytes were replaced that names or types may depend on.
-fn leave_out(found: &mut Recovered, tokens: &[Token], all: &[Bad]) {
-    let mut next = 0;
-    for place in 0..found.items.len() {
-        let item = found.items[place];
-        let (Some(first), Some(last)) = (
-            tokens.get(item.first),
-            tokens.get(item.end.saturating_sub(1)),
-        ) else {
-            return;
+// Explains errors of names and types, or of ownership, of a source that parses.
+fn of_program(
+    alloc: Global,
+    out: &mut String,
+    refused: &Refused<'_>,
+    is_of_types: bool,
+) -> Result<(), Fault> {
+    let bytes = refused.bytes;
+    let file = Named { path: refused.file };
+    let mut listing = Listing::new(alloc);
+    let (source, tokens) = tokens_of(alloc, bytes)?;
+    let tokens = tokens.as_slice();
+    let none = Recovered {
+        rejected: Vec::new(alloc),
+        items: Vec::new(alloc),
+    };
+    let outline = Outline {
+        bytes,
+        tokens,
+        bad: &[],
+        found: &none,
+    };
+    let ast = parse(alloc, &source, tokens)?;
+    if is_of_types {
+        let lines = add_checks_of(alloc, &mut listing, file, &outline, ast)?;
+        let found = recover(alloc, bytes, tokens)?;
+        let outline = Outline {
+            found: &found,
+            ..outline
         };
-        for index in next..all.len() {
-            let bad = all[index];
-            if bad.place > last.end {
-                break;
-            }
-            next = index;
-            if bad.place >= first.start && !bad.is_typed() {
-                found.items[place].is_whole = false;
-            }
-        }
+        unless_memory(add_others(alloc, &mut listing, &outline, bytes, lines))?;
+    } else {
+        add_ownership(alloc, &mut listing, &outline, ast)?;
     }
+    listing.write(out, bytes, file)
+}
+
+// The items of a source; those in which bytes were replaced that names or types may depend on do not count as whole.
+fn left_out(
+    alloc: Global,
+    items: &[Item],
+    tokens: &[Token],
+    all: &[Bad],
+) -> Result<Vec<Item>, AllocError> {
+    let mut next = 0;
+    let mut left = Vec::new(alloc);
+    for item in items {
+        let (place, is_typed) = typed_until(item, tokens, all, next);
+        next = place;
+        left.push(Item {
+            is_whole: item.is_whole && is_typed,
+            ..*item
+        })?;
+    }
+    Ok(left)
+}
+
+// The first replaced bytes after an item, from some on, and whether names and types of the item are as they were.
+fn typed_until(item: &Item, tokens: &[Token], all: &[Bad], next: usize) -> (usize, bool) {
+    let last = item.end.saturating_sub(1);
+    let (Some(first), Some(last)) = (tokens.get(item.first), tokens.get(last)) else {
+        return (next, true);
+    };
+    let mut is_typed = true;
+    for index in next..all.len() {
+        let bad = all[index];
+        if bad.place > last.end {
+            return (index, is_typed);
+        }
+        is_typed = is_typed && (bad.place < first.start || bad.is_typed());
+    }
+    (all.len(), is_typed)
 }
 
 // Explains a limit: of the bytes, a name, the tokens, the program's parts, and its code, in this order.

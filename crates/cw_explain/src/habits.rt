@@ -49,12 +49,6 @@ static OUTSIDE: &[Row] = &[
         "",
         "write reducer max @*; here, and @* max= e; for each value",
     ),
-    (
-        "",
-        "",
-        "/ *",
-        "write a comment after //, up to the end of its line",
-    ),
     ("cilk", "", "", "there is no cilk: delete the word"),
     (
         "storage",
@@ -503,12 +497,6 @@ static TYPED: &[Row] = &[
         "( type",
         "x",
         "there is no type @1: write int, and delete a cast",
-    ),
-    (
-        "",
-        "",
-        "/ *",
-        "write a comment after //, up to the end of its line",
     ),
     (
         "",

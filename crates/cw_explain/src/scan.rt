@@ -1,5 +1,6 @@
 //! The text with what starts no token replaced, so that the stages after the lexer read the rest.
 
+use crate::excerpt::line_start;
 use crate::lexical::OfText;
 use cw_lex::{Front, Uncut, front_of};
 use cw_model::limits::MOST_NAME_BYTES;
@@ -238,11 +239,18 @@ fn of_text(bytes: &[u8], at: usize) -> Change {
     spaces(at, end, b'0', false)
 }
 
+// What replaces a comment of C; what follows one that is not closed is unknown.
+fn of_comment(bytes: &[u8], at: usize) -> Change {
+    let end = after_comment(bytes, at);
+    let is_closed = end < bytes.len() || byte_at(bytes, end.saturating_sub(1)) == b'/';
+    spaces(at, end, b' ', is_closed)
+}
+
 // What replaces bytes that start no token, other than `:`.
 fn of_byte(bytes: &[u8], at: usize, byte: u8) -> Change {
     let next = at.saturating_add(1);
     match byte {
-        b'/' => spaces(at, after_comment(bytes, at), b' ', true),
+        b'/' => of_comment(bytes, at),
         b'#' => spaces(at, after_directive(bytes, at), b' ', true),
         b'"' => of_text(bytes, at),
         b'\'' => of_quote(bytes, at),
@@ -402,23 +410,13 @@ impl Scanner<'_> {
     }
 }
 
-// The start of the line that has a place.
-fn line_start(bytes: &[u8], place: usize) -> usize {
-    let mut at = place;
-    for _ in 0..place {
-        if byte_at(bytes, at.saturating_sub(1)) == b'\n' {
-            return at;
-        }
-        at = at.saturating_sub(1);
-    }
-    at
-}
-
 impl Bad {
     /// Returns whether names and types of the function around them are as they were.
     pub fn is_typed(&self) -> bool {
         let is_address = self.byte == b'&' && !self.is_double;
-        self.is_clean && !is_address && self.byte != b'.'
+        // a name that is too long is another name
+        let is_name = self.byte == b'_' || self.byte.is_ascii_alphabetic();
+        self.is_clean && !is_address && !is_name && self.byte != b'.'
     }
 
     /// Returns whether they begin a directive.

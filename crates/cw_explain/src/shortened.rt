@@ -102,6 +102,10 @@ impl Shortened {
 
     // Adds a token of the incomplete statement.
     fn push(&mut self, kind: Kind) -> Result<(), AllocError> {
+        if self.first.is_none() && kind == Kind::Else && self.text.len() == self.begin() {
+            // its `if` does not parse
+            self.text.extend_from_slice(b"if (1) { } ")?;
+        }
         self.first = self.first.or(Some(kind));
         match kind {
             Kind::LeftParen => self.open = self.open.saturating_add(1),

@@ -3,12 +3,12 @@
 
 use crate::around::{Around, Opened};
 use crate::checking::is_suspect;
-use crate::excerpt::column_of;
+use crate::excerpt::line_start;
 use crate::listing::{Listing, Spot};
 use crate::phrase::Marks;
 use crate::scan::Bad;
 use crate::shortened::Shortened;
-use crate::unparsed::{unparsed_at, update_of};
+use crate::unparsed::{nowhere, unparsed_at, update_of};
 use crate::word::Word;
 use cw_model::token::{Kind, Token};
 use cw_parse::{Item, Recovered, Rejected};
@@ -71,7 +71,14 @@ struct Traversal<'a> {
     /// The first replaced bytes that are not before the last rejected statement, and not before the line of the last token.
     bad: usize,
     on_line: usize,
+    /// The line of the last token whose place was asked for, and where it begins.
+    line: u32,
+    start: usize,
+    /// An item that is not begun before what is rejected at its front is reported.
+    held: usize,
     is_first: bool,
+    /// Where tokens end that seem to be statements outside of functions.
+    outside: usize,
 }
 
 // The place where a token begins, or the end of the text.
@@ -79,6 +86,38 @@ fn start_of(outline: &Outline<'_>, place: usize) -> usize {
     match outline.tokens.get(place) {
         Some(token) => token.start as usize,
         None => outline.bytes.len(),
+    }
+}
+
+// Whether what replaces some of these bytes changes their statement.
+fn is_unclear(all: &[Bad]) -> bool {
+    for bad in all {
+        if !bad.is_clean {
+            return true;
+        }
+    }
+    false
+}
+
+// Whether tokens of these kinds begin a statement rather than an item.
+fn is_statement(kind: Option<Kind>, next: Option<Kind>) -> bool {
+    match kind {
+        Some(Kind::Name) => matches!(
+            next,
+            Some(Kind::Assign) | Some(Kind::AddAssign) | Some(Kind::LeftBracket)
+        ),
+        Some(
+            Kind::Return
+            | Kind::If
+            | Kind::While
+            | Kind::Print
+            | Kind::For
+            | Kind::Spawn
+            | Kind::Sync
+            | Kind::Scope
+            | Kind::RightBrace,
+        ) => true,
+        _ => false,
     }
 }
 
@@ -93,7 +132,11 @@ impl<'a> Traversal<'a> {
             last: None,
             bad: 0,
             on_line: 0,
+            line: 0,
+            start: 0,
+            held: usize::MAX,
             is_first: true,
+            outside: usize::MAX,
         }
     }
 
@@ -116,10 +159,19 @@ impl<'a> Traversal<'a> {
         Ok(())
     }
 
+    // Holds an item at whose front a brace before it is found to be missing.
+    fn hold(&mut self, rejected: &Rejected) {
+        self.held = if rejected.next == rejected.first {
+            rejected.first
+        } else {
+            usize::MAX
+        };
+    }
+
     // Begins the item that begins with the next token, if one does.
     fn enter(&mut self) {
         if let Some(item) = self.outline.found.items.get(self.item) {
-            if item.first <= self.at {
+            if item.first <= self.at && item.first != self.held {
                 self.last = Some(*item);
                 self.item = self.item.saturating_add(1);
                 self.opened.restart(self.at);
@@ -165,7 +217,7 @@ impl<'a> Traversal<'a> {
         }
         let around = Around::behind(self.outline.bytes, self.outline.tokens, &self.opened);
         let Some(says) = around.advice(token) else {
-            return Ok(());
+            return self.advise_type(listing, token, around);
         };
         if listing.takes() {
             let name = around.word(token);
@@ -174,33 +226,58 @@ impl<'a> Traversal<'a> {
         Ok(())
     }
 
-    // Whether bytes of a line were replaced; lines are asked for in order.
-    fn is_bad_line(&mut self, line: u32) -> bool {
-        for index in self.on_line..self.outline.bad.len() {
-            if self.outline.bad[index].line >= line {
-                self.on_line = index;
-                return self.outline.bad[index].line == line;
+    // Adds what to write instead of a type of C, if the next token is one.
+    fn advise_type(
+        &mut self,
+        listing: &mut Listing,
+        token: Token,
+        around: Around<'a>,
+    ) -> Result<(), Fault> {
+        if !around.is_like_type(self.at) {
+            return Ok(());
+        }
+        if let Some(says) = nowhere(&around, around.is_at_front()) {
+            if listing.takes() {
+                listing.add(self.spot(token, None), &Said { around, says })?;
             }
         }
-        self.on_line = self.outline.bad.len();
+        Ok(())
+    }
+
+    // Whether bytes of a line were replaced; lines are asked for in order.
+    fn is_bad_line(&mut self, line: u32) -> bool {
+        let all = self.outline.bad;
+        for index in self.on_line..all.len() {
+            let bad = all[index];
+            if bad.line >= line {
+                self.on_line = index;
+                return bad.line == line;
+            }
+        }
+        self.on_line = all.len();
         false
     }
 
     // Where a token is.
-    fn spot(&self, token: Token, other: Option<u32>) -> Spot {
-        Spot {
-            line: token.line,
-            before: Some(column_of(self.outline.bytes, token.start as usize)),
-            other,
+    fn spot(&mut self, token: Token, other: Option<u32>) -> Spot {
+        let place = token.start as usize;
+        if token.line != self.line {
+            self.line = token.line;
+            self.start = line_start(self.outline.bytes, place);
         }
+        Spot::at(token.line, self.start, place, other)
     }
 
     // Whether bytes of a statement up to the token where it does not parse were replaced, so that this may follow from it.
     fn follows(&mut self, rejected: &Rejected) -> bool {
+        if rejected.first >= self.outline.tokens.len() {
+            return is_unclear(self.outline.bad);
+        }
         let start = start_of(&self.outline, rejected.first);
         let end = start_of(&self.outline, rejected.place);
-        for index in self.bad..self.outline.bad.len() {
-            let bad = self.outline.bad[index];
+        let all = self.outline.bad;
+        for index in self.bad..all.len() {
+            let bad = all[index];
             let place = bad.place as usize;
             if place > end {
                 return false;
@@ -215,6 +292,35 @@ impl<'a> Traversal<'a> {
         false
     }
 
+    // Whether what is rejected belongs to a construct that was reported before it: a case to its switch, a while to its do, and
+    // statements outside of functions to the first of them.
+    fn is_known(&mut self, around: &Around<'_>, rejected: &Rejected) -> bool {
+        if self.is_first {
+            self.note_outside(around, rejected);
+            return false;
+        }
+        let is_outside = self.outside == rejected.first && !around.is_inside;
+        self.note_outside(around, rejected);
+        is_outside
+            || around.is_like("while", "", ";")
+            || around.is_like("case", "", "")
+            || around.is_like("default", "", "")
+    }
+
+    // Notes where a rejected statement outside of functions ends.
+    fn note_outside(&mut self, around: &Around<'_>, rejected: &Rejected) {
+        let kind = self
+            .outline
+            .tokens
+            .get(rejected.first)
+            .map(|token| token.kind);
+        let next = rejected.first.saturating_add(1);
+        let after = self.outline.tokens.get(next).map(|token| token.kind);
+        if !around.is_inside && is_statement(kind, after) {
+            self.outside = rejected.next;
+        }
+    }
+
     // Adds a statement or head that does not parse, and goes on after it.
     fn reject(
         &mut self,
@@ -223,12 +329,12 @@ impl<'a> Traversal<'a> {
         rejected: &Rejected,
     ) -> Result<(), Fault> {
         let around = Around::behind(self.outline.bytes, self.outline.tokens, &self.opened);
-        // a while that ends a C program's do has no block
-        let is_end_of_do = !self.is_first && around.is_like("while", "", ";");
-        if !is_end_of_do && !self.follows(rejected) && listing.takes() {
+        let is_known = self.is_known(&around, rejected) || self.follows(rejected);
+        if !is_known && listing.takes() {
             self.add(alloc, listing, around)?;
         }
         self.is_first = false;
+        self.held = usize::MAX;
         let next = rejected.next.min(self.outline.tokens.len());
         let is_block = match self.outline.tokens.get(next) {
             Some(token) => token.kind == Kind::LeftBrace,
@@ -250,11 +356,7 @@ impl<'a> Traversal<'a> {
         let said = unparsed_at(alloc, around, &self.short)?;
         let spot = match said.found() {
             Some(token) => self.spot(token, said.other_line()),
-            None => Spot {
-                line: end_line(self.outline.bytes),
-                before: None,
-                other: said.other_line(),
-            },
+            None => Spot::of_line(end_line(self.outline.bytes), said.other_line()),
         };
         listing.add(spot, &said)
     }
@@ -281,6 +383,7 @@ pub fn add_syntax(
     let mut traversal = Traversal::new(alloc, *outline);
     listing.begin();
     for rejected in outline.found.rejected.as_slice() {
+        traversal.hold(rejected);
         for _ in traversal.at..rejected.place.min(outline.tokens.len()) {
             traversal.step(listing, rejected.first)?;
         }

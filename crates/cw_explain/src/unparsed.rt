@@ -133,8 +133,8 @@ fn row_of(around: &Around<'_>, rows: &[Row], by_front: bool) -> Option<&'static 
     None
 }
 
-// The text of the first row that applies to a token where no source has it.
-fn nowhere(around: &Around<'_>, by_front: bool) -> Option<&'static str> {
+/// The text of the first row that applies to a token where no source has it.
+pub fn nowhere(around: &Around<'_>, by_front: bool) -> Option<&'static str> {
     if !around.is_inside {
         return row_of(around, outside(), by_front).or(row_of(around, parameters(), by_front));
     }

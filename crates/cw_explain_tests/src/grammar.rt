@@ -35,7 +35,7 @@ static TOKENS: &[(&str, &str)] = &[
     // of later lines too, each by itself, but for a name that is too long
     (
         "int main() {\n  // \u{80}\n  return @ \u{80};\n  n0123456789012345678901234567890123456789012345678901234567890123;\n  return 9223372036854775808 @;\n}\n",
-        "refused 1 line 2\nt:2: the byte 194 is not ASCII: replace the character, in comments too\n  2 |   // \\xc2\\x80\n    |      ^\nt:3: the byte 194 is not ASCII: replace the character, in comments too\nt:5: the number 9223372036854775808 is above the maximum, 9223372036854775807\n",
+        "refused 1 line 2\nt:2: the byte 194 is not ASCII: replace the character, in comments too\n  2 |   // \\xc2\\x80\n    |      ^\nt:3: the byte 64 ('@') starts no token: delete it\n  3 |   return @ \\xc2\\x80;\n    |          ^\nt:3: the byte 194 is not ASCII: replace the character, in comments too\n  3 |   return @ \\xc2\\x80;\n    |            ^\nt:4: the name n012345678901234567890123456789012345678901234567890123456789012.. has 65 bytes, but at most 64 are allowed: shorten it\n  4 |   n0123456789012345678901234567890123456789012345678901234567890123;\n    |   ^\nt:4: unexpected ;; expected max, (, [, = or +=\n  4 |   n0123456789012345678901234567890123456789012345678901234567890123;\n    |                                                                    ^\nt:5: the number 9223372036854775808 is above the maximum, 9223372036854775807\n  5 |   return 9223372036854775808 @;\n    |          ^\nt:5: the byte 64 ('@') starts no token: delete it\n  5 |   return 9223372036854775808 @;\n    |                              ^\n",
     ),
     // bytes that a terminal would act on are shown by their codes, a tab as a space; a CR at the end is not shown
     (
@@ -75,7 +75,7 @@ static GRAMMAR: &[(&str, &str)] = &[
     // words of the language as names
     (
         "int main() {\n  int at = 1;\n  return at;\n}",
-        "refused 2 line 2\nt:2: unexpected at: at is a keyword: use another name\n  2 |   int at = 1;\n    |       ^\n",
+        "refused 2 line 2\nt:2: unexpected at: at is a keyword: use another name\n  2 |   int at = 1;\n    |       ^\nt:3: unexpected at: at is a keyword; expected a name, a number, len, (, ; or a sign (- or !)\n  3 |   return at;\n    |          ^\n",
     ),
     (
         "int main(int over) { return 0; }",

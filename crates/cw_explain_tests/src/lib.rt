@@ -18,6 +18,8 @@ mod owning;
 #[cfg(test)]
 mod programs;
 #[cfg(test)]
+mod several;
+#[cfg(test)]
 mod sources;
 #[cfg(test)]
 mod statements;

@@ -132,23 +132,23 @@ static PROGRAMS: &[(&str, &str)] = &[
     ),
     (
         STENCIL,
-        "refused 4 line 3\nt:3: the cilk_for in line 2 has a in over, so its body may only use a[i]: copy the other elements into a const array or integers before the loop, or write a function that halves the range and spawns itself\n  2 |   cilk_for (int i = 0; i < len(b) - 1; i++) grain 100 over (a, b) {\n  3 |     b[i] = (a[i] + a[i + 1]) / 2;\n",
+        "refused 4 line 3\nt:3: the cilk_for in line 2 has a in over, so its body may only use a[i]: copy the other elements into a const array or integers before the loop, or write a function that halves the range and spawns itself\n  2 |   cilk_for (int i = 0; i < len(b) - 1; i++) grain 100 over (a, b) {\n  3 |     b[i] = (a[i] + a[i + 1]) / 2;\n    |             ^\n",
     ),
     (
         QUARTERS,
-        "refused 4 line 7\nt:7: this statement passes b, but the spawn in line 6 holds b until the next cilk_sync: write const before the parameter in both functions if they only read b; otherwise write cut b at k as l, r { .. } and pass l and r, give one call an array of its own, or write cilk_sync; between them\n  6 |   cilk_spawn multiply(a0, b, c0);\n  7 |   cilk_spawn multiply(a1, b, c1);\n",
+        "refused 4 line 7\nt:7: this statement passes b, but the spawn in line 6 holds b until the next cilk_sync: write const before the parameter in both functions if they only read b; otherwise write cut b at k as l, r { .. } and pass l and r, give one call an array of its own, or write cilk_sync; between them\n  6 |   cilk_spawn multiply(a0, b, c0);\n  7 |   cilk_spawn multiply(a1, b, c1);\n    |                           ^\n",
     ),
     (
         HISTOGRAM,
-        "refused 4 line 9\nt:9: the block that declares part ends while the spawn in line 10 still holds part: write cilk_sync; at the end of this block; for calls of a loop that run in parallel write a cilk_for, or a function that halves the range and spawns itself\n   9 |     int part = 0;\n  10 |     part = cilk_spawn count(i, i + 10);\n",
+        "refused 4 line 9\nt:9: the block that declares part ends while the spawn in line 10 still holds part: write cilk_sync; at the end of this block; for calls of a loop that run in parallel write a cilk_for, or a function that halves the range and spawns itself\n   9 |     int part = 0;\n     |         ^\n  10 |     part = cilk_spawn count(i, i + 10);\n",
     ),
     (
         PIPELINE,
-        "refused 4 line 9\nt:9: this statement reads first, but the spawn in line 8 assigns to first at the next cilk_sync: write cilk_sync; before this statement\n  8 |   first = cilk_spawn stage(n);\n  9 |   second = stage(first);\n",
+        "refused 4 line 9\nt:9: this statement reads first, but the spawn in line 8 assigns to first at the next cilk_sync: write cilk_sync; before this statement\n  8 |   first = cilk_spawn stage(n);\n  9 |   second = stage(first);\n    |                  ^\n",
     ),
     (
         SUM,
-        "refused 2 line 1\nt:1: unexpected sum: sum is a keyword; expected a name\n  1 | int sum(int n) {\n    |     ^\n",
+        "refused 2 line 1\nt:1: unexpected sum: sum is a keyword; expected a name\n  1 | int sum(int n) {\n    |     ^\nt:7: unexpected sum: sum is a keyword; expected a name, a number, len, cilk_spawn, ( or a sign (- or !)\n  7 |   s = sum(n);\n    |       ^\n",
     ),
 ];
 

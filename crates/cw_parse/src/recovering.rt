@@ -319,8 +319,9 @@ impl<'t> Recovery<'t> {
             Some(Kind::Else) if self.after_if || self.is_loose => self.other(),
             Some(Kind::Int) | Some(Kind::Void) if self.tokens.is_function(at) => {
                 // a brace before this function is missing
-                let place = at.saturating_add(2);
-                self.reject(at, place, at)?;
+                if let Reached::Stopped(place) = self.reached(true)? {
+                    self.reject(at, place, at)?;
+                }
                 self.leave(at)
             }
             _ => self.plain(),
