@@ -10,7 +10,7 @@ const EXPLAINED: &[Row] = &[
         "int f() { return 1; }\nint main() {\n  int x = 0;\n  x = cilk_spawn f();\n  print(x);\n  cilk_sync;\n  return x;\n}",
         2,
         "",
-        "refused 4 line 5\nf:5: this statement reads x, but the spawn in line 4 assigns to x at the next cilk_sync: write cilk_sync; before this statement\n  4 |   x = cilk_spawn f();\n  5 |   print(x);\n",
+        "refused 4 line 5\nf:5: this statement reads x, but the spawn in line 4 assigns to x at the next cilk_sync: write cilk_sync; before this statement\n  4 |   x = cilk_spawn f();\n  5 |   print(x);\n    |         ^\n",
     ),
     (
         "run f --explain",
@@ -24,7 +24,7 @@ const EXPLAINED: &[Row] = &[
         "int main(int n) {\n  return m;\n}",
         2,
         "",
-        "refused 3 line 2\nf:2: m is not declared here: declare int m = 0; before this statement, in this block or one around it\n  2 |   return m;\n",
+        "refused 3 line 2\nf:2: m is not declared here: declare int m = 0; before this statement, in this block or one around it\n  2 |   return m;\n    |          ^\n",
     ),
     (
         "sites --limit 1 f --explain",
