@@ -20,7 +20,7 @@ import assemble
 from browser import Browser, Keys
 
 SIZE_LIMIT = 50_000  # bytes of page.css and page.js together
-TIME_LIMIT = 10      # seconds of a processor in which the greatest page is drawn, and used as a test does
+TIME_LIMIT = 10      # seconds of a processor in which the largest page is drawn, and used as a test does
 
 SOURCE = b"""int sum_to(int n) {
   int half = 0;
@@ -188,11 +188,11 @@ class Pages(unittest.TestCase):
         self.assertEqual([row[4] for row in functions], ["96.9", "3.1"])
         self.assertEqual([row[6] for row in functions], ["83.2", "16.8"])
 
-    def test_great_counts_keep_their_digits(self):
-        great = str(2 ** 62 - 1).encode()  # no Number
-        self.open(SCALE=SCALE.replace(b"2597719", great), SITES=SITES.replace(b"2517670", great))
+    def test_large_counts_keep_their_digits(self):
+        large = str(2 ** 62 - 1).encode()  # no Number
+        self.open(SCALE=SCALE.replace(b"2597719", large), SITES=SITES.replace(b"2517670", large))
         self.assertIn("4,611,686,018,427,387,903", self.js("[...document.querySelectorAll('.figure')].map(e => e.textContent)"))
-        self.assertIn(great.decode(), [row[5] for row in self.table("#sites")])
+        self.assertIn(large.decode(), [row[5] for row in self.table("#sites")])
         self.assertEqual(self.table("#functions")[0][3], str(2 ** 62 + 18))
 
     def test_source_is_annotated(self):
@@ -366,7 +366,7 @@ class Pages(unittest.TestCase):
 
     # Limits
 
-    def test_great_tables(self):
+    def test_large_tables(self):
         count = 65_000
         sites = [b"%d,call,%d,f%d,%d,%d,%d,%d,%d\n" % (i, i % 50_000 + 1, i % 1000, i + 7, i * 37 % count, i % 10, i, i) for i in range(count)]
         source = b"".join(b"void f%d(int n) { } //%s\n" % (i, b"x" * 2) for i in range(50_000))[:1 << 20]
@@ -386,14 +386,14 @@ class Pages(unittest.TestCase):
         self.assertEqual(self.js("document.activeElement.id"), "L30123")
         self.assertLess(self.since(start), TIME_LIMIT)
 
-    def test_great_lines(self):
+    def test_large_lines(self):
         for source in (b"//" + b"x" * ((1 << 20) - 2), b"\n" * (1 << 20), b"int main(){return 0;}" + b"{" * 1_000_000, b"; " * (1 << 19)):
             start = self.seconds()
             self.open(SOURCE=source)
             self.assertEqual(self.table("#speedup"), rows_of(SPEEDUP))
             self.assertLess(self.since(start), TIME_LIMIT)
 
-    def test_great_comparison(self):
+    def test_large_comparison(self):
         lines = [b"// %d\n" % i for i in range(60_000)]
         self.open(SOURCE=b"".join(lines))
         start = self.seconds()
@@ -475,6 +475,10 @@ class Pages(unittest.TestCase):
         self.assertNotRegex(parts[1], rb"innerHTML|outerHTML|insertAdjacentHTML|document\.write|eval\(|fetch\(|XMLHttpRequest|import\(")
         self.assertEqual(len(re.findall(rb"https?://", b"".join(parts))), 1)  # the name space of SVG
         self.assertNotIn(b"url(http", parts[0])
+        with open(os.path.join(assemble.TOP, "docs", "LANGUAGE.md"), encoding="utf-8") as file:
+            keywords = re.search(r"The keywords are\n\n(.*?)\n\n", file.read(), re.S)[1].split()
+        highlighted = re.search(r"KEYWORD = /\^\((.*?)\)", parts[1].decode())[1].split("|")
+        self.assertEqual(highlighted, [word for word in keywords if not word.startswith("cilk_")])
 
 
 if __name__ == "__main__":
