@@ -18,6 +18,7 @@ pub mod Order
 pub mod Passing
 pub mod Stepping
 pub mod Blocks
+pub mod Padding
 pub mod Reading
 pub mod Shares
 pub mod Sharing

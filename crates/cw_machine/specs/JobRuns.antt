@@ -43,15 +43,14 @@ pub record HasViews (old : List View) (slices : List Placed) (new : List View) :
   pub are : (a : ℕ) → a < length slices → view new (length old + a) ≡ home_in slices a
   pub small : AreSmall slices
 
--- `count` blocks without numbers are added
-pub record HasBlocks (old : List Lodged) (count : ℕ) (new : List Lodged) : Type 0 where
-  pub as_many : length new ≡ length old + count
-  pub old_are : (k : ℕ) → k < length old → block new k ≡ block old k
-  pub bare : (k : ℕ) → length old ≤ k → IsBare (block new k)
-
 -- a slice, as a block with all cells in
 abbrev pub lodged : Placed → Lodged
 lodged p = record { cells = ins p.items; rights = replicate (length p.items) p.spot.halved; spot = p.spot }
+
+-- each slice is a block
+pub record AreLodged (slices : List Placed) (blocks : List Lodged) : Type 0 where
+  pub as_many : length blocks ≡ length slices
+  pub are : (a : ℕ) → a < length slices → block blocks a ≡ lodged (placed slices a)
 
 -- a machine with room for a continuation, before its slices are moved in
 pub record HasRoomFor (rest : Rest) (room : ℕ) (reducers : List Reducer) (m : Machine) : Type 0 where

@@ -10,7 +10,6 @@ use cw_code::code::Halves;
 use cw_model::limits::MOST_ELEMENTS;
 use cw_model::trap::Trap;
 use cw_runnable::verified::Verified;
-use cw_slices::Block;
 use std::alloc::AllocError;
 
 // The maximum length of an array, as an operand.
@@ -72,7 +71,7 @@ impl Machine {
         requires { (x : ℤ) × arrays.found self.now.blocks.items block k ≡ Some x }
         ensures { arrays.found self.now.blocks.items block k ≡ Some result }
     {
-        self.blocks[block].get(k)
+        self.blocks.get(block, k)
     }
 
     // Writes an element of a block. The block must hold the element, with no share of it out.
@@ -84,7 +83,7 @@ impl Machine {
         ensures views { self.new.views.items ≡ self.old.views.items }
         ensures rest { StaysBut self.old self.new }
     {
-        self.blocks[block].set(k, x);
+        self.blocks.set(block, k, x);
     }
 
     // Replaces the view of a cell.
@@ -105,9 +104,7 @@ impl Machine {
         requires small { len < 2 ^ 60 }
         ensures { OnOk result (HasRenewed self.old cell len self.new) }
     {
-        let alloc = *self.blocks.allocator();
-        self.blocks[cell] = Block::empty(alloc);
-        self.blocks[cell] = Block::zeros(alloc, len)?;
+        self.blocks.renew(cell, len)?;
         Ok(())
     }
 

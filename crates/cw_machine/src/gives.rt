@@ -2,7 +2,7 @@
 //! continues from the place that the continuation reached. `giving.rt` of `cw_strand` joins its lines, totals and
 //! measures.
 
-ghost use Rattle.std.specs.Prelude.{◌≡◌, ◌≢◌, ℕ, ◌+◌, ◌<◌, ◌≤◌, length, Some, slice_get, MatchBool};
+ghost use Rattle.std.specs.Prelude.{◌≡◌, ◌≢◌, ℕ, ◌+◌, ◌<◌, ◌≤◌, length, Some, slice_get, MatchBool, OnOk};
 ghost use Rattle.std.specs.Option.{option_flatten};
 ghost use Rattle.cw_slices.specs.Placed.{IsOwn};
 ghost use Rattle.cw_jobs.specs.Jobs as jobs;
@@ -15,6 +15,7 @@ use crate::machine::{Machine, View};
 use cw_code::code::Loan;
 use cw_jobs::call::Rest;
 use cw_slices::{Block, Slice};
+use std::alloc::AllocError;
 use std::mem;
 
 // Takes the array that returns to a slot. A new array that was made in the slot stays in `replaced`, at its index.
@@ -65,15 +66,15 @@ fn is_target(target: Option<u32>, k: usize) -> bool
 
 impl Machine {
     // Puts the new array, if there is one, into an array slot of the call that runs, in a block of its own.
-    fn lay_new(&mut self, a: usize, slot: Option<Slice>)
+    fn lay_new(&mut self, a: usize, slot: Option<Slice>) -> Result<(), AllocError>
         requires { MayTakeNew self.old (self.old.first_array + a) slot }
-        ensures { HasNew self.old (self.old.first_array + a) slot self.new }
+        ensures { OnOk result (HasNew self.old (self.old.first_array + a) slot self.new) }
     {
         match slot {
             Some(slice) => {
                 let cell = self.first_array + a;
                 let len = slice.len();
-                self.blocks[cell] = Block::of(slice);
+                self.blocks.put(cell, Block::of(slice))?;
                 self.views[cell] = View {
                     block: cell,
                     from: 0,
@@ -82,6 +83,7 @@ impl Machine {
             }
             None => {}
         }
+        Ok(())
     }
 
     // Returns each array to its slot, the newest share of an element first. Afterwards `replaced` holds the new
@@ -109,15 +111,16 @@ impl Machine {
     }
 
     // Puts each new array into its slot; there are `count` slots.
-    fn lay_made(&mut self, made: &mut Vec<Option<Slice>>, count: usize)
+    fn lay_made(&mut self, made: &mut Vec<Option<Slice>>, count: usize) -> Result<(), AllocError>
         requires { ∥ MayMake self.old made.old.items count ∥₁ }
-        ensures shows { LaysMade self.old made.old.items count self.new }
-        ensures rest { StaysBut self.old self.new }
+        ensures shows { OnOk result (LaysMade self.old made.old.items count self.new) }
+        ensures rest { OnOk result (StaysBut self.old self.new) }
     {
         for a in 0..count {
             let slot = take_new(made, a);
-            self.lay_new(a, slot);
+            self.lay_new(a, slot)?;
         }
+        Ok(())
     }
 
     // Writes the value of a slot or operand, except for the slot that already holds the result of the spawned call.
@@ -151,7 +154,10 @@ impl Machine {
     /// the slot's own array. The call takes the values of the continuation, except for the slot `target` of the
     /// spawned call, which already holds its result, and continues at the continuation's place. The call has `slots`
     /// array slots, and `lent` lists what the spawned call was lent. The continuation keeps slices without elements.
-    /// Allocates nothing and cannot fail.
+    ///
+    /// # Errors
+    ///
+    /// `AllocError` if there is no memory for a new array. Then nothing is known of the machine.
     pub fn give_rest(
         &mut self,
         back: &mut Rest,
@@ -159,15 +165,17 @@ impl Machine {
         slots: usize,
         lent: &[Loan],
         target: Option<u32>,
-    )
+    ) -> Result<(), AllocError>
         requires { ∥ MayGiveRest self.old back.old replaced.old.items slots lent.now target ∥₁ }
-        ensures shows { Brings self.old back.old replaced.old.items slots lent.now target self.new }
+        ensures shows { OnOk result (Brings self.old back.old replaced.old.items slots lent.now
+            target self.new) }
         ensures bare { AreBare back.new.slices.items }
         ensures as_many { length back.new.slices.items ≡ length back.old.slices.items }
     {
         self.lay_homes(&mut back.slices, replaced, slots, lent);
-        self.lay_made(replaced, slots);
+        self.lay_made(replaced, slots)?;
         self.lay_cells(&back.cells, target);
         self.place = back.place;
+        Ok(())
     }
 }

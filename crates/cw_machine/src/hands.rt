@@ -158,10 +158,10 @@ impl Machine {
     {
         let v = self.views[cell];
         if stays || v.len == 0 {
-            let alloc = *self.blocks.allocator();
+            let alloc = *self.cells.allocator();
             return Slice::empty(alloc);
         }
-        self.blocks[v.block].lend(v.from, v.len)
+        self.blocks.lend(v.block, v.from, v.len)
     }
 
     // Shares the array of a cell, if it has elements.
@@ -172,10 +172,10 @@ impl Machine {
     {
         let v = self.views[cell];
         if v.len == 0 {
-            let alloc = *self.blocks.allocator();
+            let alloc = *self.cells.allocator();
             return Slice::empty(alloc);
         }
-        self.blocks[v.block].share(v.from, v.len)
+        self.blocks.share(v.block, v.from, v.len)
     }
 
     // Returns the slice with index `a` for the call whose first array slot is `first`: a share, or the array itself

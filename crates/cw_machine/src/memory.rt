@@ -6,12 +6,10 @@ ghost use Rattle.cw_machine.specs.Trims.{KeepsFirst, Trims};
 use crate::machine::Machine;
 use cw_runnable::verified::Verified;
 
-// The bytes of a cell, of a view, of a block and of a frame.
+// The bytes of a cell, of a view and of a frame.
 const CELL: usize = 8;
 
 const VIEW: usize = 24;
-
-const BLOCK: usize = 32;
 
 const FRAME: usize = 40;
 
@@ -48,17 +46,17 @@ impl Machine {
     pub fn bytes(&self, given: usize, enough: usize) -> usize {
         let cells = self.cells.capacity().saturating_mul(CELL);
         let views = self.views.capacity().saturating_mul(VIEW);
-        let blocks = self.blocks.capacity().saturating_mul(BLOCK);
+        let blocks = self.blocks.list_bytes();
         let frames = self.frames.capacity().saturating_mul(FRAME);
         let mut bytes = cells
             .saturating_add(views)
             .saturating_add(blocks)
             .saturating_add(frames);
-        for k in given..self.blocks.len() {
+        for k in given..self.blocks.count_made() {
             if bytes > enough {
                 return bytes;
             }
-            bytes = bytes.saturating_add(self.blocks[k].len().saturating_mul(CELL));
+            bytes = bytes.saturating_add(self.blocks.len_of(k).saturating_mul(CELL));
         }
         bytes
     }

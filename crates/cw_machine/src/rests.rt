@@ -23,9 +23,9 @@ impl Machine {
         }
         let v = self.views[first + a];
         if shared {
-            self.blocks[v.block].merge(v.from, slice);
+            self.blocks.merge(v.block, v.from, slice);
         } else {
-            self.blocks[v.block].give_back(v.from, slice);
+            self.blocks.give_back(v.block, v.from, slice);
         }
     }
 

@@ -106,7 +106,7 @@ fn join_rest(
     } = shown;
     let loans = loans_named(code, home.lent);
     let machine = &mut run.machine;
-    machine.give_rest(frame, replaced, home.lender.slots, loans, home.target);
+    machine.give_rest(frame, replaced, home.lender.slots, loans, home.target)?;
     take_shown(&mut run.machine, lines, totals.as_slice())?;
     run.meter.rest(count, meter, cost)?;
     Ok(())

@@ -15,12 +15,12 @@ pub lay_cells-requires : goal.lay_cells-requires
 lay_cells-requires c =
     let le = cells_there c.args.self.now c.args.back.now c.args.replaced.now.items c.args.slots (slots_lent c.args.lent.now) c.args.target c.requires in
     let first = c.lay_homes.ensures.rest.first in
-    let first' = c.lay_made.ensures.rest.first in
+    let first' = c.in_ok-lay_made.ensures.rest.first in
     let n = ap (λ l. length l) c.lay_homes.ensures.rest.cells in
-    let n' = ap (λ l. length l) c.lay_made.ensures.rest.cells in
+    let n' = ap (λ l. length l) c.in_ok-lay_made.ensures.rest.cells in
     omega (arith, le, first, first', n, n')
 
 pub returns-clause-shows : goal.returns-clause-shows
 returns-clause-shows c =
     gives_back c.args.self.now c.args.back.now c.args.replaced.now.items c.args.slots (slots_lent c.args.lent.now) c.args.target c.lay_homes.new.replaced.items c.lay_homes.new.self c.lay_homes.ensures.made c.lay_homes.ensures.shows
-    c.lay_made.new.self c.lay_cells.new.self c.lay_made.ensures.shows c.lay_cells.ensures.rest c.lay_cells.ensures.cells
+    c.lay_made.new.self c.lay_cells.new.self c.in_ok-lay_made.ensures.shows c.lay_cells.ensures.rest c.lay_cells.ensures.cells

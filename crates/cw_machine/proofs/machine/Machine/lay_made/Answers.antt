@@ -9,7 +9,7 @@ lay_new-requires c =
 pub loop-a-preserved : goal.loop-a-preserved
 loop-a-preserved c = record {
   made =
-      making_more c.args.self.now c.args.made.now.items c.args.count c.loop-a.a c.loop-a.self c.loop-a.made.items c.loop-a.invariant.made c.take_new-slot.result c.lay_new.new.self c.take_new-slot.new.made.items c.take_new-slot.ensures.taken c.loop-a-test.true c.take_new-slot.ensures.others c.lay_new.ensures;
+      making_more c.args.self.now c.args.made.now.items c.args.count c.loop-a.a c.loop-a.self c.loop-a.made.items c.loop-a.invariant.made c.take_new-slot.result c.lay_new.new.self c.take_new-slot.new.made.items c.take_new-slot.ensures.taken c.loop-a-test.true c.take_new-slot.ensures.others c.in_ok-lay_new.ensures;
 }
 
 pub returns-clause-shows : goal.returns-clause-shows

@@ -1,19 +1,22 @@
-use Rattle.std.proofs.Common.{arith, ◌+◌}
-use Rattle.cw_machine.proofs.JobSlots.{got_in, got_other, whole_in, whole_other}
+use Rattle.std.proofs.Common.{arith, ◌+◌, ◌≡◌, length, sym, ap, subst}
+use Rattle.cw_machine.specs.Arrays.{block}
+use Rattle.cw_machine.specs.JobRuns.{IsAllHere}
+use Rattle.cw_machine.proofs.JobSlots.{all_in_is}
 use Rattle.cw_machine.proofs.machine.Machine.move_out.Goals as goal
 
-pub take-own-requires : goal.take-own-requires
-take-own-requires c =
-    let lt = c.requires.blocks in
-    record {
-      there = got_in c.args.self.now.blocks.items c.args.a c.index_mut.result.now c.index_mut.ensures.value (omega (arith, lt, c.requires.slot)) c.requires.own.0;
-      whole = whole_in c.args.self.now.blocks.items c.args.a c.index_mut.result.now c.index_mut.ensures.value (omega (arith, lt, c.requires.slot)) c.requires.own.1;
-    }
+pub take-own-requires-clause-index : goal.take-own-requires-clause-index
+take-own-requires-clause-index c = let lt = c.requires.blocks in omega (arith, lt, c.requires.slot)
 
-pub take-array-requires : goal.take-array-requires
-take-array-requires c =
+pub take-own-requires-clause-there : goal.take-own-requires-clause-there
+take-own-requires-clause-there c = all_in_is (block c.args.self.now.blocks.items c.args.a) c.requires.own
+
+pub take-array-requires-clause-index : goal.take-array-requires-clause-index
+take-array-requires-clause-index c =
     let lt = c.requires.blocks in
-    record {
-      there = got_other c.args.self.now.blocks.items c.args.a (c.args.count + c.args.a) c.take-own.new.self c.index_mut-in-None-2.result.now c.index_mut-in-None-2.ensures.value (omega (arith, lt, c.requires.slot)) (λ e. omega (arith, e, c.requires.slot)) c.requires.made.0;
-      whole = whole_other c.args.self.now.blocks.items c.args.a (c.args.count + c.args.a) c.take-own.new.self c.index_mut-in-None-2.result.now c.index_mut-in-None-2.ensures.value (omega (arith, lt, c.requires.slot)) (λ e. omega (arith, e, c.requires.slot)) c.requires.made.1;
-    }
+    let n = c.take-own.ensures.as_many in
+    omega (arith, lt, c.requires.slot, n)
+
+pub take-array-requires-clause-there : goal.take-array-requires-clause-there
+take-array-requires-clause-there c =
+    let other = c.take-own.ensures.others (c.args.count + c.args.a) (λ e. omega (arith, e, c.requires.slot)) in
+    all_in_is (block c.take-own.new.self.items (c.args.count + c.args.a)) (subst IsAllHere (sym other) c.requires.made)

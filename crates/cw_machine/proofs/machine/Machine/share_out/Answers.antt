@@ -1,7 +1,7 @@
 use Rattle.std.proofs.Common.{◌≡◌, ◌<◌, sym, ap, subst, arith}
-use Rattle.cw_slices.specs.Blocks.{Lodged, AreAlike}
+use Rattle.cw_slices.specs.Blocks.{AreAlike}
 use Rattle.cw_machine.specs.declared.machine.View.{View}
-use Rattle.cw_machine.specs.Arrays.{no_view, view, no_block, block}
+use Rattle.cw_machine.specs.Arrays.{no_view, view, block}
 use Rattle.cw_machine.proofs.Sharing.{index_is}
 use Rattle.cw_machine.proofs.machine.Machine.share_out.Goals as goal
 
@@ -12,8 +12,4 @@ share-requires-clause-alike c =
     let seen : v ≡ view m.views.items c.args.cell = index_is m.views.items c.args.cell v no_view c.index-v.ensures c.requires.seen in
     let len = ap (λ (x : View). x.len) seen in
     let some : 0 < (view m.views.items c.args.cell).len = omega (arith, c.if-v-eq0.false, len) in
-    let at = ap (λ (x : View). x.block) seen in
-    let there = (c.requires.there some).there in
-    let is : c.index_mut.result.now ≡ block m.blocks.items v.block = index_is m.blocks.items v.block c.index_mut.result.now no_block c.index_mut.ensures.value (omega (arith, there, at)) in
-    subst (λ (b : Lodged). AreAlike b.rights v.from v.len) (sym is)
-    (subst (λ (x : View). AreAlike (block m.blocks.items x.block).rights x.from x.len) (sym seen) (c.requires.alike some))
+    subst (λ (x : View). AreAlike (block m.blocks.items x.block).rights x.from x.len) (sym seen) (c.requires.alike some)
