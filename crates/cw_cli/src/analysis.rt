@@ -67,6 +67,7 @@ pub fn analyse_alone<W: Sink>(
         Mode::Gain(top) => run_gain(alloc, made, args, top, options, out),
         Mode::Greedy(processors) => run_greedy(alloc, made.code, args, processors, options, out),
         Mode::Speedup(most) => run_speedup(alloc, made.code, args, most, options, out),
+        Mode::Page { .. } => Err(Fault::Arguments),
     }
 }
 
@@ -123,6 +124,7 @@ pub fn analyse<
         Mode::Speedup(most) => {
             run_speedup_with(rt, alloc, made.code, args, most, options, crew, gate, out)
         }
+        Mode::Page { .. } => Err(Fault::Arguments),
     }
 }
 

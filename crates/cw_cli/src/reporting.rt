@@ -115,7 +115,12 @@ fn report<W: Sink>(
     ensures answers { AnswersText W.seen out.old out.new (told_in mode code.now ended.now) result }
 {
     match mode {
-        Mode::Check | Mode::Run | Mode::Gain(_) | Mode::Greedy(_) | Mode::Speedup(_) => Ok(()),
+        Mode::Check
+        | Mode::Run
+        | Mode::Gain(_)
+        | Mode::Greedy(_)
+        | Mode::Speedup(_)
+        | Mode::Page { .. } => Ok(()),
         Mode::Scale => scale(alloc, ended, out),
         Mode::Sites => sites(alloc, code, ended, out),
     }

@@ -72,6 +72,7 @@ fn options_of(mode: Mode) -> Options {
             charge: 3,
             edges: Edges::Spawn,
         },
+        table: false,
     }
 }
 

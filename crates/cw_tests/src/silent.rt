@@ -127,6 +127,7 @@ fn fails_so(alloc: Global, row: &Row) -> bool {
             charge: 0,
             edges: Edges::Spawn,
         },
+        table: false,
     };
     match analyse_alone(alloc, row.source.as_bytes(), &[row.arg], options, &mut out) {
         Ok(()) => false,
