@@ -173,68 +173,6 @@ subcommand_is word =
     go false false false false false false false false true = inr (inr refl)
     go false false false false false false false false false = inl refl
 
-stops : (words : List Text) → walk_fault line.top names ended words ≡ [] → Stops (walk_on ended words)
-unfolding walk_fault
-trailing_stops [] h = inl refl
-trailing_stops (word ∷ words) h = absurd (no (both_none (turn_fault line.top names ended word) (walk_fault line.top names (walked rules names ended word) words) h).0)
-  where
-    no : turn_fault line.top names ended word ≡ [] → ⊥
-    no e = cc
-
--- the faults of a word at the start, if its subcommand is this one
-abbrev turn_by : Option Text → Text → Kinds
-turn_by o word = or_else (other_fault line.top o word nothing_held) (step_of (subcommand_or_other rules o idle 1 word nothing_held))
-
-abbrev walked_by : Option Text → Text → Walk
-walked_by o word = after_step rules word start (subcommand_or_other rules o idle 1 word nothing_held).0 (subcommand_or_other rules o idle 1 word nothing_held).1
-
-dashes_stop : (word : Text) (words : List Text) (b : Bool)
-    → or_else (if b then none_of else flag_word_fault rules false (long_of word) word nothing_held)
-    (step_of (if b then (nothing_held, trailing 1) else long_or_other rules idle word (long_of word) nothing_held)) ≡ []
-    → (met : Held × Step) → met ≡ (if b then (nothing_held, trailing 1) else long_or_other rules idle word (long_of word) nothing_held)
-    → walk_fault line.top names (after_step rules word start met.0 met.1) words ≡ [] → Stops (walk_on (after_step rules word start met.0 met.1) words)
-dashes_stop word words true e met is h =
-    let same : after_step rules word start met.0 met.1 ≡ ended = ap (λ (m : Held × Step). after_step rules word start m.0 m.1) is in
-    subst (λ w. Stops (walk_on w words)) (sym same) (trailing_stops words (subst (λ w. walk_fault line.top names w words ≡ []) same h))
-dashes_stop word words false e met is h = absurd (flag_refused (long_of word) word e)
-
-by_name : (o : Option Text) (word : Text) (words : List Text) → (o ≡ None) ⊎ (((m : Verb) × (o ≡ Some (command_name m))) ⊎ (o ≡ Some (codes "help"))) → turn_by o word ≡ []
-    → walk_fault line.top names (walked_by o word) words ≡ [] → Stops (walk_on (walked_by o word) words)
-by_name None word words is e h = dashes_stop word words (bytes_eq word (45 ∷ 45 ∷ [])) e _ refl h
-by_name (Some name) word words (inl is) e h = cc
-by_name (Some name) word words (inr (inl (m, is))) e h =
-    let same : walked_by (Some name) word ≡ stopped_at (command_name m) [] = ap (λ o. walked_by o word) is in
-    inr (m, words, ap (λ w. walk_on w words) same ∙ stopped_walk (command_name m) [] words)
-by_name (Some name) word words (inr (inr is)) e h = absurd (no (subst (λ o. turn_by o word ≡ []) is e))
-  where
-    no : turn_by (Some (codes "help")) word ≡ [] → ⊥
-    no t = cc
-
-subcommand_is : (word : Text) → (subcommand_met names idle word ≡ None)
-    ⊎ (((m : Verb) × (subcommand_met names idle word ≡ Some (command_name m))) ⊎ (subcommand_met names idle word ≡ Some (codes "help")))
-subcommand_is word =
-    go (bytes_eq (codes "check") word) (bytes_eq (codes "run") word) (bytes_eq (codes "scale") word)
-    (bytes_eq (codes "sites") word) (bytes_eq (codes "gain") word) (bytes_eq (codes "greedy") word) (bytes_eq (codes "speedup") word) (bytes_eq (codes "help") word)
-  where
-    met : Bool → Text → Option (Text × List Text) → Option (Text × List Text)
-    met b name rest = cond (b || false) (Some (name, [])) rest
-
-    name : (a b c d e f g h : Bool) → Option Text
-    name a b c d e f g h =
-        option_map (λ (s : Text × List Text). s.0) (met a (codes "check") (met b (codes "run") (met c (codes "scale")
-        (met d (codes "sites") (met e (codes "gain") (met f (codes "greedy") (met g (codes "speedup") (met h (codes "help") None))))))))
-
-    go : (a b c d e f g h : Bool) → (name a b c d e f g h ≡ None) ⊎ (((m : Verb) × (name a b c d e f g h ≡ Some (command_name m))) ⊎ (name a b c d e f g h ≡ Some (codes "help")))
-    go true b c d e f g h = inr (inl (verb.Check, refl))
-    go false true c d e f g h = inr (inl (verb.Run, refl))
-    go false false true d e f g h = inr (inl (verb.Scale, refl))
-    go false false false true e f g h = inr (inl (verb.Sites, refl))
-    go false false false false true f g h = inr (inl (verb.Gain, refl))
-    go false false false false false true g h = inr (inl (verb.Greedy, refl))
-    go false false false false false false true h = inr (inl (verb.Speedup, refl))
-    go false false false false false false false true = inr (inr refl)
-    go false false false false false false false false = inl refl
-
 stops : (words : List Text) → walk_fault line.top names start words ≡ [] → Stops (walk_on start words)
 unfolding walk_fault walked
 stops [] h = inl refl
