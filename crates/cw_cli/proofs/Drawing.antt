@@ -131,9 +131,9 @@ module _ (name bytes : List ℕ) (args : List ℤ) (words : list_all fits args �
         (subst (λ a. IsScheduledIn (mode.Page top most) a) of_speedup scheduled)
 
     -- the page is the report of the run
-    pub page_tells : (verified : Verified) → code_view verified.code ≡ code
-        → Tells name bytes args words options code compiled (Draws code heads given) (IsUndrawn code heads given) (page_report name RELEASE.now args options.burden bytes verified)
-    page_tells verified same = record {
+    pub page_tells : (version : List ℕ) (verified : Verified) → version ≡ RELEASE.now → code_view verified.code ≡ code
+        → Tells name bytes args words options code compiled (Draws code heads given) (IsUndrawn code heads given) (page_report name version args options.burden bytes verified)
+    page_tells version verified of_version same = record {
       ended = λ d r.
           let m = may_draw r.asked in
           let end = Ended d.ended.value d.ended.lines.items d.ended.totals.items r.runs.tree in
@@ -143,7 +143,8 @@ module _ (name bytes : List ℕ) (args : List ℤ) (words : list_all fits args �
             ended = tt;
             is = answer_is name bytes args words options code compiled m end r.runs.answer;
             scheduled = bounded d r;
-            told = ap (λ k. drawn_page name RELEASE.now args options.burden bytes k d) same ∙ drawn_is d r
+            told = ap (λ v. drawn_page name v args options.burden bytes (code_view verified.code) d) of_version
+                ∙ ap (λ k. drawn_page name RELEASE.now args options.burden bytes k d) same ∙ drawn_is d r
                 ∙ ap (λ k. analyses.text_in (pages.input_of name bytes args) k compiled.program options.burden end) (sym is);
           };
       unrun = undrawn heads;

@@ -37,7 +37,8 @@ abbrev pub IsModeInRange : Mode → Type 0
 IsModeInRange (mode.Gain top) = (1 ≤ top) × (top ≤ MOST_TOP)
 IsModeInRange (mode.Greedy processors) = (1 ≤ processors) × (processors ≤ MOST_PROCESSORS)
 IsModeInRange (mode.Speedup most) = (1 ≤ most) × (most ≤ MOST_PROCESSORS)
-IsModeInRange (mode.Page top most) = IsModeInRange (mode.Gain top) × IsModeInRange (mode.Speedup most)
+IsModeInRange (mode.Page top most) =
+    ((1 ≤ top) × (top ≤ MOST_TOP)) × ((1 ≤ most) × (most ≤ MOST_PROCESSORS))
 IsModeInRange _ = Unit {0}
 
 -- the limit and the burden are in range, and the number that a mode has

@@ -15,6 +15,7 @@ use cw_compile::Compiled;
 use cw_gains::gains::{gains_of_ended, gains_of_ended_with};
 use cw_machine::alone::run_alone;
 use cw_model::burden::Burden;
+use cw_model::laws::derived_sites_are_numbered;
 use cw_model::limits::MOST_TOP;
 use cw_pool::crew::Body;
 use cw_pool::gate::Gate;
@@ -45,6 +46,7 @@ pub(crate) fn run_page<W: Sink>(
     ensures { options.mode ≡ mode.Page top most → IsMade bytes.now made
         → IsRun W.seen out.old out.new name.now bytes.now args.now options result }
 {
+    derived_sites_are_numbered();
     are_words(args);
     let code = Arc::new(alloc, made.code)?;
     let (limit, burden) = (options.limit, options.burden);
@@ -82,6 +84,7 @@ pub(crate) fn run_page_with<
     ensures { options.mode ≡ mode.Page top most → IsMade bytes.now made
         → IsRun W.seen out.old out.new name.now bytes.now args.now options result }
 {
+    derived_sites_are_numbered();
     are_words(args);
     let code = Arc::new(alloc, made.code)?;
     let (limit, burden) = (options.limit, options.burden);
