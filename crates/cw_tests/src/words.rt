@@ -10,7 +10,7 @@ use std::test::Fail;
 use std::thread::Threads;
 
 // Words that name the file f.cilk, and what they request: the mode, the arguments, the limit, the charge and the
-// edges.
+// edges. Words with `--table` request aligned columns.
 type Reading = (&'static str, Mode, &'static [i64], u64, u64, Edges);
 
 const REQUESTS: &[Reading] = &[
@@ -151,6 +151,44 @@ const REQUESTS: &[Reading] = &[
         Edges::Both,
     ),
     (
+        "scale --table f.cilk --edges both",
+        Mode::Scale,
+        &[],
+        1_000_000_000,
+        15_000,
+        Edges::Both,
+    ),
+    (
+        "gain f.cilk 3 --table",
+        Mode::Gain(10),
+        &[3],
+        1_000_000_000,
+        15_000,
+        Edges::Spawn,
+    ),
+    (
+        "page f.cilk 3",
+        Mode::Page {
+            top: 10,
+            processors: 64,
+        },
+        &[3],
+        1_000_000_000,
+        15_000,
+        Edges::Spawn,
+    ),
+    (
+        "page --processors 048 f.cilk --top=3 --burden=7 --limit 9",
+        Mode::Page {
+            top: 3,
+            processors: 48,
+        },
+        &[],
+        9,
+        7,
+        Edges::Spawn,
+    ),
+    (
         "scale f.cilk --edges both",
         Mode::Scale,
         &[],
@@ -178,6 +216,7 @@ fn asks(alloc: Global, row: &Reading) -> Result<bool, Fail> {
             charge: row.4,
             edges: row.5,
         },
+        table: row.0.contains("--table"),
     };
     Ok(
         asked.file.as_str() == "f.cilk"

@@ -4,7 +4,7 @@ use Rattle.clap.specs.Lexer.{usize_max}
 use Rattle.clap.specs.Words.{AddsSubcommand, App, Rule, Text, app_of, new_app, new_rule, with_rule, with_subcommand}
 use Rattle.clap.specs.declared.builder.Command.{Command}
 use Rattle.clap.specs.declared.builder.Command.TheViews.{out-Command}
-use Rattle.clap.specs.declared.builder.ArgAction.TheVariants.{Append, Set}
+use Rattle.clap.specs.declared.builder.ArgAction.TheVariants.{Append, Set, SetTrue}
 use Rattle.cw_model.specs.declared.burden.Edges.{Edges}
 use Rattle.cw_model.specs.declared.burden.Edges.TheVariants.{Spawn, Both}
 use Rattle.cw_model.specs.declared.limits.TheConstants.{MOST_LIMIT, MOST_BURDEN, MOST_TOP, MOST_PROCESSORS, MOST_WORKERS}
@@ -73,6 +73,10 @@ usual_edges = edges_name Spawn
 abbrev pub edges_rule : Rule
 edges_rule = option_rule (codes "edges") usual_edges
 
+-- the option for aligned columns, which takes no word
+abbrev pub table_rule : Rule
+table_rule = record (new_rule (codes "table")) { long = Some (codes "table"); action = Some SetTrue }
+
 -- the options of a command that takes a burden
 abbrev pub option_rules : List Rule
 option_rules = number_rule limit_row ∷ number_rule burden_row ∷ edges_rule ∷ number_rule workers_row ∷ []
@@ -102,15 +106,20 @@ command_name verb.Sites = codes "sites"
 command_name verb.Gain = codes "gain"
 command_name verb.Greedy = codes "greedy"
 command_name verb.Speedup = codes "speedup"
+command_name verb.Page = codes "page"
 
 -- a command that runs a program and takes a burden: with its source, its arguments and the options
 abbrev pub running_line : Text → App
 running_line name =
     fold with_rule (with_rule (with_rule (new_app name) file_rule) args_rule) option_rules
 
--- the command for gains, with how many functions it tells behind all that
+-- such a command that prints a table: with the option for aligned columns
+abbrev pub table_line : Text → App
+table_line name = with_rule (running_line name) table_rule
+
+-- the command for gains, with the number of functions that it reports
 abbrev pub gain_line : App
-gain_line = with_rule (running_line (codes "gain")) (number_rule top_row)
+gain_line = with_rule (table_line (codes "gain")) (number_rule top_row)
 
 -- the command for a schedule: with its processors before its source, its arguments, the limit and the workers
 abbrev pub greedy_line : App
@@ -119,15 +128,22 @@ greedy_line = fold with_rule (new_app (codes "greedy"))
 
 -- the command for speedups: with the number of processors up to which it reports them
 abbrev pub speedup_line : App
-speedup_line = with_rule (running_line (codes "speedup")) (number_rule up_to_row)
+speedup_line = with_rule (table_line (codes "speedup")) (number_rule up_to_row)
+
+-- the command for a page: with the numbers of both
+abbrev pub page_line : App
+page_line = with_rule (with_rule (running_line (codes "page")) (number_rule top_row)) (number_rule up_to_row)
 
 -- the words of each command: a check has its source alone
 abbrev pub line_of : Verb → App
 line_of verb.Check = with_rule (new_app (codes "check")) file_rule
+line_of verb.Run = running_line (codes "run")
+line_of verb.Scale = table_line (codes "scale")
+line_of verb.Sites = table_line (codes "sites")
 line_of verb.Gain = gain_line
 line_of verb.Greedy = greedy_line
 line_of verb.Speedup = speedup_line
-line_of v = running_line (command_name v)
+line_of verb.Page = page_line
 
 -- a command is of this line, also below another one
 pub record IsCommandOf (line : App) (c : Command) : Type 0 where
@@ -142,7 +158,8 @@ with_words_alone a = record a { top = record a.top { no_binary_name = true; subc
 
 -- the commands, in their order
 abbrev pub verbs : List Verb
-verbs = verb.Check ∷ verb.Run ∷ verb.Scale ∷ verb.Sites ∷ verb.Gain ∷ verb.Greedy ∷ verb.Speedup ∷ []
+verbs =
+    verb.Check ∷ verb.Run ∷ verb.Scale ∷ verb.Sites ∷ verb.Gain ∷ verb.Greedy ∷ verb.Speedup ∷ verb.Page ∷ []
 
 -- the whole command line
 abbrev pub command_line : App

@@ -1,7 +1,8 @@
 -- What the words ask for.
 use Rattle.std.specs.Prelude.{◌≡◌, ◌≢◌, ℕ, ℤ, Bool, true, false, pos, List, [], ◌∷◌, map, All, Option, Some}
 use Rattle.std.specs.Prelude.{None, unwrap_or, codes, string_bytes, is_some}
-use Rattle.std.specs.Option.{SomeIff}
+use Rattle.std.specs.Option.{SomeIff, option_map_or}
+use Rattle.std.specs.Str.{bytes_eq}
 use Rattle.clap.specs.Words.{IsAmong, Kinds, Row, Text, all_of, fault_of, first_of, subcommand_of}
 use Rattle.clap.specs.declared.error.ErrorKind.{ErrorKind}
 use Rattle.clap.specs.declared.error.ErrorKind.TheVariants as kind
@@ -24,7 +25,7 @@ use Rattle.cw_words.specs.declared.asked.Said.TheVariants as said
 
 -- the options of a run that is given none
 abbrev pub usual_options : Options
-usual_options = record { mode = mode.Run; limit = USUAL_LIMIT; burden = on_spawns USUAL_BURDEN }
+usual_options = record { mode = mode.Run; limit = USUAL_LIMIT; burden = on_spawns USUAL_BURDEN; table = false }
 
 -- the command of this name, if there is one
 abbrev pub IsVerbNamed : Text → Option Verb → Type 0
@@ -32,7 +33,7 @@ IsVerbNamed name None = (v : Verb) → command_name v ≢ name
 IsVerbNamed name (Some v) = command_name v ≡ name
 
 -- the mode that a command asks for: a schedule has its processors, speedups have the processors up to which they are
--- reported, and gains the number of functions
+-- reported, gains the number of functions, and a page has both
 abbrev pub mode_with : Verb → (processors up_to top : ℕ) → Mode
 mode_with verb.Check processors up_to top = mode.Check
 mode_with verb.Run processors up_to top = mode.Run
@@ -41,6 +42,7 @@ mode_with verb.Sites processors up_to top = mode.Sites
 mode_with verb.Gain processors up_to top = mode.Gain top
 mode_with verb.Greedy processors up_to top = mode.Greedy processors
 mode_with verb.Speedup processors up_to top = mode.Speedup up_to
+mode_with verb.Page processors up_to top = mode.Page top up_to
 
 -- the edges of this name, if there are any
 abbrev pub IsEdgesNamed : Text → Option Edges → Type 0
@@ -52,20 +54,22 @@ abbrev pub NamesNoCommand : Option (Text × List Row) → Type 0
 NamesNoCommand entered = (v : Verb) (rows : List Row) → entered ≢ Some (command_name v, rows)
 
 -- what a command's words are: its verb, its source, the arguments of main, a word for each row of the table of
--- numbers, and the word for the edges that are charged
+-- numbers, the word for the edges that are charged, and whether they ask for aligned columns
 pub record Words : Type 0 where
   pub verb : Verb
   pub file : Text
   pub args : List Text
   pub numbers : List Text
   pub edges : Text
+  pub table : Bool
 
--- the options and the workers of a command with these numbers, in the order of the table, and this word for the edges
-abbrev pub AreOptionsOf : Verb → List ℕ → (edges : Text) → Options → (workers : ℕ) → Type 0
-AreOptionsOf v (limit ∷ charge ∷ processors ∷ up_to ∷ top ∷ workers ∷ []) edges o w =
+-- the options and the workers of a command with these numbers, in the order of their list, this word for the edges, and
+-- aligned columns or CSV
+abbrev pub AreOptionsOf : Verb → List ℕ → (edges : Text) → (table : Bool) → Options → (workers : ℕ) → Type 0
+AreOptionsOf v (limit ∷ charge ∷ processors ∷ up_to ∷ top ∷ workers ∷ []) edges table o w =
     (o.mode ≡ mode_with v processors up_to top) × (o.limit ≡ limit) × (o.burden.charge ≡ charge)
-    × (edges_name o.burden.edges ≡ edges) × (w ≡ workers)
-AreOptionsOf v _ edges o w = ⊥
+    × (edges_name o.burden.edges ≡ edges) × (o.table ≡ table) × (w ≡ workers)
+AreOptionsOf v _ edges table o w = ⊥
 
 -- what the rows have for an argument that is given any number of times
 abbrev pub texts_of : List Row → Text → List Text
@@ -86,6 +90,10 @@ numbers_of rows = map (λ row. number_text rows row) number_rows
 -- the word for the edges, or the usual one
 abbrev pub edges_text : List Row → Text
 edges_text rows = unwrap_or (first_of (codes "edges") rows) usual_edges
+
+-- whether the rows ask for aligned columns
+abbrev pub asks_table : List Row → Bool
+asks_table rows = option_map_or (λ text. bytes_eq text (codes "true")) (first_of (codes "table") rows) false
 
 -- a word that names edges
 abbrev pub NamesEdges : Text → Type 0
@@ -121,7 +129,7 @@ pub record IsRequestOf (words : Words) (r : Request) : Type 0 where
   pub in_range : AreNumbers words.args words.numbers
   pub file_is : string_bytes r.file ≡ words.file
   pub args_are : r.args.items ≡ values_of words.args
-  pub options_are : AreOptionsOf words.verb (map decimal_value words.numbers) words.edges r.options r.workers
+  pub options_are : AreOptionsOf words.verb (map decimal_value words.numbers) words.edges words.table r.options r.workers
 
 -- the words that the rows of a command have, of this source
 abbrev pub words_in : Verb → Text → List Row → Words
@@ -131,6 +139,7 @@ words_in v file rows = record {
   args = texts_of rows (codes "ARGS");
   numbers = numbers_of rows;
   edges = edges_text rows;
+  table = asks_table rows;
 }
 
 -- the request that the rows of a command make
@@ -160,6 +169,7 @@ pub record AreRead (given : List Text) (words : Words) : Type 0 where
   pub args_are : texts_of rows (codes "ARGS") ≡ words.args
   pub numbers_are : numbers_of rows ≡ words.numbers
   pub edges_are : edges_text rows ≡ words.edges
+  pub table_is : asks_table rows ≡ words.table
 
 -- the request is of the words that what is given is read as
 pub record Asks (given : List Text) (r : Request) : Type 0 where

@@ -1,5 +1,5 @@
 -- What words come to that start with no hyphen, and some that are written out.
-use Rattle.std.specs.Prelude.{◌≡◌, ◌≢◌, ◌^◌, ◌<◌, List, [], ◌∷◌, All, Some, codes, length, map, slice_get}
+use Rattle.std.specs.Prelude.{◌≡◌, ◌≢◌, ◌^◌, ◌<◌, true, false, List, [], ◌∷◌, All, Some, codes, length, map, slice_get}
 use Rattle.clap.specs.Words.{Text}
 use Rattle.clap.specs.declared.error.ErrorKind.TheVariants as kind
 use Rattle.cw_model.specs.declared.limits.TheConstants.{USUAL_LIMIT, USUAL_BURDEN, USUAL_TOP}
@@ -18,7 +18,8 @@ IsPlain word = slice_get word 0 ≢ Some 45
 
 -- a check of this source
 abbrev pub checking : Text → Words
-checking file = record { verb = verb.Check; file = file; args = []; numbers = usual_numbers; edges = usual_edges }
+checking file =
+    record { verb = verb.Check; file = file; args = []; numbers = usual_numbers; edges = usual_edges; table = false }
 
 -- a run of this source on these arguments, by this verb, with the words for the limit and the burden
 abbrev pub running : Verb → (file : Text) (args : List Text) (limit burden : Text) → Words
@@ -29,12 +30,18 @@ running v file args limit burden =
       args = args;
       numbers = limit ∷ burden ∷ processors_row.usual ∷ up_to_row.usual ∷ top_row.usual ∷ workers_row.usual ∷ [];
       edges = usual_edges;
+      table = false;
     }
 
 -- the same with the usual numbers, and with the word for the edges that are charged
 abbrev pub running_along : Verb → (file : Text) (args : List Text) (edges : Text) → Words
 running_along v file args edges =
-    record { verb = v; file = file; args = args; numbers = usual_numbers; edges = edges }
+    record { verb = v; file = file; args = args; numbers = usual_numbers; edges = edges; table = false }
+
+-- the same with the usual word for the edges, and aligned columns
+abbrev pub running_aligned : Verb → (file : Text) (args : List Text) → Words
+running_aligned v file args =
+    record { verb = v; file = file; args = args; numbers = usual_numbers; edges = usual_edges; table = true }
 
 -- a run of this source on these arguments, by this verb, with the word for the workers
 abbrev pub running_on : Verb → (file : Text) (args : List Text) (workers : Text) → Words
@@ -45,6 +52,7 @@ running_on v file args workers =
       args = args;
       numbers = limit_row.usual ∷ burden_row.usual ∷ processors_row.usual ∷ up_to_row.usual ∷ top_row.usual ∷ workers ∷ [];
       edges = usual_edges;
+      table = false;
     }
 
 -- a schedule of this source on these arguments, with the words for the processors and the limit
@@ -56,6 +64,7 @@ scheduling processors file args limit =
       args = args;
       numbers = limit ∷ burden_row.usual ∷ processors ∷ up_to_row.usual ∷ top_row.usual ∷ workers_row.usual ∷ [];
       edges = usual_edges;
+      table = false;
     }
 
 -- gains of this source on these arguments, with the words for the functions that are told and for the burden
@@ -67,6 +76,7 @@ gaining file args top burden =
       args = args;
       numbers = limit_row.usual ∷ burden ∷ processors_row.usual ∷ up_to_row.usual ∷ top ∷ workers_row.usual ∷ [];
       edges = usual_edges;
+      table = false;
     }
 
 -- speedups of this source on these arguments, with the words for the processors up to which they are reported and for
@@ -79,6 +89,20 @@ speeding file args up_to burden =
       args = args;
       numbers = limit_row.usual ∷ burden ∷ processors_row.usual ∷ up_to ∷ top_row.usual ∷ workers_row.usual ∷ [];
       edges = usual_edges;
+      table = false;
+    }
+
+-- a page of this source on these arguments, with the words for the functions in its report of gains, for the processors
+-- up to which speedups are reported, and for the burden
+abbrev pub paging : (file : Text) (args : List Text) (up_to top burden : Text) → Words
+paging file args up_to top burden =
+    record {
+      verb = verb.Page;
+      file = file;
+      args = args;
+      numbers = limit_row.usual ∷ burden ∷ processors_row.usual ∷ up_to ∷ top ∷ workers_row.usual ∷ [];
+      edges = usual_edges;
+      table = false;
     }
 
 -- the command runs a program, and takes a burden and no number of its own
@@ -87,7 +111,14 @@ TakesBurden verb.Check = ⊥
 TakesBurden verb.Gain = ⊥
 TakesBurden verb.Greedy = ⊥
 TakesBurden verb.Speedup = ⊥
+TakesBurden verb.Page = ⊥
 TakesBurden _ = Unit {0}
+
+-- the command prints a table of its own run alone
+abbrev pub HasTable : Verb → Type 0
+HasTable verb.Scale = Unit {0}
+HasTable verb.Sites = Unit {0}
+HasTable _ = ⊥
 
 -- such a word after `check` is the source
 abbrev pub CheckIsRead : Type 0
@@ -120,6 +151,13 @@ EdgesAreRead =
     (v : Verb) (edges file : Text) (args : List Text) → TakesBurden v
     → IsPlain edges → IsPlain file → All IsPlain args → length args < 2 ^ 64
     → AreRead (command_name v ∷ codes "--edges" ∷ edges ∷ file ∷ args) (running_along v file args edges)
+
+-- the same of a command that prints a table, with `--table` before them
+abbrev pub TablesAreRead : Type 0
+TablesAreRead =
+    (v : Verb) (file : Text) (args : List Text) → HasTable v
+    → IsPlain file → All IsPlain args → length args < 2 ^ 64
+    → AreRead (command_name v ∷ codes "--table" ∷ file ∷ args) (running_aligned v file args)
 
 -- the same with workers before them
 abbrev pub WorkersAreRead : Type 0
@@ -167,6 +205,26 @@ SpeedupProcessorsAreRead =
     (up_to file : Text) (args : List Text) → IsPlain up_to → IsPlain file → All IsPlain args → length args < 2 ^ 64
     → AreRead (codes "speedup" ∷ codes "--processors" ∷ up_to ∷ file ∷ args)
     (speeding file args up_to burden_row.usual)
+
+-- such words after `page` are the source and the arguments, in their order
+abbrev pub PageIsRead : Type 0
+PageIsRead =
+    (file : Text) (args : List Text) → IsPlain file → All IsPlain args → length args < 2 ^ 64
+    → AreRead (codes "page" ∷ file ∷ args) (paging file args up_to_row.usual top_row.usual burden_row.usual)
+
+-- the same with processors before them
+abbrev pub PageProcessorsAreRead : Type 0
+PageProcessorsAreRead =
+    (up_to file : Text) (args : List Text) → IsPlain up_to → IsPlain file → All IsPlain args → length args < 2 ^ 64
+    → AreRead (codes "page" ∷ codes "--processors" ∷ up_to ∷ file ∷ args)
+    (paging file args up_to top_row.usual burden_row.usual)
+
+-- the same with a number of functions before them
+abbrev pub PageTopIsRead : Type 0
+PageTopIsRead =
+    (top file : Text) (args : List Text) → IsPlain top → IsPlain file → All IsPlain args → length args < 2 ^ 64
+    → AreRead (codes "page" ∷ codes "--top" ∷ top ∷ file ∷ args)
+    (paging file args up_to_row.usual top burden_row.usual)
 
 -- words that are taken are read
 abbrev pub TakenWordsAreRead : Type 0
@@ -218,12 +276,23 @@ WordExamples =
     (speeding (codes "f") (codes "4" ∷ codes "7" ∷ []) (codes "48") (codes "15000"))
     × AreRead (codes "speedup" ∷ codes "--burden=0" ∷ codes "--processors=8" ∷ codes "--" ∷ codes "-f" ∷ [])
     (speeding (codes "-f") [] (codes "8") (codes "0"))
+    × AreRead (codes "scale" ∷ codes "f" ∷ codes "4" ∷ codes "--table" ∷ codes "7" ∷ [])
+    (running_aligned verb.Scale (codes "f") (codes "4" ∷ codes "7" ∷ []))
+    × AreRead (codes "gain" ∷ codes "--table" ∷ codes "f" ∷ codes "--top=3" ∷ [])
+    (record (gaining (codes "f") [] (codes "3") (codes "15000")) { table = true })
+    × AreRead (codes "speedup" ∷ codes "f" ∷ codes "--processors=8" ∷ codes "--table" ∷ [])
+    (record (speeding (codes "f") [] (codes "8") (codes "15000")) { table = true })
+    × AreRead (codes "page" ∷ codes "f" ∷ codes "4" ∷ codes "--top" ∷ codes "3" ∷ codes "--processors" ∷ codes "48" ∷ [])
+    (paging (codes "f") (codes "4" ∷ []) (codes "48") (codes "3") (codes "15000"))
+    × AreRead (codes "page" ∷ codes "--burden=0" ∷ codes "--" ∷ codes "-f" ∷ codes "--table" ∷ [])
+    (paging (codes "-f") (codes "--table" ∷ []) (codes "64") (codes "10") (codes "0"))
 
 -- words that are not taken: none, no source, a word too many for a check, a limit, a burden, workers or edges for a
 -- check, an unknown word, a negative number, no limit, two limits, no burden, two burdens, no workers, no edges, gains
 -- without a source or with no count of functions, such a count for another command, a schedule without processors,
 -- without a source, with a burden or with edges, speedups without a source or with no count of processors, such a count
--- for another command, and calls for help
+-- for another command, aligned columns for a command without a table, a value for them, them twice, a page without a
+-- source, and calls for help
 abbrev pub RefusalExamples : Type 0
 RefusalExamples =
     (faults [] ≡ kind.MissingSubcommand ∷ [])
@@ -254,6 +323,12 @@ RefusalExamples =
     × (faults (codes "speedup" ∷ []) ≡ kind.MissingRequiredArgument ∷ [])
     × (faults (codes "speedup" ∷ codes "f" ∷ codes "--processors" ∷ []) ≡ kind.InvalidValue ∷ [])
     × (faults (codes "scale" ∷ codes "f" ∷ codes "--processors=8" ∷ []) ≡ kind.UnknownArgument ∷ [])
+    × (faults (codes "run" ∷ codes "f" ∷ codes "--table" ∷ []) ≡ kind.UnknownArgument ∷ [])
+    × (faults (codes "greedy" ∷ codes "2" ∷ codes "f" ∷ codes "--table" ∷ []) ≡ kind.UnknownArgument ∷ [])
+    × (faults (codes "scale" ∷ codes "f" ∷ codes "--table=1" ∷ []) ≡ kind.TooManyValues ∷ [])
+    × (faults (codes "scale" ∷ codes "f" ∷ codes "--table" ∷ codes "--table" ∷ []) ≡ kind.ArgumentConflict ∷ [])
+    × (faults (codes "page" ∷ []) ≡ kind.MissingRequiredArgument ∷ [])
+    × (faults (codes "page" ∷ codes "f" ∷ codes "--table" ∷ []) ≡ kind.UnknownArgument ∷ [])
     × (faults (codes "--help" ∷ []) ≡ kind.DisplayHelp ∷ [])
     × (faults (codes "check" ∷ codes "--help" ∷ []) ≡ kind.DisplayHelp ∷ [])
     × (faults (codes "run" ∷ codes "--help" ∷ []) ≡ kind.DisplayHelp ∷ [])
@@ -262,3 +337,4 @@ RefusalExamples =
     × (faults (codes "gain" ∷ codes "--help" ∷ []) ≡ kind.DisplayHelp ∷ [])
     × (faults (codes "greedy" ∷ codes "--help" ∷ []) ≡ kind.DisplayHelp ∷ [])
     × (faults (codes "speedup" ∷ codes "--help" ∷ []) ≡ kind.DisplayHelp ∷ [])
+    × (faults (codes "page" ∷ codes "--help" ∷ []) ≡ kind.DisplayHelp ∷ [])

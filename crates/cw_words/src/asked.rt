@@ -32,6 +32,13 @@ pub enum Mode {
     /// Steps and speedups on 1, 2, 4, .. processors up to this number (1 to 1,000,000), with the bound that work and span
     /// set, and an estimate that charges the burden.
     Speedup(u64),
+    /// A page that draws all reports of a run.
+    Page {
+        /// The maximum number of functions in its report of gains (1 to 64).
+        top: u64,
+        /// The processors up to which it reports speedups (1 to 1,000,000).
+        processors: u64,
+    },
 }
 
 /// How to analyse a program. A check uses neither the limit nor the burden; `Run`, `Sites` and `Greedy` take
@@ -44,6 +51,8 @@ pub struct Options {
     pub limit: u64,
     /// What each spawn is charged, from 0 to 1,000,000,000 instructions an edge.
     pub burden: Burden,
+    /// Whether `Scale`, `Sites`, `Gain` and `Speedup` write aligned columns in place of CSV. The other modes ignore it.
+    pub table: bool,
 }
 
 /// What the words ask for.
@@ -101,6 +110,7 @@ impl Request {
                     charge: USUAL_BURDEN,
                     edges: Edges::Spawn,
                 },
+                table: false,
             },
             workers: USUAL_WORKERS,
             explain: false,

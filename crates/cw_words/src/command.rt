@@ -12,18 +12,24 @@ ghost use Rattle.cw_words.specs.Command.{
   needed_rule,
   number_rule,
   option_rule,
+  page_line,
   running_line,
+  table_line,
+  table_rule,
 };
 ghost use Rattle.cw_words.specs.declared.verb.Verb.TheVariants as verb;
 ghost use Rattle.cw_words.specs.Rows.{row_of};
 
 use crate::edges::{EDGES, USUAL_EDGES};
 use crate::help::{
-    OF_CHECK, OF_GAIN, OF_GREEDY, OF_PROGRAM, OF_RUN, OF_SCALE, OF_SITES, OF_SPEEDUP,
+    OF_CHECK, OF_GAIN, OF_GREEDY, OF_PAGE, OF_PROGRAM, OF_RUN, OF_SCALE, OF_SITES, OF_SPEEDUP,
 };
 use crate::number::{BURDEN, LIMIT, NumberOption, PROCESSORS, TOP, UP_TO, WORKERS};
 use clap::{Arg, ArgAction, Command};
 use std::alloc::{AllocError, Global};
+
+/// The name of the option for aligned columns, without its hyphens.
+pub const TABLE: &str = "table";
 
 /// What the program's words are read by.
 pub fn command<'a>(alloc: Global) -> Result<Command<'a>, AllocError>
@@ -36,13 +42,13 @@ pub fn command<'a>(alloc: Global) -> Result<Command<'a>, AllocError>
         "Runs a program and prints its output and results",
         OF_RUN,
     )?;
-    let scale = running_command(
+    let scale = table_command(
         alloc,
         "scale",
         "Runs a program and prints its work and span by region",
         OF_SCALE,
     )?;
-    let sites = running_command(
+    let sites = table_command(
         alloc,
         "sites",
         "Runs a program and prints its work and span by call site",
@@ -51,6 +57,7 @@ pub fn command<'a>(alloc: Global) -> Result<Command<'a>, AllocError>
     let gain = gain_command(alloc)?;
     let greedy = greedy_command(alloc)?;
     let speedup = speedup_command(alloc)?;
+    let page = page_command(alloc)?;
     let command = Command::new(alloc, "cilkwork")
         .bin_name("cilkwork")?
         .about("Measures how much parallelism a Cilk program has, and what limits it")
@@ -63,7 +70,8 @@ pub fn command<'a>(alloc: Global) -> Result<Command<'a>, AllocError>
         .subcommand(sites)?
         .subcommand(gain)?
         .subcommand(greedy)?
-        .subcommand(speedup)?;
+        .subcommand(speedup)?
+        .subcommand(page)?;
     Ok(command)
 }
 
@@ -80,7 +88,7 @@ fn check_command<'a>(alloc: Global) -> Result<Command<'a>, AllocError>
 fn gain_command<'a>(alloc: Global) -> Result<Command<'a>, AllocError>
     ensures { IfOk result (IsCommandOf (line_of verb.Gain)) }
 {
-    let running = running_command(
+    let running = table_command(
         alloc,
         "gain",
         "Runs a program and prints what a faster function would gain at most",
@@ -107,13 +115,40 @@ fn greedy_command<'a>(alloc: Global) -> Result<Command<'a>, AllocError>
 fn speedup_command<'a>(alloc: Global) -> Result<Command<'a>, AllocError>
     ensures { IfOk result (IsCommandOf (line_of verb.Speedup)) }
 {
-    let running = running_command(
+    let running = table_command(
         alloc,
         "speedup",
         "Runs a program and prints its speedup by number of processors",
         OF_SPEEDUP,
     )?;
     let command = running.arg(number(alloc, UP_TO))?;
+    Ok(command)
+}
+
+fn page_command<'a>(alloc: Global) -> Result<Command<'a>, AllocError>
+    ensures { IfOk result (IsCommandOf page_line) }
+{
+    let running = running_command(
+        alloc,
+        "page",
+        "Runs a program and prints a page that draws all reports",
+        OF_PAGE,
+    )?;
+    let command = running.arg(number(alloc, TOP))?.arg(number(alloc, UP_TO))?;
+    Ok(command)
+}
+
+// A command that runs a program and prints a table: its name, a line on it, and the text after its options.
+fn table_command<'a>(
+    alloc: Global,
+    name: &'static str,
+    about: &'static str,
+    help: &'static str,
+) -> Result<Command<'a>, AllocError>
+    ensures { IfOk result (IsCommandOf (table_line name.now)) }
+{
+    let running = running_command(alloc, name, about, help)?;
+    let command = running.arg(table(alloc))?;
     Ok(command)
 }
 
@@ -188,6 +223,17 @@ fn edges<'a>(alloc: Global) -> Arg<'a>
         USUAL_EDGES,
         "The charged edges: spawn or both",
     )
+}
+
+// The option for aligned columns.
+fn table<'a>(alloc: Global) -> Arg<'a>
+    ensures rule { rule_of result ≡ table_rule }
+    ensures local { result.global ≡ false }
+{
+    Arg::new(alloc, TABLE)
+        .long(TABLE)
+        .action(ArgAction::SetTrue)
+        .help("Aligns the columns, in place of CSV")
 }
 
 // An option that takes a word, by its name, what the help calls the word, and the word where it is not given.

@@ -21,8 +21,10 @@ Standard output:
            nothing, for the functions with the largest own spans
   greedy   the number of steps that the run takes on P processors
   speedup  a table of steps and speedups on 1, 2, 4, .. processors
-A table is CSV; its first line names the columns. Work, span, limit and burden
-are numbers of instructions.
+  page     an HTML page that draws all reports of the run
+A table is CSV; its first line names the columns. --table aligns the columns of
+scale, sites, gain and speedup instead. Work, span, limit and burden are numbers
+of instructions.
 
 Every command accepts these words, too, anywhere among the others:
   --explain   after the line on standard error, explains why the source was
@@ -42,7 +44,7 @@ A number is one or more decimal digits; leading zeros are allowed:
   --workers 1 to 64; the number of threads that execute the run. No report
             depends on it
   --top     1 to 64
-  --processors  1 to 1000000; the largest number that speedup reports
+  --processors  1 to 1000000; the largest number that speedup and page report
 
 Exit status and standard error (L is a line of the source):
   0                     the report is on standard output
@@ -168,6 +170,21 @@ GUIDE.md explains how to read it; 'cilkwork --help' says where it is.
 
 --explain explains why the source was rejected or the run trapped. 'cilkwork
 --help' describes P, ARGS and numbers, and lists the exit statuses.";
+
+/// Follows the options in the help of `page`.
+pub const OF_PAGE: &str = "\
+Prints one HTML file that needs no other file and no network: what limits the
+run, its speedup by number of processors, where work and span go by function and
+by call site, the regions, the source, the output of the program and the reports
+as text. It draws them with JavaScript; without it, the source and the reports
+are readable. The page compares the run with an earlier page that you open in
+it. The output is cut after its last line within 1 MiB. --top acts as in gain,
+--processors as in speedup, --burden and --edges as in scale. If the run does
+not return, there is no page: standard error has the same line as for run.
+  cilkwork page FILE ARGS > page.html
+
+--explain explains why the source was rejected or the run trapped. 'cilkwork
+--help' describes ARGS and numbers, and lists the exit statuses.";
 
 /// Follows the options in the help of `speedup`.
 pub const OF_SPEEDUP: &str = "\

@@ -15,6 +15,7 @@ pub enum Verb {
     Gain,
     Greedy,
     Speedup,
+    Page,
 }
 
 impl Verb {
@@ -22,13 +23,19 @@ impl Verb {
     pub fn options(self) -> &'static str {
         match self {
             Verb::Check => "--explain and --help",
-            Verb::Run | Verb::Scale | Verb::Sites => {
-                "--limit, --burden, --edges, --workers, --explain and --help"
+            Verb::Run => "--limit, --burden, --edges, --workers, --explain and --help",
+            Verb::Scale | Verb::Sites => {
+                "--limit, --burden, --edges, --workers, --table, --explain and --help"
             }
-            Verb::Gain => "--limit, --burden, --edges, --workers, --top, --explain and --help",
+            Verb::Gain => {
+                "--limit, --burden, --edges, --workers, --table, --top, --explain and --help"
+            }
             Verb::Greedy => "--limit, --workers, --explain and --help",
             Verb::Speedup => {
-                "--limit, --burden, --edges, --workers, --processors, --explain and --help"
+                "--limit, --burden, --edges, --workers, --table, --processors, --explain and --help"
+            }
+            Verb::Page => {
+                "--limit, --burden, --edges, --workers, --top, --processors, --explain and --help"
             }
         }
     }
@@ -46,12 +53,13 @@ pub fn verb_named(name: &str) -> Option<Verb>
         "gain" => Some(Verb::Gain),
         "greedy" => Some(Verb::Greedy),
         "speedup" => Some(Verb::Speedup),
+        "page" => Some(Verb::Page),
         _ => None,
     }
 }
 
-/// Returns the mode that a verb asks for: a schedule on `processors`, speedups up to `up_to` processors, or the gains of
-/// at most `top` functions. Other modes have no number.
+/// Returns the mode that a verb asks for: a schedule on `processors`, speedups up to `up_to` processors, the gains of at
+/// most `top` functions, or a page with both. Other modes have no number.
 pub fn mode_of(verb: Verb, processors: u64, up_to: u64, top: u64) -> Mode
     ensures { result ≡ mode_with verb processors up_to top }
 {
@@ -63,5 +71,9 @@ pub fn mode_of(verb: Verb, processors: u64, up_to: u64, top: u64) -> Mode
         Verb::Gain => Mode::Gain(top),
         Verb::Greedy => Mode::Greedy(processors),
         Verb::Speedup => Mode::Speedup(up_to),
+        Verb::Page => Mode::Page {
+            top,
+            processors: up_to,
+        },
     }
 }

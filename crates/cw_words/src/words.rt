@@ -25,13 +25,14 @@ ghost use Rattle.cw_words.specs.Requests.{
   IsSaidAt,
   IsSaidOf,
   NamesNoCommand,
+  asks_table,
   faults,
   value_of,
 };
 ghost use Rattle.cw_words.specs.Rows.{IsGivenNumber};
 
 use crate::asked::{Options, Request, Said};
-use crate::command::command;
+use crate::command::{TABLE, command};
 use crate::edges::edges_of;
 use crate::misused::misuse_text;
 use crate::number::{BURDEN, LIMIT, NumberOption, PROCESSORS, TOP, UP_TO, WORKERS, read_number};
@@ -114,6 +115,7 @@ fn asked_by(alloc: Global, verb: Verb, given: &ArgMatches<'_>) -> Result<Request
         mode: mode_of(verb, processors, up_to, top),
         limit,
         burden: Burden { charge, edges },
+        table: asks_table(given),
     };
     Ok(Request {
         file,
@@ -122,6 +124,16 @@ fn asked_by(alloc: Global, verb: Verb, given: &ArgMatches<'_>) -> Result<Request
         workers,
         explain: false,
     })
+}
+
+// Returns whether aligned columns are asked for.
+fn asks_table(given: &ArgMatches<'_>) -> bool
+    ensures { result ≡ asks_table (rows_of (found_of given.now)) }
+{
+    match given.get_str(TABLE) {
+        Some(text) => text == "true",
+        None => false,
+    }
 }
 
 // The number that is given, or the usual one.

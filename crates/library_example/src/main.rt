@@ -37,6 +37,7 @@ fn main(rt: HostRuntime) -> ExitCode {
             charge: 15_000,
             edges: Edges::Spawn,
         },
+        table: false,
     };
     // a sink counts failed writes; `Counted` makes one of any writer, also of a `Vec`
     let mut out = Counted::new(io::writer(&rt));
