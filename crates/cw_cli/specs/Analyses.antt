@@ -1,5 +1,5 @@
 -- What an analysis of bytes answers, and what it writes.
-use Rattle.std.specs.Prelude.{◌≡◌, ◌≢◌, ◌≤◌, ◌<◌, ℕ, ℤ, List, length, Result, Err, MatchResult}
+use Rattle.std.specs.Prelude.{◌≡◌, ◌≢◌, ◌≤◌, ◌<◌, ℕ, ℤ, Bool, List, length, Result, Err, MatchResult}
 use Rattle.cw_model.specs.declared.burden.Burden.{Burden}
 use Rattle.cw_model.specs.declared.limits.TheConstants.{MOST_LIMIT, MOST_BURDEN, MOST_TOP, MOST_PROCESSORS}
 use Rattle.cw_model.specs.declared.trap.Trap.{Trap}
@@ -14,6 +14,7 @@ use Rattle.cw_pool.specs.declared.run.TheConstants.{MOST_BODIES}
 use Rattle.cw_report.specs.Seen.{Seen}
 use Rattle.cw_report.specs.Sinks.{WritesAll, WritesPart}
 use Rattle.cw_cli.specs.Schedules.{greedy_text, IsScheduledIn, HasTooManyStrands}
+use Rattle.cw_cli.specs.Forms.{in_form}
 use Rattle.cw_cli.specs.Speedups.{speedup_text}
 use Rattle.cw_compile.specs.Sources.{Compiles, IsRefused}
 use Rattle.cw_words.specs.declared.asked.Mode.{Mode}
@@ -29,6 +30,10 @@ text_in mode.Sites program burden answer = report_text report.Sites program burd
 text_in (mode.Gain top) program burden answer = report_text (report.Gain top) program burden answer
 text_in (mode.Greedy processors) program burden answer = greedy_text processors answer
 text_in (mode.Speedup most) program burden answer = speedup_text most burden answer
+
+-- the same as it is written: CSV, or aligned columns if the options ask for a table
+abbrev pub report_in : Mode → (table : Bool) → Program → (burden : Burden) → Answer → List ℕ
+report_in m table program burden answer = in_form m table (text_in m program burden answer)
 
 -- a schedule is for processors in range, speedups go up to such processors, and functions that are told are so many
 abbrev pub IsModeInRange : Mode → Type 0
@@ -61,7 +66,8 @@ answer_to program args options = serial_answer program args options.limit
 -- the report of a program; that of a check says nothing of what the program answers, and of a trap only a run
 -- writes what it printed before
 abbrev pub text_of : Program → List ℤ → Options → List ℕ
-text_of program args options = text_in options.mode program options.burden (answer_to program args options)
+text_of program args options =
+    report_in options.mode options.table program options.burden (answer_to program args options)
 
 -- what is told of a schedule that is asked for
 abbrev pub IsScheduleOf : Program → List ℤ → Options → Type 0

@@ -412,7 +412,7 @@ fn run_speedup<W: Sink>(
     are_words(args);
     let code = Arc::new(alloc, code)?;
     let told = speedup_alone(alloc, code, args, options.limit, options.burden, most);
-    speedup(alloc, &told, out)?;
+    speedup(alloc, &told, options.table, out)?;
     told?;
     Ok(())
 }
@@ -472,7 +472,7 @@ fn run_speedup_with<
     let code = Arc::new(alloc, code)?;
     let (limit, burden) = (options.limit, options.burden);
     let told = speedup_with(rt, alloc, code, args, limit, burden, most, crew, gate);
-    speedup(alloc, &told, out)?;
+    speedup(alloc, &told, options.table, out)?;
     told?;
     Ok(())
 }

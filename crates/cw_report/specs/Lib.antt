@@ -5,3 +5,6 @@ pub mod Tables
 pub mod Texts
 pub mod Speedups
 pub mod Answers
+pub mod Aligned
+pub mod Sized
+pub mod Layouts
