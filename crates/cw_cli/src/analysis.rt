@@ -77,9 +77,9 @@ pub fn analyse_alone<W: Sink>(
 /// The errors and what is written are those of `analyse_alone`, which it calls where the crew is empty: no byte depends
 /// on the crew, on what its bodies and the gate do, or on the order in which workers come to steal. A check and a run of
 /// code that spawns nothing are made by the caller's thread alone. In mode `Gain` the crew does the first run, and behind it
-/// as many threads as there are workers the further ones, side by side; in mode `Greedy` the crew does the run, and the
-/// caller's thread the schedule; in mode `Speedup` the crew does the run, and the caller's thread a second run, which
-/// measures, and the schedules.
+/// as many threads as there are workers the further ones, side by side; in modes `Greedy` and `Speedup` the crew does
+/// the run, and the caller's thread the schedules. Of a run with more than 1,000,000 strands mode `Speedup` takes the
+/// measures from a second run, by the caller's thread.
 ///
 /// Before all that, a crew of more than 63 bodies is `Arguments` in each mode, with nothing written.
 ///
