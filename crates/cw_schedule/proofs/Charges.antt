@@ -1,11 +1,11 @@
 -- The burdened span of the tree of a record fits into 64 bits.
-use Rattle.std.proofs.Common.{◌≡◌, ◌≤◌, ◌<◌, ◌+◌, ◌*◌, ℕ, max, arith}
+use Rattle.std.proofs.Common.{◌≤◌, ◌+◌, ◌*◌, ℕ, arith}
 use Rattle.std.proofs.Math.Nat.{mul-add, mul-le-mul}
 use Rattle.cw_model.specs.declared.burden.Burden.{Burden}
 use Rattle.cw_model.specs.declared.burden.Edges.{Edges}
 use Rattle.cw_model.specs.declared.burden.Edges.TheVariants as edges
 use Rattle.cw_model.specs.declared.limits.TheConstants.{MOST_BURDEN, MOST_STRANDS}
-use Rattle.cw_model.specs.Burdens.{at_child, at_rest, on_returns}
+use Rattle.cw_model.specs.Burdens.{on_returns}
 use Rattle.cw_model.specs.Trees.{Tree, Leaf, Seq, Par, Marked, burdened_span, work}
 use Rattle.cw_greedy.specs.Counts.{spawns_in}
 

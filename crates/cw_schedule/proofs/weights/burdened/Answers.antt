@@ -1,4 +1,4 @@
-use Rattle.std.proofs.Common.{◌≡◌, ◌≤◌, ◌*◌, ◌∙◌, sym, arith}
+use Rattle.std.proofs.Common.{◌≤◌, ◌*◌, arith}
 use Rattle.cw_model.specs.declared.limits.TheConstants.{MOST_BURDEN, MOST_STRANDS}
 use Rattle.cw_greedy.specs.Blocks.{block_of}
 use Rattle.cw_greedy.specs.Counts.{spawns_in}
