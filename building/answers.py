@@ -30,6 +30,9 @@ def is_expected(program, words, expected):
 def differing(program):
     """Returns the number of reports that were compared, and the command lines of those that differ."""
     reports = [(words_of(mode, file), file.with_suffix(ending)) for file in sorted(EXAMPLES.glob("*.cilk")) for mode, ending in ENDINGS.items()]
+    for table in sorted(EXAMPLES.glob("*.table")):
+        name, mode, _ = table.name.split(".")
+        reports.append((words_of(mode, EXAMPLES / (name + ".cilk")) + ["--table"], table))
     wrong = [words for words, file in reports if not is_expected(program, words, file.read_bytes())]
     return len(reports), [" ".join(map(str, words)) for words in wrong]
 

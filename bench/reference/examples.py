@@ -5,7 +5,7 @@
 
 For NAME.cilk with NAME.args (one argument on each line) the reports are NAME.out (the output of `cilkwork run`), NAME.scale.csv,
 NAME.sites.csv, NAME.gain.csv, NAME.greedy.csv (of `cilkwork greedy 8`) and NAME.speedup.csv (up to 64 processors). It also writes all
-of them as constants of tests into crates/cw_tests/src/examples.
+of them as constants of tests into crates/cw_tests/src/examples. For some programs, NAME.MODE.table is the report with `--table`.
 """
 import glob
 import os
@@ -23,6 +23,7 @@ PAGES = ["mergesort"]  # with NAME.page.html, made of the reports
 TOP = os.path.normpath(os.path.join(os.path.dirname(os.path.abspath(__file__)), "..", ".."))
 MODES = [("run", ".out"), ("scale", ".scale.csv"), ("sites", ".sites.csv"), ("gain", ".gain.csv"), ("greedy", ".greedy.csv"), ("speedup", ".speedup.csv")]
 PROCESSORS = {"greedy": 8, "speedup": 64}
+TABLED = ("mergesort", "dot", "longest")
 TEST = [
     "",
     "#[test]",
@@ -57,6 +58,8 @@ def texts_of(name, path):
         raise SystemExit("%s.cilk: refused %d line %d: %s" % ((path,) + why))
     run = Run(Program(source), [int(word) for word in arguments], 1000000000)
     texts = {path + ending: report(mode, run, Burden(15000), PROCESSORS.get(mode, 1))[1] for mode, ending in MODES}
+    if name in TABLED:
+        texts.update({"%s.%s.table" % (path, mode): report(mode, run, Burden(15000), 64, aligned=True)[1] for mode in ref.TABLES})
     fields = [("words", " ".join([name + ".cilk"] + arguments)), ("source", source)]
     fields += [(mode, texts[path + ending]) for mode, ending in MODES]
     texts[os.path.join(TOP, "crates", "cw_tests", "src", "examples", name + ".rt")] = constant(name, fields)

@@ -4,8 +4,8 @@
     fuzz.py PROGRAM START COUNT [no-loops] [consts]
 
 For each of COUNT seeds from START on, the random program of the seed is checked, and run in the modes run, scale, sites, gain,
-greedy and speedup: with a large limit, with its cost as the limit, and with one instruction less. Exit status and both streams must be as
-`ref.py` computes them. Then three programs that differ from it in one statement are checked: each must be accepted or rejected,
+greedy and speedup: with a large limit, with its cost as the limit, and with one instruction less; and with `--table`. Exit status and both
+streams must be as `ref.py` computes them. Then three programs that differ from it in one statement are checked: each must be accepted or rejected,
 with the line, as by `rules.py`. With `consts` functions have `const` parameters, too.
 """
 import collections
@@ -38,6 +38,8 @@ def answers(source, arguments, burden, processors, top):
     for mode in ("run", "scale", "sites", "gain", "greedy", "speedup"):
         expected = report(mode, run, burden, processors, top)
         yield [mode, WIDE], expected
+        if mode in ref.TABLES:
+            yield [mode, WIDE, "--table"], report(mode, run, burden, processors, top, True)
         if not run.is_over:
             yield [mode, run.cost], expected
             if run.cost > 1:
@@ -48,7 +50,7 @@ def asked(exe, path, words, arguments, burden, processors, top):
     mode, *limit = words
     command = [exe, mode] + ([str(processors)] if mode == "greedy" else []) + [path]
     if limit:
-        command += [str(value) for value in arguments] + ["--limit", str(limit[0])]
+        command += [str(value) for value in arguments] + ["--limit", str(limit[0])] + limit[1:]
         command += [] if mode == "greedy" else ["--burden", str(burden.charge), "--edges", burden.edges]
         command += ["--top", str(top)] if mode == "gain" else []
         command += ["--processors", str(processors)] if mode == "speedup" else []

@@ -6,6 +6,8 @@
     ref.py greedy P FILE [ARGS..] [--limit N]
     ref.py speedup FILE [ARGS..] [--limit N] [--burden B] [--edges spawn|both] [--processors N]
 
+With --table, scale, sites, gain and speedup print aligned columns.
+
 The program must be one that `cilkwork check` accepts. The script prints what `cilkwork` must print, and ends with its status.
 """
 import os
@@ -15,8 +17,11 @@ import threading
 sys.path.insert(0, os.path.dirname(os.path.abspath(__file__)))
 from syntax import Program
 from greedy import greedy_length
+from table import table
 from trees import Block, Burden, Mark, Rows, Tree, burdened_span, freed
 
+# the modes whose reports can be tables
+TABLES = ("scale", "sites", "gain", "speedup")
 LEAST, GREATEST = -2**63, 2**63 - 1
 OVERFLOW, ZERO_DIVISOR, OUT_OF_BOUNDS, BAD_LENGTH, TOO_MANY_ITERATIONS, TOO_DEEP = range(1, 7)
 
@@ -473,17 +478,20 @@ def text_of(mode, run, burden, processors, top):
     return sites_text(run) if mode == "sites" else greedy_text(run, processors)
 
 
-def report(mode, run, burden, processors=1, top=10):
+def report(mode, run, burden, processors=1, top=10, aligned=False):
     """Returns the exit status, standard output and standard error of a run. It does not check the maximum of strands."""
     if run.is_over:
         return 4, "", "over limit\n"
     if run.trap:
         return 3, run_text(run) if mode == "run" else "", "trap %d line %d\n" % (run.trap.code, run.trap.line)
-    return 0, text_of(mode, run, burden, processors, top), ""
+    text = text_of(mode, run, burden, processors, top)
+    return 0, table(mode, text) if aligned and mode in TABLES else text, ""
 
 
 def main():
     words, limit, charge, edges, top, most, positions = sys.argv[1:], 1000000000, 15000, "spawn", 10, 64, []
+    aligned = "--table" in words
+    words = [word for word in words if word != "--table"]
     while words:
         word = words.pop(0)
         if word == "--limit":
@@ -503,7 +511,7 @@ def main():
     path, *arguments = positions
     with open(path) as file:
         run = Run(Program(file.read()), [int(word) for word in arguments], limit)
-    status, out, err = report(mode, run, Burden(charge, edges), processors, top)
+    status, out, err = report(mode, run, Burden(charge, edges), processors, top, aligned)
     sys.stdout.write(out)
     sys.stderr.write(err)
     return status

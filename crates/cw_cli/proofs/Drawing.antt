@@ -145,10 +145,10 @@ module _ (name bytes : List ℕ) (args : List ℤ) (words : list_all fits args �
             scheduled = bounded d r;
             told = ap (λ v. drawn_page name v args options.burden bytes (code_view verified.code) d) of_version
                 ∙ ap (λ k. drawn_page name RELEASE.now args options.burden bytes k d) same ∙ drawn_is d r
-                ∙ ap (λ k. analyses.text_in (pages.input_of name bytes args) k compiled.program options.burden end) (sym is);
+                ∙ ap (λ k. analyses.report_in (pages.input_of name bytes args) k options.table compiled.program options.burden end) (sym is);
           };
       unrun = undrawn heads;
-      printed = λ trap line lines. ap (λ k. analyses.text_in (pages.input_of name bytes args) k compiled.program options.burden (TrappedAt trap line lines.items)) (sym is);
+      printed = λ trap line lines. ap (λ k. analyses.report_in (pages.input_of name bytes args) k options.table compiled.program options.burden (TrappedAt trap line lines.items)) (sym is);
       over = refl;
       memory = refl;
       arguments = refl;

@@ -1,5 +1,5 @@
 -- From the result of a run of code to the meaning of its program.
-use Rattle.std.proofs.Common.{◌≡◌, ◌≢◌, ℕ, ℤ, true, ◌&&◌, ◌<◌, ◌≤◌, List, [], ◌∷◌, ◌++◌, length, Some, Result, Ok, Err, IsErrAnd, flat_map, map, refl, sym, ap, ap₂, ◌∙◌, subst, arith}
+use Rattle.std.proofs.Common.{◌≡◌, ◌≢◌, ℕ, ℤ, Bool, true, ◌&&◌, ◌<◌, ◌≤◌, List, [], ◌∷◌, ◌++◌, length, Some, Result, Ok, Err, IsErrAnd, flat_map, map, refl, sym, ap, ap₂, ◌∙◌, subst, arith}
 use Rattle.std.specs.Prelude.{nat_eq, nat_le, codes, decimal, MatchResult}
 use Rattle.std.specs.Global.{Vec}
 use Rattle.std.specs.List.{list_all}
@@ -51,7 +51,9 @@ use Rattle.cw_cli.specs.Schedules.{AreBounded, HasTooManyStrands, IsScheduled, I
 use Rattle.cw_cli.specs.Speedups.{readings_of}
 use Rattle.cw_report.specs.Speedups.{speedup_report}
 use Rattle.cw_report.specs.Speedups as texts
-use Rattle.cw_cli.specs.Told.{HasTables, told_of}
+use Rattle.cw_cli.specs.Forms.{in_form}
+use Rattle.cw_cli.specs.Told.{HasTables, shown_of, told_of}
+use Rattle.cw_report.specs.Layouts.{gain_columns, shown, speedup_columns}
 use Rattle.cw_cli.proofs.Ordered.{are_bounded}
 use Rattle.cw_cli.proofs.Rows.{scale_is, sites_are, gains_are}
 use Rattle.cw_code.specs.Heads.{head_view}
@@ -146,6 +148,17 @@ strands_are (mode.Greedy processors) code count = refl
 strands_are (mode.Speedup most) code count = refl
 strands_are (mode.Page top most) code count = refl
 
+-- no text has no other form
+no_text : (m : Mode) (table : Bool) → in_form m table [] ≡ []
+no_text mode.Check table = refl
+no_text mode.Run table = refl
+no_text mode.Scale table = refl
+no_text mode.Sites table = refl
+no_text (mode.Gain top) table = refl
+no_text (mode.Greedy processors) table = refl
+no_text (mode.Speedup most) table = refl
+no_text (mode.Page top most) table = refl
+
 -- a mode with tables asks for no schedule
 tables_in_range : (m : Mode) → HasTables m → IsModeInRange m
 tables_in_range mode.Scale has = tt
@@ -232,7 +245,7 @@ module _ (name bytes : List ℕ) (args : List ℤ) (words : list_all fits args �
 
   -- the report of an answer, in the mode that is asked for
   abbrev pub report_of : Answer → List ℕ
-  report_of a = analyses.text_in input options.mode compiled.program options.burden a
+  report_of a = analyses.report_in input options.mode options.table compiled.program options.burden a
 
   -- a run that ended: the meaning of its code, and its report
   pub record EndsAs (text : List ℕ) : Type 0 where
@@ -285,10 +298,10 @@ module _ (name bytes : List ℕ) (args : List ℤ) (words : list_all fits args �
               is = answer_is m end r.answer;
               scheduled = subst (λ k. IsScheduledIn k end) (sym is) tt;
               told = values_are compiled.program code options.burden e r.tree compiled.generates
-                  ∙ ap (λ k. analyses.text_in input k compiled.program options.burden end) (sym is);
+                  ∙ ap (λ k. analyses.report_in input k options.table compiled.program options.burden end) (sym is);
             };
         unrun = unrun_of of_mode;
-        printed = λ trap line lines. ap (λ k. analyses.text_in input k compiled.program options.burden (TrappedAt trap line lines.items)) (sym is);
+        printed = λ trap line lines. ap (λ k. analyses.report_in input k options.table compiled.program options.burden (TrappedAt trap line lines.items)) (sym is);
         over = refl;
         memory = refl;
         arguments = refl;
@@ -296,11 +309,12 @@ module _ (name bytes : List ℕ) (args : List ℤ) (words : list_all fits args �
       }
 
   -- the measures of a run
-  pub tables_tell : HasTables options.mode → SitesAreNumbered → Tells (Runs code args options.limit options.burden) (IsFailure code args options.limit options.burden) (told_of options.mode code)
+  pub tables_tell : HasTables options.mode → SitesAreNumbered → Tells (Runs code args options.limit options.burden) (IsFailure code args options.limit options.burden) (shown_of options.mode options.table code)
   tables_tell has law =
       let source = compiled.compiles.accepted.source in
       let numbered : are_numbered 0 (call_sites compiled.program) ≡ true = law bytes source.tokens compiled.program source.parsed.derived in
       let of_mode = tables_in_range options.mode has in
+      let form : List ℕ → List ℕ = in_form options.mode options.table in
       record {
         ended = λ e r.
             let m = may_run_so of_mode r.asked in
@@ -311,19 +325,19 @@ module _ (name bytes : List ℕ) (args : List ℤ) (words : list_all fits args �
               ended = tt;
               is = answer_is m end r.answer;
               scheduled = tables_scheduled options.mode end has;
-              told = report_is input options.mode compiled.program code args options.limit options.burden e r has compiled.generates numbered;
+              told = ap form (report_is input options.mode compiled.program code args options.limit options.burden e r has compiled.generates numbered);
             };
         unrun = unrun_of of_mode;
-        printed = λ trap line lines. printed_is input options.mode compiled.program code options.burden trap line lines has;
-        over = over_is options.mode code;
-        memory = memory_is options.mode code;
-        arguments = arguments_are options.mode code;
-        strands = strands_are options.mode code;
+        printed = λ trap line lines. ap form (printed_is input options.mode compiled.program code options.burden trap line lines has);
+        over = ap form (over_is options.mode code) ∙ no_text options.mode options.table;
+        memory = ap form (memory_is options.mode code) ∙ no_text options.mode options.table;
+        arguments = ap form (arguments_are options.mode code) ∙ no_text options.mode options.table;
+        strands = λ count. ap form (strands_are options.mode code count) ∙ no_text options.mode options.table;
       }
 
   -- the gains of functions of a run
   pub gains_tell : (heads : List counted.Head) (top : ℕ) → options.mode ≡ mode.Gain top → IsModeInRange options.mode → map head_view heads ≡ heads_of compiled.program
-      → Tells (Gains code heads args options.limit options.burden top) (IsFailure code args options.limit options.burden) gain_report
+      → Tells (Gains code heads args options.limit options.burden top) (IsFailure code args options.limit options.burden) (λ r. shown gain_columns (gain_report r) options.table)
   gains_tell heads top is of_mode heads_are = record {
     ended = λ g r.
         let m = may_run_so of_mode r.asked in
@@ -334,11 +348,12 @@ module _ (name bytes : List ℕ) (args : List ℤ) (words : list_all fits args �
           ended = tt;
           is = answer_is m end r.answer;
           scheduled = subst (λ k. IsScheduledIn k end) (sym is) tt;
-          told = gains_are compiled.program code heads top options.burden g r.tree r.value r.lines r.totals heads_are compiled.generates.sites compiled.generates.main_line r.measure r.functions
-              ∙ ap (λ k. analyses.text_in input k compiled.program options.burden end) (sym is);
+          told = ap (λ csv. shown gain_columns csv options.table)
+              (gains_are compiled.program code heads top options.burden g r.tree r.value r.lines r.totals heads_are compiled.generates.sites compiled.generates.main_line r.measure r.functions)
+              ∙ ap (λ k. analyses.report_in input k options.table compiled.program options.burden end) (sym is);
         };
     unrun = unrun_of of_mode;
-    printed = λ trap line lines. ap (λ k. analyses.text_in input k compiled.program options.burden (TrappedAt trap line lines.items)) (sym is);
+    printed = λ trap line lines. ap (λ k. analyses.report_in input k options.table compiled.program options.burden (TrappedAt trap line lines.items)) (sym is);
     over = refl;
     memory = refl;
     arguments = refl;
@@ -384,10 +399,10 @@ module _ (name bytes : List ℕ) (args : List ℤ) (words : list_all fits args �
             is = answer_is m end r.ends.answer;
             scheduled = subst (λ k. IsScheduledIn k end) (sym is) scheduled;
             told = ap (λ row. schedule_header ++ row) (row_is s.processors p s.work _ s.span _ s.greedy (greedy_length p r.tree) r.processors r.work r.span r.greedy)
-                ∙ ap (λ k. analyses.text_in input k compiled.program options.burden end) (sym is);
+                ∙ ap (λ k. analyses.report_in input k options.table compiled.program options.burden end) (sym is);
           };
       unrun = unscheduled;
-      printed = λ trap line lines. ap (λ k. analyses.text_in input k compiled.program options.burden (TrappedAt trap line lines.items)) (sym is);
+      printed = λ trap line lines. ap (λ k. analyses.report_in input k options.table compiled.program options.burden (TrappedAt trap line lines.items)) (sym is);
       over = refl;
       memory = refl;
       arguments = refl;
@@ -418,7 +433,7 @@ module _ (name bytes : List ℕ) (args : List ℤ) (words : list_all fits args �
     unsped fault.Memory h = tt
     unsped _ h = absurd h
 
-    pub speedups_tell : Tells (speeds.SpeedsUp code args options.limit options.burden most) (speeds.IsNotSpedUp code args options.limit options.burden most) speedup_report
+    pub speedups_tell : Tells (speeds.SpeedsUp code args options.limit options.burden most) (speeds.IsNotSpedUp code args options.limit options.burden most) (λ r. shown speedup_columns (speedup_report r) options.table)
     speedups_tell = record {
       ended = λ s r.
           let m = sped_may r.asked in
@@ -430,11 +445,11 @@ module _ (name bytes : List ℕ) (args : List ℤ) (words : list_all fits args �
             ended = tt;
             is = answer_is m end r.ends.answer;
             scheduled = subst (λ k. IsScheduledIn k end) (sym is_speedup) bounded;
-            told = ap₂ texts.speedup_text (readings_are options.burden s.measure r.tree r.measure) r.rows
-                ∙ ap (λ k. analyses.text_in input k compiled.program options.burden end) (sym is_speedup);
+            told = ap (λ csv. shown speedup_columns csv options.table) (ap₂ texts.speedup_text (readings_are options.burden s.measure r.tree r.measure) r.rows)
+                ∙ ap (λ k. analyses.report_in input k options.table compiled.program options.burden end) (sym is_speedup);
           };
       unrun = unsped;
-      printed = λ trap line lines. ap (λ k. analyses.text_in input k compiled.program options.burden (TrappedAt trap line lines.items)) (sym is_speedup);
+      printed = λ trap line lines. ap (λ k. analyses.report_in input k options.table compiled.program options.burden (TrappedAt trap line lines.items)) (sym is_speedup);
       over = refl;
       memory = refl;
       arguments = refl;
@@ -544,7 +559,7 @@ module _ {W : Type 0} (seen : W → Seen) (old new : W) (name bytes : List ℕ) 
   in_mode m is r h = subst (λ k. analyses.IsAnalysedIn seen old new name bytes args options k r) (sym is) h
 
   check_text_is : (program : Program) → options.mode ≡ mode.Check → check_text ≡ analyses.text_of name bytes program args options
-  check_text_is program is = ap (λ m. analyses.text_in (input_of name bytes args) m program options.burden (analyses.answer_to program args options)) (sym is)
+  check_text_is program is = ap (λ m. analyses.report_in (input_of name bytes args) m options.table program options.burden (analyses.answer_to program args options)) (sym is)
 
   -- bytes that compile, and the text of a check
   pub checked : (code : Code) → IsCompiled bytes code → options.mode ≡ mode.Check → (r : Result (Unit {0}) Fault)

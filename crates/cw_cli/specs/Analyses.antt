@@ -1,5 +1,5 @@
 -- What an analysis of bytes answers, and what it writes.
-use Rattle.std.specs.Prelude.{◌≡◌, ◌≢◌, ◌≤◌, ◌<◌, ℕ, ℤ, List, length, Result, Err, MatchResult}
+use Rattle.std.specs.Prelude.{◌≡◌, ◌≢◌, ◌≤◌, ◌<◌, ℕ, ℤ, Bool, List, length, Result, Err, MatchResult}
 use Rattle.cw_model.specs.declared.burden.Burden.{Burden}
 use Rattle.cw_model.specs.declared.limits.TheConstants.{MOST_LIMIT, MOST_BURDEN, MOST_TOP, MOST_PROCESSORS}
 use Rattle.cw_model.specs.declared.trap.Trap.{Trap}
@@ -14,6 +14,7 @@ use Rattle.cw_pool.specs.declared.run.TheConstants.{MOST_BODIES}
 use Rattle.cw_report.specs.Seen.{Seen}
 use Rattle.cw_report.specs.Sinks.{WritesAll, WritesPart}
 use Rattle.cw_cli.specs.Schedules.{greedy_text, IsScheduledIn, HasTooManyStrands}
+use Rattle.cw_cli.specs.Forms.{in_form}
 use Rattle.cw_cli.specs.Speedups.{speedup_text}
 use Rattle.cw_cli.specs.Pages.{Input, input_of, page_text}
 use Rattle.cw_compile.specs.Sources.{Compiles, IsRefused}
@@ -31,6 +32,10 @@ text_in input (mode.Gain top) program burden answer = report_text (report.Gain t
 text_in input (mode.Greedy processors) program burden answer = greedy_text processors answer
 text_in input (mode.Speedup most) program burden answer = speedup_text most burden answer
 text_in input (mode.Page top most) program burden answer = page_text input top most program burden answer
+
+-- the same as it is written: CSV, or aligned columns if the options ask for a table
+abbrev pub report_in : Input → Mode → (table : Bool) → Program → (burden : Burden) → Answer → List ℕ
+report_in input m table program burden answer = in_form m table (text_in input m program burden answer)
 
 -- a schedule is for processors in range, speedups go up to such processors, and functions that are told are so many
 abbrev pub IsModeInRange : Mode → Type 0
@@ -66,7 +71,7 @@ answer_to program args options = serial_answer program args options.limit
 -- writes what it printed before
 abbrev pub text_of : (name bytes : List ℕ) → Program → List ℤ → Options → List ℕ
 text_of name bytes program args options =
-    text_in (input_of name bytes args) options.mode program options.burden (answer_to program args options)
+    report_in (input_of name bytes args) options.mode options.table program options.burden (answer_to program args options)
 
 -- what is told of a schedule that is asked for
 abbrev pub IsScheduleOf : Program → List ℤ → Options → Type 0

@@ -1,3 +1,4 @@
+pub mod Forms
 pub mod Schedules
 pub mod Speedups
 pub mod Pages

@@ -1,10 +1,11 @@
 -- What is written of what is counted of a run of code, in each mode.
-use Rattle.std.specs.Prelude.{ℕ, List, [], Result}
+use Rattle.std.specs.Prelude.{ℕ, Bool, List, [], Result}
 use Rattle.cw_text.specs.declared.fault.Fault.{Fault}
 use Rattle.cw_code.specs.Code.{Code, code_view}
 use Rattle.cw_runnable.specs.declared.verified.Verified.{Verified}
 use Rattle.cw_machine.specs.declared.alone.Ended.{Ended}
 use Rattle.cw_report.specs.Texts.{scale_report, sites_of}
+use Rattle.cw_cli.specs.Forms.{in_form}
 use Rattle.cw_words.specs.declared.asked.Mode.{Mode}
 use Rattle.cw_words.specs.declared.asked.Mode.TheVariants as mode
 
@@ -25,6 +26,10 @@ told_of (mode.Page top most) code ended = []
 told_of mode.Scale code ended = scale_report ended
 told_of mode.Sites code ended = sites_of code ended
 
+-- the same as they are written: CSV or aligned columns
+abbrev pub shown_of : Mode → (table : Bool) → Code → Result Ended Fault → List ℕ
+shown_of m table code ended = in_form m table (told_of m code ended)
+
 -- the same of verified code
-abbrev pub told_in : Mode → Verified → Result Ended Fault → List ℕ
-told_in m verified ended = told_of m (code_view verified.code) ended
+abbrev pub told_in : Mode → (table : Bool) → Verified → Result Ended Fault → List ℕ
+told_in m table verified ended = shown_of m table (code_view verified.code) ended

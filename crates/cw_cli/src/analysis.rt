@@ -101,10 +101,10 @@ pub fn analyse_named_alone<W: Sink>(
 /// The errors and what is written are those of `analyse_alone`, which it calls where the crew is empty: no byte depends
 /// on the crew, on what its bodies and the gate do, or on the order in which workers come to steal. A check and a run of
 /// code that spawns nothing are made by the caller's thread alone. In mode `Gain` the crew does the first run, and behind it
-/// as many threads as there are workers the further ones, side by side; in mode `Greedy` the crew does the run, and the
-/// caller's thread the schedule; in mode `Speedup` the crew does the run, and the caller's thread a second run, which
-/// measures, and the schedules; in mode `Page` the crew does the run, as many threads as there are workers the further
-/// ones of the gain table, and the caller's thread what mode `Speedup` does.
+/// as many threads as there are workers the further ones, side by side; in modes `Greedy` and `Speedup` the crew does
+/// the run, and the caller's thread the schedules. Of a run with more than 1,000,000 strands mode `Speedup` takes the
+/// measures from a second run, by the caller's thread. In mode `Page` the crew does the run, as many threads as there are
+/// workers the further ones of the gain table, and the caller's thread a run for the strands and their schedules.
 ///
 /// Before all that, a crew of more than 63 bodies is `Arguments` in each mode, with nothing written.
 ///
@@ -469,7 +469,7 @@ fn run_speedup<W: Sink>(
     are_words(args);
     let code = Arc::new(alloc, code)?;
     let told = speedup_alone(alloc, code, args, options.limit, options.burden, most);
-    speedup(alloc, &told, out)?;
+    speedup(alloc, &told, options.table, out)?;
     told?;
     Ok(())
 }
@@ -529,7 +529,7 @@ fn run_speedup_with<
     let code = Arc::new(alloc, code)?;
     let (limit, burden) = (options.limit, options.burden);
     let told = speedup_with(rt, alloc, code, args, limit, burden, most, crew, gate);
-    speedup(alloc, &told, out)?;
+    speedup(alloc, &told, options.table, out)?;
     told?;
     Ok(())
 }

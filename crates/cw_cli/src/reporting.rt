@@ -63,7 +63,7 @@ pub(crate) fn write_tables<W: Sink>(
 {
     derived_sites_are_numbered();
     are_words(args);
-    report(alloc, options.mode, code, &ended, out)?;
+    report(alloc, options.mode, options.table, code, &ended, out)?;
     ended?;
     Ok(())
 }
@@ -83,7 +83,7 @@ pub(crate) fn write_gains<W: Sink>(
         → IsRun W.seen out.old out.new name bytes args.now options result }
 {
     are_words(args);
-    gain(alloc, &gains, out)?;
+    gain(alloc, &gains, options.table, out)?;
     gains?;
     Ok(())
 }
@@ -106,13 +106,14 @@ fn is_word(word: i64)
 fn report<W: Sink>(
     alloc: Global,
     mode: Mode,
+    table: bool,
     code: &Verified,
     ended: &Result<Ended, Fault>,
     out: &mut W,
 ) -> Result<(), Fault>
     requires { (W.seen out.old).failures < 2 ^ 64 - 1 }
-    ensures idle { told_in mode code.now ended.now ≡ [] → out.new ≡ out.old }
-    ensures answers { AnswersText W.seen out.old out.new (told_in mode code.now ended.now) result }
+    ensures idle { told_in mode table code.now ended.now ≡ [] → out.new ≡ out.old }
+    ensures answers { AnswersText W.seen out.old out.new (told_in mode table code.now ended.now) result }
 {
     match mode {
         Mode::Check
@@ -121,7 +122,7 @@ fn report<W: Sink>(
         | Mode::Greedy(_)
         | Mode::Speedup(_)
         | Mode::Page { .. } => Ok(()),
-        Mode::Scale => scale(alloc, ended, out),
-        Mode::Sites => sites(alloc, code, ended, out),
+        Mode::Scale => scale(alloc, ended, table, out),
+        Mode::Sites => sites(alloc, code, ended, table, out),
     }
 }

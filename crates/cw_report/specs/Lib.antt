@@ -8,3 +8,6 @@ pub mod Escaping
 pub mod Frame
 pub mod Pages
 pub mod Answers
+pub mod Aligned
+pub mod Sized
+pub mod Layouts

@@ -5,9 +5,12 @@ ghost use Rattle.cw_model.specs.Report.{check_text};
 ghost use Rattle.cw_report.specs.Sinks.{Writes};
 ghost use Rattle.cw_report.specs.Texts.{Makes, gain_report, run_report, scale_report, schedule_report, sites_report};
 ghost use Rattle.cw_report.specs.Answers.{AnswersText};
+ghost use Rattle.cw_report.specs.Layouts.{gain_columns, scale_columns, shown, sites_columns, speedup_columns};
 ghost use Rattle.cw_report.specs.Pages.{page_report};
 ghost use Rattle.cw_report.specs.Speedups.{speedup_report};
 
+use crate::aligned::aligned;
+use crate::column::{Column, of_gain, of_scale, of_sites, of_speedup};
 use crate::drawing::Drawn;
 use crate::gain_table::gain_text;
 use crate::page_text::page_text;
@@ -68,18 +71,27 @@ pub fn answer<W: Sink>(
 /// Writes the work and the span of a run, with and without burdens, and its parallelism: on one line of the whole run,
 /// with an empty tag, and then on one for each tag of its code. Of a run that did not end nothing is written, and the
 /// sink is left alone.
+/// With `table` the columns are aligned, otherwise the text is CSV.
 ///
 /// The error is `Memory` where there is none for the text: nothing was written then. It is `Write` where a write failed
 /// or took no byte: the sink took a beginning of the text, and counts one more failed write.
 ///
 /// It asks that fewer than 2^64 - 1 writes to the sink failed before.
-pub fn scale<W: Sink>(alloc: Global, ended: &Result<Ended, Fault>, to: &mut W) -> Result<(), Fault>
+pub fn scale<W: Sink>(
+    alloc: Global,
+    ended: &Result<Ended, Fault>,
+    table: bool,
+    to: &mut W,
+) -> Result<(), Fault>
     requires { (W.seen to.old).failures < 2 ^ 64 - 1 }
-    ensures idle { scale_report ended.now ≡ [] → to.new ≡ to.old }
-    ensures answers { AnswersText W.seen to.old to.new (scale_report ended.now) result }
+    ensures idle { shown scale_columns (scale_report ended.now) table ≡ [] → to.new ≡ to.old }
+    ensures answers { AnswersText W.seen to.old to.new (shown scale_columns (scale_report ended.now) table) result }
 {
     match ended {
-        Ok(ended) => tell(scale_text(alloc, ended), to),
+        Ok(ended) => tell(
+            in_form(alloc, of_scale(), table, scale_text(alloc, ended)),
+            to,
+        ),
         Err(_) => Ok(()),
     }
 }
@@ -87,6 +99,7 @@ pub fn scale<W: Sink>(alloc: Global, ended: &Result<Ended, Fault>, to: &mut W) -
 /// Writes what is counted of each call site over a run: on one line of the call of `main` by the run itself, with the
 /// number 0, and then on one for each call site of the code. Of a run that did not end nothing is written, and the sink
 /// is left alone.
+/// With `table` the columns are aligned, otherwise the text is CSV.
 ///
 /// The error is `Memory` where there is none for the text: nothing was written then. It is `Write` where a write failed
 /// or took no byte: the sink took a beginning of the text, and counts one more failed write.
@@ -96,14 +109,23 @@ pub fn sites<W: Sink>(
     alloc: Global,
     code: &Verified,
     ended: &Result<Ended, Fault>,
+    table: bool,
     to: &mut W,
 ) -> Result<(), Fault>
     requires { (W.seen to.old).failures < 2 ^ 64 - 1 }
-    ensures idle { sites_report code.now ended.now ≡ [] → to.new ≡ to.old }
-    ensures answers { AnswersText W.seen to.old to.new (sites_report code.now ended.now) result }
+    ensures idle { shown sites_columns (sites_report code.now ended.now) table ≡ [] → to.new ≡ to.old }
+    ensures answers { AnswersText W.seen to.old to.new (shown sites_columns (sites_report code.now ended.now) table) result }
 {
     match ended {
-        Ok(ended) => tell(sites_text(alloc, &code.code, ended), to),
+        Ok(ended) => tell(
+            in_form(
+                alloc,
+                of_sites(),
+                table,
+                sites_text(alloc, &code.code, ended),
+            ),
+            to,
+        ),
         Err(_) => Ok(()),
     }
 }
@@ -133,18 +155,27 @@ pub fn schedule<W: Sink>(
 
 /// Writes what functions of a run would bring: the run itself on one line, without a name, and then each function that is
 /// told on one. Of a run that did not end nothing is written, and the sink is left alone.
+/// With `table` the columns are aligned, otherwise the text is CSV.
 ///
 /// The error is `Memory` where there is none for the text: nothing was written then. It is `Write` where a write failed
 /// or took no byte: the sink took a beginning of the text, and counts one more failed write.
 ///
 /// It asks that fewer than 2^64 - 1 writes to the sink failed before.
-pub fn gain<W: Sink>(alloc: Global, gains: &Result<Gains, Fault>, to: &mut W) -> Result<(), Fault>
+pub fn gain<W: Sink>(
+    alloc: Global,
+    gains: &Result<Gains, Fault>,
+    table: bool,
+    to: &mut W,
+) -> Result<(), Fault>
     requires { (W.seen to.old).failures < 2 ^ 64 - 1 }
-    ensures idle { gain_report gains.now ≡ [] → to.new ≡ to.old }
-    ensures answers { AnswersText W.seen to.old to.new (gain_report gains.now) result }
+    ensures idle { shown gain_columns (gain_report gains.now) table ≡ [] → to.new ≡ to.old }
+    ensures answers { AnswersText W.seen to.old to.new (shown gain_columns (gain_report gains.now) table) result }
 {
     match gains {
-        Ok(gains) => tell(gain_text(alloc, gains), to),
+        Ok(gains) => tell(
+            in_form(alloc, of_gain(), table, gain_text(alloc, gains)),
+            to,
+        ),
         Err(_) => Ok(()),
     }
 }
@@ -152,6 +183,7 @@ pub fn gain<W: Sink>(alloc: Global, gains: &Result<Gains, Fault>, to: &mut W) ->
 /// Writes the steps and the speedup of a run by number of processors, with the bound that work and span set and the
 /// estimate that charges burdens: a line for each number of processors. If the run did not end, it writes nothing and does
 /// not use the sink.
+/// With `table` the columns are aligned, otherwise the text is CSV.
 ///
 /// Fewer than 2^64 - 1 writes to the sink failed before.
 ///
@@ -162,14 +194,18 @@ pub fn gain<W: Sink>(alloc: Global, gains: &Result<Gains, Fault>, to: &mut W) ->
 pub fn speedup<W: Sink>(
     alloc: Global,
     speedup: &Result<Speedup, Fault>,
+    table: bool,
     to: &mut W,
 ) -> Result<(), Fault>
     requires { (W.seen to.old).failures < 2 ^ 64 - 1 }
-    ensures idle { speedup_report speedup.now ≡ [] → to.new ≡ to.old }
-    ensures answers { AnswersText W.seen to.old to.new (speedup_report speedup.now) result }
+    ensures idle { shown speedup_columns (speedup_report speedup.now) table ≡ [] → to.new ≡ to.old }
+    ensures answers { AnswersText W.seen to.old to.new (shown speedup_columns (speedup_report speedup.now) table) result }
 {
     match speedup {
-        Ok(speedup) => tell(speedup_text(alloc, speedup), to),
+        Ok(speedup) => tell(
+            in_form(alloc, of_speedup(), table, speedup_text(alloc, speedup)),
+            to,
+        ),
         Err(_) => Ok(()),
     }
 }
@@ -209,6 +245,25 @@ pub fn page<W: Sink>(
         ),
         Err(_) => Ok(()),
     }
+}
+
+// Returns a report as it is shown: the CSV text that was made, or a table of these columns.
+fn in_form(
+    alloc: Global,
+    columns: &[Column],
+    table: bool,
+    made: Result<Vec<u8>, Fault>,
+) -> Result<Vec<u8>, Fault>
+    requires { IfErr made (λ e. e ≡ Fault.Memory) }
+    ensures ok { (csv : List ℕ) → Makes csv made → Makes (shown columns.now csv table) result }
+    ensures why { IfErr result (λ e. e ≡ Fault.Memory) }
+{
+    if !table {
+        return made;
+    }
+    let csv = made?;
+    let text = aligned(alloc, columns, csv.as_slice())?;
+    Ok(text)
 }
 
 // Writes a text, where there was memory to make it.

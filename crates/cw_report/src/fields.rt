@@ -43,7 +43,7 @@ fn thousandths_text(alloc: Global, number: u128) -> Result<Vec<u8>, AllocError>
 }
 
 // Work by span in thousandths, rounded down, and 0 where there is no span.
-fn ratio(work: u64, span: u128) -> u128
+pub(crate) fn ratio(work: u64, span: u128) -> u128
     ensures text { thousandths result ≡ parallelism work span }
     ensures value { result ≡ speedups.ratio work span }
 {

@@ -2,7 +2,10 @@
 //! calls that failed.
 #![tactic(auto)]
 
+mod aligned;
 mod answering;
+mod cells;
+mod column;
 mod counted;
 mod drawing;
 mod escaping;

@@ -13,3 +13,4 @@ pub mod Groups
 pub mod Lines
 pub mod Told
 pub mod Within
+mod Charges

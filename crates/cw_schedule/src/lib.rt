@@ -2,6 +2,7 @@
 #![tactic(auto)]
 
 mod board;
+pub mod laws;
 mod line;
 mod plan;
 mod ready;

@@ -1,8 +1,8 @@
-//! Computes work and span of the strands of a record.
+//! Computes work, span and burdened span of the strands of a record.
 
 ghost use Rattle.std.specs.Prelude.{◌≡◌, ◌+◌, ◌<◌, ◌≤◌, ◌++◌, ◌∷◌, [], max, Some, List, IfOk, OnOk};
-ghost use Rattle.cw_model.specs.Trees.{Tree, work, span};
-ghost use Rattle.cw_model.specs.declared.limits.TheConstants.{MOST_LIMIT, MOST_STRANDS};
+ghost use Rattle.cw_model.specs.Trees.{Tree, burdened_span, work, span};
+ghost use Rattle.cw_model.specs.declared.limits.TheConstants.{MOST_BURDEN, MOST_LIMIT, MOST_STRANDS};
 ghost use Rattle.cw_greedy.specs.declared.code.Code.{Code};
 ghost use Rattle.cw_greedy.specs.Entries.{code_of_cut, codes_of_chunks, codes_of_entries, codes_of_entry};
 ghost use Rattle.cw_greedy.specs.Recorded.{cuts};
@@ -11,11 +11,18 @@ ghost use Rattle.cw_greedy.specs.Counts.{spawns_in};
 ghost use Rattle.cw_greedy.specs.Records.{IsRecordOf};
 ghost use Rattle.cw_schedule.specs.declared.weights.Spawn.{Spawn};
 ghost use Rattle.cw_schedule.specs.Reading.{instructions, read, spawned, Frame};
-ghost use Rattle.cw_schedule.specs.Weighed.{counted, path_of, spawn, Weighs, WillJoin, WillWeigh};
+ghost use Rattle.cw_schedule.specs.Weighed.{after_join, counted, path_of, spawn, Weighs, WillJoin, WillWeigh};
 
 use cw_greedy::entry::{Cut, Entry};
 use cw_greedy::strands::Strands;
+use cw_model::burden::{Burden, Edges};
 use std::alloc::{AllocError, Global};
+
+// Nothing is charged.
+const NO_BURDEN: Burden = Burden {
+    charge: 0,
+    edges: Edges::Spawn,
+};
 
 /// The weights of a strand tree, in instructions.
 #[derive(Clone, Copy, Debug, PartialEq, Eq)]
@@ -94,22 +101,24 @@ impl Ways {
     }
 
     // Joins the last open spawn.
-    fn join_last(&mut self, top: Spawn)
+    fn join_last(&mut self, burden: Burden, top: Spawn)
         ensures work { self.new.work ≡ self.old.work }
-        ensures path { self.new.path ≡ counted (top.before + max top.child self.old.path) }
+        ensures path { self.new.path ≡ after_join burden top.before top.child self.old.path }
         ensures spawns { self.new.spawns.items ≡ self.old.spawns.items }
     {
-        self.path = top.before.saturating_add(top.child.max(self.path));
+        let child = burden.at_child().saturating_add(top.child);
+        let rest = burden.at_rest().saturating_add(self.path);
+        self.path = top.before.saturating_add(child.max(rest));
     }
 
     // Joins the spawns of a sync block, the last one first.
-    fn joined(&mut self)
+    fn joined(&mut self, burden: Burden)
         ensures work { self.new.work ≡ self.old.work }
-        ensures joined { (end : List Frame × Block) → WillJoin end self.old
-            → Weighs end.0 end.1 self.new }
+        ensures joined { (end : List Frame × Block) → WillJoin burden end self.old
+            → Weighs burden end.0 end.1 self.new }
     {
         while let Some(top) = self.spawns.pop() {
-            self.join_last(top);
+            self.join_last(burden, top);
             if top.first {
                 return;
             }
@@ -117,11 +126,11 @@ impl Ways {
     }
 
     // Follows a cut.
-    fn cut(&mut self, cut: Cut) -> Result<(), AllocError>
+    fn cut(&mut self, burden: Burden, cut: Cut) -> Result<(), AllocError>
         ensures work { OnOk result (self.new.work ≡ self.old.work) }
         ensures weighs { (block : Block) (later : List Code)
-            → WillWeigh block (code_of_cut cut ++ later) self.old
-            → OnOk result (WillWeigh block later self.new) }
+            → WillWeigh burden block (code_of_cut cut ++ later) self.old
+            → OnOk result (WillWeigh burden block later self.new) }
     {
         match cut {
             Cut::Spawned(first) => {
@@ -133,7 +142,7 @@ impl Ways {
                 Ok(())
             }
             Cut::Joined => {
-                self.joined();
+                self.joined(burden);
                 Ok(())
             }
             Cut::Nothing => Ok(()),
@@ -142,39 +151,39 @@ impl Ways {
     }
 
     // Follows an entry.
-    fn follow(&mut self, entry: Entry) -> Result<(), AllocError>
+    fn follow(&mut self, burden: Burden, entry: Entry) -> Result<(), AllocError>
         ensures work { OnOk result
             (counted self.new.work ≡ counted (self.old.work + entry.before)) }
         ensures weighs { (block : Block) (later : List Code)
-            → WillWeigh block (codes_of_entry entry ++ later) self.old
-            → OnOk result (WillWeigh block later self.new) }
+            → WillWeigh burden block (codes_of_entry entry ++ later) self.old
+            → OnOk result (WillWeigh burden block later self.new) }
     {
         self.worked(entry.before);
-        self.cut(entry.cut)?;
+        self.cut(burden, entry.cut)?;
         Ok(())
     }
 
     // Follows the entries of a chunk.
-    fn follow_all(&mut self, entries: &[Entry]) -> Result<(), AllocError>
+    fn follow_all(&mut self, burden: Burden, entries: &[Entry]) -> Result<(), AllocError>
         ensures work { OnOk result (counted self.new.work
             ≡ counted (self.old.work + instructions (codes_of_entries entries.now))) }
         ensures weighs { (block : Block) (later : List Code)
-            → WillWeigh block (codes_of_entries entries.now ++ later) self.old
-            → OnOk result (WillWeigh block later self.new) }
+            → WillWeigh burden block (codes_of_entries entries.now ++ later) self.old
+            → OnOk result (WillWeigh burden block later self.new) }
     {
         for entry in entries {
-            self.follow(*entry)?;
+            self.follow(burden, *entry)?;
         }
         Ok(())
     }
 }
 
-// Returns the weights of the entries of chunks, and of the block that they represent.
-fn weighed(alloc: Global, chunks: &[Vec<Entry>]) -> Result<Weights, AllocError>
+// Returns the weights of the entries of chunks, and of the block that they represent. The span is burdened.
+fn weighed(alloc: Global, burden: Burden, chunks: &[Vec<Entry>]) -> Result<Weights, AllocError>
     ensures work { IfOk result
         (λ w. counted w.work ≡ counted (instructions (codes_of_chunks chunks.now))) }
     ensures span { (block : Block) → read (codes_of_chunks chunks.now) [] (Last 0) ≡ Some block
-        → IfOk result (λ w. w.span ≡ counted (path_of block)) }
+        → IfOk result (λ w. w.span ≡ counted (path_of burden block)) }
 {
     let mut ways = Ways {
         work: 0,
@@ -182,7 +191,7 @@ fn weighed(alloc: Global, chunks: &[Vec<Entry>]) -> Result<Weights, AllocError>
         spawns: Vec::new(alloc),
     };
     for chunk in chunks {
-        ways.follow_all(chunk.as_slice())?;
+        ways.follow_all(burden, chunk.as_slice())?;
     }
     Ok(Weights {
         work: ways.work,
@@ -201,8 +210,23 @@ pub fn weigh(alloc: Global, kept: &Strands) -> Result<Weights, AllocError>
     ensures work { (t : Tree) → IsRecordOf t kept.now → IfOk result (λ w. w.work ≡ work t) }
     ensures span { (t : Tree) → IsRecordOf t kept.now → IfOk result (λ w. w.span ≡ span t) }
 {
-    let weights = weighed(alloc, kept.chunks())?;
+    let weights = weighed(alloc, NO_BURDEN, kept.chunks())?;
     Ok(weights)
+}
+
+/// Returns the burdened span of the strands of a record, in instructions: that of every strand tree with this record. The
+/// time is proportional to the number of strands.
+///
+/// # Errors
+///
+/// `AllocError` if memory runs out. The record is unchanged.
+pub fn burdened(alloc: Global, kept: &Strands, burden: Burden) -> Result<u64, AllocError>
+    requires kept { (t : Tree) × (IsRecordOf t kept.now × (work t ≤ MOST_LIMIT)) }
+    requires low { burden.charge ≤ MOST_BURDEN }
+    ensures { (t : Tree) → IsRecordOf t kept.now → IfOk result (λ b. b ≡ burdened_span burden t) }
+{
+    let weights = weighed(alloc, burden, kept.chunks())?;
+    Ok(weights.span)
 }
 
 /// Returns the number of spawned children, which is the number of spawns in every strand tree with this record.

@@ -1,5 +1,5 @@
 -- What is known of a run by its record and by its measures.
-use Rattle.std.proofs.Common.{◌≡◌, ◌≤◌, ◌<◌, ℕ, ℤ, Bool, true, false, ◌&&◌, if◌then◌else◌, Ok, Err, List, Option, Some, None, ap, sym, refl, subst, ◌∙◌, arith}
+use Rattle.std.proofs.Common.{◌≡◌, ◌≤◌, ℕ, ℤ, true, ◌&&◌, if◌then◌else◌, Ok, Err, inl, inr, List, Option, Some, None, ap, sym, refl, subst, ◌∙◌, arith}
 use Rattle.std.specs.Prelude.{IsOk, nat_le, nat_eq, length}
 use Rattle.std.proofs.lemmas.Bool.{true≢false}
 use Rattle.cw_facts.specs.Tests.{first_true, second_true, both_true, le_of, at_most, not_at_most}
@@ -7,7 +7,7 @@ use Rattle.cw_model.specs.declared.burden.Burden.{Burden}
 use Rattle.cw_model.specs.declared.limits.TheConstants.{MOST_BURDEN, MOST_LIMIT, MOST_PROCESSORS, MOST_STRANDS}
 use Rattle.cw_model.specs.Burdens.{no_burden}
 use Rattle.cw_model.specs.Trees.{Tree, Leaf, work}
-use Rattle.cw_model.specs.Answers.{Answer, Ended, TrappedAt, OverLimit}
+use Rattle.cw_model.specs.Answers.{Answer, Ended}
 use Rattle.cw_text.specs.declared.fault.Fault.{Fault}
 use Rattle.cw_text.specs.declared.fault.Fault.TheVariants as fault
 use Rattle.cw_greedy.specs.Blocks.{strand_count}
@@ -17,14 +17,13 @@ use Rattle.cw_greedy.specs.Recorded.{Recorded}
 use Rattle.cw_greedy.specs.Records.{IsRecordOf}
 use Rattle.cw_code.specs.Code.{Code}
 use Rattle.cw_code.specs.Fits.{main_params}
-use Rattle.cw_code.specs.Run.{code_serial}
 use Rattle.cw_machine.specs.Recorded.{Records}
 use Rattle.cw_machine.specs.Runs.{Runs, is_request, IsFailure}
 use Rattle.cw_machine.specs.declared.alone.Ended as alone
+use Rattle.cw_meter.specs.Whole.{AreReadings}
 use Rattle.cw_recorded.specs.Recording.{IsKept}
 use Rattle.cw_schedule.specs.Schedules as schedules
-use Rattle.cw_schedule.specs.State.{IsWithin}
-use Rattle.cw_speedup.specs.Speedups.{IsNotSpedUp, SpeedsUp, is_asked, row_on, rows_up_to, steps_on}
+use Rattle.cw_speedup.specs.Speedups.{IsNotMeasured, IsNotSpedUp, SpeedsUp, is_asked, rows_up_to, steps_on}
 use Rattle.cw_speedup.specs.declared.speedups.Speedup.{Speedup}
 
 module _ (code : Code) (args : List ℤ) (n : ℕ) (burden : Burden) (most : ℕ) (asked : is_asked code args n burden most ≡ true) where
@@ -76,37 +75,47 @@ module _ (code : Code) (args : List ℤ) (n : ℕ) (burden : Burden) (most : ℕ
   pub not_recorded : (e : Fault) → IsFailure code args n no_burden e → IsNotSpedUp code args n burden most e
   not_recorded e h = not_sped no_burden e plain h
 
-  pub not_measured : (e : Fault) → IsFailure code args n burden e → IsNotSpedUp code args n burden most e
-  not_measured e h = not_sped burden e burdened h
+  pub not_measured : (e : Fault) → IsNotMeasured code args n burden e → IsNotSpedUp code args n burden most e
+  not_measured e (inl memory) = subst (IsNotSpedUp code args n burden most) (sym memory) asked
+  not_measured e (inr failed) = not_sped burden e burdened failed
 
-  -- the record and the measures are of one tree
-  abbrev tree_in : Option Answer → Tree
-  tree_in (Some (Ended v lines totals t)) = t
-  tree_in _ = Leaf 0
+  pub low_charge : burden.charge ≤ MOST_BURDEN
+  low_charge = le_of burden.charge MOST_BURDEN low
 
-  module _ (kept : Recorded) (records : Records code args n kept) (e : alone.Ended) (runs : Runs code args n burden e) where
-    one_tree : runs.tree ≡ records.tree
-    one_tree = ap tree_in (sym runs.answer ∙ records.answer)
+  module _ (kept : Recorded) (records : Records code args n kept) where
+    ends : schedules.Ends code args n records.tree
+    ends = record { value = records.value; lines = records.lines; totals = records.totals; answer = records.answer }
 
-    pub tree_of_record : (t : Tree) × (IsKept t kept × (work t ≤ MOST_LIMIT))
-    tree_of_record = (records.tree, (records.is_kept, subst (λ t. work t ≤ MOST_LIMIT) one_tree (in_limit (work runs.tree) runs.within)))
+    module _ (within : (code : Code) (args : List ℤ) (n : ℕ) (t : Tree) → schedules.Ends code args n t → work t ≤ n) where
+      pub small_work : work records.tree ≤ MOST_LIMIT
+      small_work = in_limit (work records.tree) (within code args n records.tree ends)
 
-    pub sped_up : (s : Speedup) → s.measure ≡ e.measure → s.rows.items ≡ rows_up_to most records.tree → ((p : ℕ) (t : Tree) → 1 ≤ p → GreedyIsBounded p t)
+      pub tree_of_record : (t : Tree) × (IsKept t kept × (work t ≤ MOST_LIMIT))
+      tree_of_record = (records.tree, (records.is_kept, small_work))
+
+    pub sped_up : (s : Speedup) → AreReadings burden records.tree s.measure → s.rows.items ≡ rows_up_to most records.tree → ((p : ℕ) (t : Tree) → 1 ≤ p → GreedyIsBounded p t)
         → SpeedsUp code args n burden most s
     sped_up s measure rows bounded = record {
       asked = asked;
-      tree = runs.tree;
-      ends = record { value = e.value; lines = e.lines.items; totals = e.totals.items; answer = runs.answer };
-      measure = record {
-        work = ap (λ m. m.work) measure ∙ runs.measure.work;
-        span = ap (λ m. m.span) measure ∙ runs.measure.span;
-        burdened = ap (λ m. m.burdened) measure ∙ runs.measure.burdened;
-      };
-      rows = rows ∙ ap (rows_up_to most) (sym one_tree);
+      tree = records.tree;
+      ends = ends;
+      measure = measure;
+      rows = rows;
       bounds = λ p some.
-          let b = bounded p runs.tree some in
+          let b = bounded p records.tree some in
           record { work_law = b.work_law; span_law = b.span_law; greedy_bound = b.greedy_bound };
     }
+
+-- the measures of a run are those of the tree that another run recorded
+abbrev tree_in : Option Answer → Tree
+tree_in (Some (Ended v lines totals t)) = t
+tree_in _ = Leaf 0
+
+pub measured_tree : (code : Code) (args : List ℤ) (n : ℕ) (burden : Burden) (kept : Recorded) (records : Records code args n kept) (e : alone.Ended) (runs : Runs code args n burden e)
+    → AreReadings burden records.tree e.measure
+measured_tree code args n burden kept records e runs =
+    let one_tree : runs.tree ≡ records.tree = ap tree_in (sym runs.answer ∙ records.answer) in
+    subst (λ t. AreReadings burden t e.measure) one_tree runs.measure
 
 -- steps of a record
 pub no_steps : (t : Tree) (kept : Recorded) (p : ℕ) → IsKept t kept → (IsOk kept → ⊥) → None ≡ steps_on p t

@@ -1,5 +1,5 @@
 -- Which run of code has speedups, what they are, and why another run has none.
-use Rattle.std.specs.Prelude.{◌≡◌, ◌≤◌, ℕ, ℤ, Bool, true, false, ◌&&◌, nat_le, if◌then◌else◌, List, map, Option, Some, None}
+use Rattle.std.specs.Prelude.{◌≡◌, ◌≤◌, ℕ, ℤ, Bool, true, false, ◌&&◌, nat_le, if◌then◌else◌, List, map, ◌⊎◌, Option, Some, None}
 use Rattle.std.specs.Prelude.{Result, MatchResult}
 use Rattle.cw_model.specs.declared.burden.Burden.{Burden}
 use Rattle.cw_model.specs.declared.limits.TheConstants.{MOST_BURDEN, MOST_STRANDS}
@@ -12,6 +12,7 @@ use Rattle.cw_greedy.specs.Greedy.{greedy_length}
 use Rattle.cw_meter.specs.Whole.{AreReadings}
 use Rattle.cw_code.specs.Code.{Code}
 use Rattle.cw_code.specs.Run.{code_serial}
+use Rattle.cw_machine.specs.Runs.{IsFailure}
 use Rattle.cw_schedule.specs.Schedules as schedules
 use Rattle.cw_schedule.specs.State.{IsWithin}
 use Rattle.cw_speedup.specs.Counts.{processor_counts}
@@ -55,6 +56,10 @@ IsNotSpedUp code args n burden most (fault.Trap trap line output) =
     (is_asked code args n burden most ≡ true) × (code_serial code args n ≡ Some (TrappedAt trap line output.items))
 IsNotSpedUp code args n burden most fault.Memory = is_asked code args n burden most ≡ true
 IsNotSpedUp code args n burden most _ = ⊥
+
+-- why a run whose strands were recorded has no measures: memory ran out, or a second run of the code failed
+abbrev pub IsNotMeasured : Code → List ℤ → (n : ℕ) → Burden → Fault → Type 0
+IsNotMeasured code args n burden e = (e ≡ fault.Memory) ⊎ IsFailure code args n burden e
 
 -- a run of code has the speedups that the code's meaning gives, or it is said why it has none
 abbrev pub SpeedsUpAsCode : Code → List ℤ → (n : ℕ) → Burden → (most : ℕ) → Result Speedup Fault → Type 0

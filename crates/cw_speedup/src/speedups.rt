@@ -1,10 +1,12 @@
 //! Steps of a run on each of several numbers of processors, with its measures.
 
-ghost use Rattle.std.specs.Prelude.{◌≡◌, ◌≤◌, IfOk, All, map};
+ghost use Rattle.std.specs.Prelude.{◌≡◌, ◌≤◌, IfOk, MatchResult, All, map};
 ghost use Rattle.cw_model.specs.Trees.{Tree, work};
-ghost use Rattle.cw_model.specs.declared.limits.TheConstants.{MOST_LIMIT};
+ghost use Rattle.cw_model.specs.declared.limits.TheConstants.{MOST_BURDEN, MOST_LIMIT};
 ghost use Rattle.cw_code.specs.Code.{code_view};
-ghost use Rattle.cw_machine.specs.Recorded.{RecordsAsCode};
+ghost use Rattle.cw_greedy.specs.Records.{IsRecordOf};
+ghost use Rattle.cw_machine.specs.Recorded.{Records, RecordsAsCode};
+ghost use Rattle.cw_meter.specs.Whole.{AreReadings};
 ghost use Rattle.cw_recorded.specs.Recording.{IsKept};
 ghost use Rattle.cw_speedup.specs.Speedups as speedups;
 
@@ -17,8 +19,10 @@ use cw_meter::Readings;
 use cw_model::burden::Burden;
 use cw_model::limits::MOST_BURDEN;
 use cw_runnable::verified::Verified;
+use cw_schedule::laws::work_is_within_its_limit;
 use cw_schedule::schedule::greedy;
 use cw_schedule::schedules;
+use cw_schedule::weights::{burdened, weigh};
 use cw_text::Fault;
 use std::alloc::{AllocError, Global};
 use std::sync::Arc;
@@ -87,17 +91,15 @@ pub fn speedup_of_run(
     ensures { speedups.SpeedsUpAsCode (code_view code.value.code) args.now n burden most result }
 {
     greedy_is_bounded();
+    work_is_within_its_limit();
     if !is_asked(&code, args, n, burden, most) {
         return Err(Fault::Arguments);
     }
     let strands = ran?;
-    let ended = run_alone(alloc, code, args, n, burden)?;
     let counts = counts_up_to(alloc, most)?;
     let rows = rows_of(alloc, &strands, counts.as_slice())?;
-    Ok(Speedup {
-        measure: ended.measure,
-        rows,
-    })
+    let measure = measure_of(alloc, code, args, n, burden, &strands)?;
+    Ok(Speedup { measure, rows })
 }
 
 /// Whether there are as many arguments as `main` takes, and the limit, the burden and the processors are in their ranges.
@@ -105,6 +107,44 @@ pub fn is_asked(code: &Verified, args: &[i64], n: u64, burden: Burden, most: u64
     ensures { result ≡ speedups.is_asked (code_view code.now.code) args.now n burden most }
 {
     schedules::is_asked(code, args, n, most) && burden.charge <= MOST_BURDEN
+}
+
+// Returns the measures of a run: those of its record, or, if it has too many strands to record, those of a second run.
+fn measure_of(
+    alloc: Global,
+    code: Arc<Verified>,
+    args: &[i64],
+    n: u64,
+    burden: Burden,
+    kept: &Strands,
+) -> Result<Readings, Fault>
+    requires low { burden.charge ≤ MOST_BURDEN }
+    requires ran { (r : Records (code_view code.value.code) args.now n kept.now) × (work r.tree ≤ MOST_LIMIT) }
+    ensures { (r : Records (code_view code.value.code) args.now n kept.now)
+        → MatchResult result (AreReadings burden r.tree)
+        (speedups.IsNotMeasured (code_view code.value.code) args.now n burden) }
+{
+    if !kept.fits() {
+        let ended = run_alone(alloc, code, args, n, burden)?;
+        return Ok(ended.measure);
+    }
+    let measure = recorded_measure(alloc, kept, burden)?;
+    Ok(measure)
+}
+
+// Returns the measures of a record.
+fn recorded_measure(alloc: Global, kept: &Strands, burden: Burden) -> Result<Readings, AllocError>
+    requires low { burden.charge ≤ MOST_BURDEN }
+    requires kept { (t : Tree) × (IsRecordOf t kept.now × (work t ≤ MOST_LIMIT)) }
+    ensures { (t : Tree) → IsRecordOf t kept.now → IfOk result (AreReadings burden t) }
+{
+    let weights = weigh(alloc, kept)?;
+    let with_burden = burdened(alloc, kept, burden)?;
+    Ok(Readings {
+        work: weights.work,
+        span: weights.span,
+        burdened: u128::from(with_burden),
+    })
 }
 
 // The rows of a record for these numbers of processors.

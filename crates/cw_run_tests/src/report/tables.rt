@@ -23,6 +23,8 @@ pub(crate) enum Asked {
     Run,
     Scale,
     Sites,
+    ScaleTable,
+    SitesTable,
 }
 
 /// How a run ended.
@@ -181,8 +183,10 @@ fn report_to_room(
     let mut sink = Counted::new(Cursor::new(bytes.as_mut_slice()));
     let told = match asked {
         Asked::Run => answer(alloc, &run.code, &run.values, &mut sink),
-        Asked::Scale => scale(alloc, &run.ended, &mut sink),
-        Asked::Sites => sites(alloc, &run.code, &run.ended, &mut sink),
+        Asked::Scale => scale(alloc, &run.ended, false, &mut sink),
+        Asked::ScaleTable => scale(alloc, &run.ended, true, &mut sink),
+        Asked::Sites => sites(alloc, &run.code, &run.ended, false, &mut sink),
+        Asked::SitesTable => sites(alloc, &run.code, &run.ended, true, &mut sink),
     };
     let failures = sink.failures();
     let taken = sink.into_inner().position();
@@ -347,6 +351,65 @@ static NOT_ENDED: [Report; 7] = [
     },
 ];
 
+// Aligned tables; a run that did not finish has none.
+static TABLES: [Report; 6] = [
+    Report {
+        name: "a table of tags",
+        asked: Asked::ScaleTable,
+        tags: &["sort", "never"],
+        end: SORTED,
+        text: b"tag         work  span  parallelism  burdened_span  burdened_parallelism\n(program)     10     4        2.500              7                 1.428\nsort       2,000     3      666.666          2,000                 1.000\nnever          0     0        0.000              0                 0.000\n",
+    },
+    Report {
+        name: "a table of call sites",
+        asked: Asked::SitesTable,
+        tags: &["sort", "never"],
+        end: SORTED,
+        text: b"site  kind         line  callee  calls  own_work  % work  own_span  % span  work                       span\n   0  root           12  main        1         5    16.6         4    20.0    30                         20\n   1  spawn          14  fib         2        10    33.3         6    30.0    25  4,611,686,018,427,387,904\n   2  call   4294967295  leaf        0         0     0.0         0     0.0     0                          0\n",
+    },
+    Report {
+        name: "a table with one row and wide numbers",
+        asked: Asked::ScaleTable,
+        tags: &[],
+        end: End::Readings(
+            Readings {
+                work: 4611686018427387904,
+                span: 7,
+                burdened: 4611686018427387905,
+            },
+            &[],
+        ),
+        text: b"tag                             work  span                  parallelism              burdened_span  burdened_parallelism\n(program)  4,611,686,018,427,387,904     7  658,812,288,346,769,700.571  4,611,686,018,427,387,905                 0.999\n",
+    },
+    Report {
+        name: "a table with a name of 64 bytes",
+        asked: Asked::ScaleTable,
+        tags: &["nnnnnnnnnnnnnnnnnnnnnnnnnnnnnnnnnnnnnnnnnnnnnnnnnnnnnnnnnnnnnnnn"],
+        end: End::Readings(
+            SMALL,
+            &[(
+                "nnnnnnnnnnnnnnnnnnnnnnnnnnnnnnnnnnnnnnnnnnnnnnnnnnnnnnnnnnnnnnnn",
+                NEVER,
+            )],
+        ),
+        text: b"tag                                                               work  span  parallelism  burdened_span  burdened_parallelism\n(program)                                                           10     4        2.500              7                 1.428\nnnnnnnnnnnnnnnnnnnnnnnnnnnnnnnnnnnnnnnnnnnnnnnnnnnnnnnnnnnnnnnnn     0     0        0.000              0                 0.000\n",
+    },
+    Report {
+        name: "the table of a trap",
+        asked: Asked::SitesTable,
+        tags: &["sort"],
+        end: STOPPED,
+        text: b"",
+    },
+    Report {
+        name: "the table of a run over its limit",
+        asked: Asked::ScaleTable,
+        tags: &["sort"],
+        end: End::OverLimit,
+        text: b"",
+    },
+];
+
 #[test]
 fn each_room_takes_a_beginning(rt: HostRuntime) -> Result<(), Fault> {
     for report in &ENDED {
@@ -367,6 +430,14 @@ fn tables_of_tags(rt: HostRuntime) -> Result<(), Fault> {
 fn a_run_that_did_not_end_has_no_table(rt: HostRuntime) -> Result<(), Fault> {
     for report in &NOT_ENDED {
         assert!(rt; is_taken(rt.alloc(), report)?, "{}", report.name);
+    }
+    Ok(())
+}
+
+#[test]
+fn aligned_tables(rt: HostRuntime) -> Result<(), Fault> {
+    for report in &TABLES {
+        assert!(rt; is_taken_by_rooms(rt.alloc(), report)?, "{}", report.name);
     }
     Ok(())
 }

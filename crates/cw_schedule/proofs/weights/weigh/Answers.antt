@@ -1,4 +1,5 @@
 use Rattle.std.proofs.Common.{arith}
+use Rattle.cw_model.specs.Burdens.{no_burden}
 use Rattle.cw_greedy.specs.Blocks.{block_of}
 use Rattle.cw_model.specs.lemmas.Spans.{span_within}
 use Rattle.cw_greedy.specs.Entries.{codes_of_chunks}
@@ -20,4 +21,4 @@ returns-clause-span c = λ t h.
     let of_given = record_has_work c.requires.0 codes (record_of c.requires.0 c.args.kept.now codes c.chunks.ensures.value c.requires.1.0) in
     let is = record_of t c.args.kept.now codes c.chunks.ensures.value h in
     let path = c.in_ok-weights.ensures.span (block_of t) (record_is_read t codes is) in
-    omega (arith, path, path_is_span t, span_within t, of_given, record_has_work t codes is, c.requires.1.1)
+    omega (arith, path, path_is_span no_burden t, span_within t, of_given, record_has_work t codes is, c.requires.1.1)

@@ -16,10 +16,10 @@ loop-chunk-preserved c =
     record {
       work = omega (arith, c.in_ok-follow_all.ensures.work, c.loop-chunk.invariant.work, sum);
       weighs = λ block e. c.in_ok-follow_all.ensures.weighs block (codes_of_chunks (drop (i + 1) chunks))
-          (subst (λ codes. WillWeigh block codes c.loop-chunk.ways) next (c.loop-chunk.invariant.weighs block e));
+          (subst (λ codes. WillWeigh c.args.burden block codes c.loop-chunk.ways) next (c.loop-chunk.invariant.weighs block e));
     }
 
 pub returns-clause-span : goal.returns-clause-span
 returns-clause-span c = λ block e.
-    weighs_all block c.loop-chunk.ways
-    (subst (λ chunks. WillWeigh block (codes_of_chunks chunks) c.loop-chunk.ways) (drop_all c.loop-chunk.chunk-index c.args.chunks.now (omega arith)) (c.loop-chunk.invariant.weighs block e))
+    weighs_all c.args.burden block c.loop-chunk.ways
+    (subst (λ chunks. WillWeigh c.args.burden block (codes_of_chunks chunks) c.loop-chunk.ways) (drop_all c.loop-chunk.chunk-index c.args.chunks.now (omega arith)) (c.loop-chunk.invariant.weighs block e))

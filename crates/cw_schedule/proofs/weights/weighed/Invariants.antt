@@ -8,5 +8,5 @@ use Rattle.cw_schedule.proofs.weights.weighed.Given as goal
 abbrev pub invariant-loop-chunk : goal.invariant-loop-chunk
 invariant-loop-chunk l = record {
   work : counted (l.ways.work + instructions (codes_of_chunks (drop l.chunk-index l.chunks))) ≡ counted (instructions (codes_of_chunks l.chunks));
-  weighs : (block : Block) → read (codes_of_chunks l.chunks) [] (Last 0) ≡ Some block → WillWeigh block (codes_of_chunks (drop l.chunk-index l.chunks)) l.ways;
+  weighs : (block : Block) → read (codes_of_chunks l.chunks) [] (Last 0) ≡ Some block → WillWeigh l.burden block (codes_of_chunks (drop l.chunk-index l.chunks)) l.ways;
 }

@@ -6,4 +6,4 @@ use Rattle.cw_schedule.proofs.weights.Ways.follow.Goals as goal
 pub returns-clause-weighs : goal.returns-clause-weighs
 returns-clause-weighs c =
     λ block later h. c.in_ok-cut.ensures.weighs block later
-    (weighs_work block c.args.entry.before (code_of_cut c.args.entry.cut ++ later) c.args.self.now c.worked.new.self h c.worked.ensures.path c.worked.ensures.spawns)
+    (weighs_work c.args.burden block c.args.entry.before (code_of_cut c.args.entry.cut ++ later) c.args.self.now c.worked.new.self h c.worked.ensures.path c.worked.ensures.spawns)

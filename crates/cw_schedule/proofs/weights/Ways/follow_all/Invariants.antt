@@ -10,6 +10,6 @@ abbrev pub invariant-loop-entry : goal.invariant-loop-entry
 invariant-loop-entry l = record {
   work : counted (l.self.work + instructions (codes_of_entries (drop l.entry-index l.entries)))
       ≡ counted (l.fn.self.work + instructions (codes_of_entries l.entries));
-  weighs : (block : Block) (later : List Code) → WillWeigh block (codes_of_entries l.entries ++ later) l.fn.self
-      → WillWeigh block (codes_of_entries (drop l.entry-index l.entries) ++ later) l.self;
+  weighs : (block : Block) (later : List Code) → WillWeigh l.burden block (codes_of_entries l.entries ++ later) l.fn.self
+      → WillWeigh l.burden block (codes_of_entries (drop l.entry-index l.entries) ++ later) l.self;
 }
