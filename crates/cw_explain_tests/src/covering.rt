@@ -1,7 +1,7 @@
 //! Each habit has an example whose explanation says what to write, and with that put in place it is accepted.
 
 use crate::names::{bytes, names, rules};
-use crate::sources::sources;
+use crate::sources::{sources, updates};
 use crate::statements::{assignments, others, statements};
 use crate::told::{Habit, is_advised, told_between};
 use cw_explain::{Row, all_bytes, all_names, all_rows};
@@ -46,6 +46,7 @@ fn names_are_accepted_as_advised(rt: HostRuntime) {
 #[test]
 fn sources_are_accepted_as_advised(rt: HostRuntime) {
     all_advised(&rt, rt.alloc(), "", sources(), "");
+    all_advised(&rt, rt.alloc(), "", updates(), "");
 }
 
 // Adds the explanations of these habits.
@@ -73,6 +74,7 @@ fn all_told(alloc: Global) -> Result<Vec<String>, AllocError> {
     add_told(alloc, &mut out, FRONT, bytes(), BACK)?;
     add_told(alloc, &mut out, FRONT, names(), BACK)?;
     add_told(alloc, &mut out, "", sources(), "")?;
+    add_told(alloc, &mut out, "", updates(), "")?;
     Ok(out)
 }
 

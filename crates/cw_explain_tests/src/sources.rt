@@ -183,6 +183,9 @@ static SOURCES: &[Habit] = &[
         "write int a[]; len(a) is its length",
         "int f(int a[]) {\n  return len(a);\n}\nint main(int n) {\n  return n;\n}",
     ),
+];
+
+static UPDATES: &[Habit] = &[
     (
         "int f(int n, int a[n]) {\n  return 0;\n}\nint main(int n) {\n  return n;\n}",
         "write int a[]; len(a) is its length",
@@ -360,7 +363,12 @@ static SOURCES: &[Habit] = &[
     ),
 ];
 
-/// Items, parameters, and loops that update a variable from outside.
+/// Items and parameters.
 pub fn sources() -> &'static [Habit] {
     SOURCES
+}
+
+/// Whole functions, and loops that update a variable from outside.
+pub fn updates() -> &'static [Habit] {
+    UPDATES
 }

@@ -1,5 +1,5 @@
 -- The tokens that the parser accepts, and why it rejects others.
-use Rattle.std.specs.Prelude.{◌≡◌, ◌≤◌, ℕ, List, [], ◌∷◌, ◌++◌, length, take, drop, Option, None, Some}
+use Rattle.std.specs.Prelude.{◌≡◌, ◌≤◌, ℕ, List, [], ◌∷◌, ◌++◌, length, take, drop}
 use Rattle.cw_model.specs.declared.token.Token.{Token}
 use Rattle.cw_model.specs.Lines.{IsLeastLine}
 use Rattle.cw_model.specs.Sizes.{token_faults}
@@ -43,11 +43,6 @@ pub record IsRefusedAt (text : List ℕ) (ts : List Token) (place : ℕ) : Type 
   pub goes_on : CanBegin text (take place ts)
   pub no_further : (t : Token) (us : List Token) → drop place ts ≡ t ∷ us → CanBegin text (take place ts ++ t ∷ []) → ⊥
   pub no_end : drop place ts ≡ [] → (program : Program) → Derives text ts program → ⊥
-
--- the place at which the tokens are rejected, or `None` if they are a source
-abbrev pub AreRefused : List ℕ → List Token → Option ℕ → Type 0
-AreRefused text ts None = (program : Program) × Derives text ts program
-AreRefused text ts (Some place) = IsRefusedAt text ts place
 
 -- tokens have at most one tree
 abbrev pub HasOneTree : List ℕ → List Token → Type 0

@@ -18,5 +18,5 @@ mod stmt;
 mod stop;
 
 pub use nesting::{TooNested, passed_by_tokens};
-pub use parser::{first_refused, parse};
+pub use parser::parse;
 pub use recovering::{Item, Recovered, Rejected, recover};

@@ -1,10 +1,10 @@
 //! Parses whole sources.
 
-ghost use Rattle.std.specs.Prelude.{◌≡◌, ◌-◌, length, drop, IfOk, MatchResult};
+ghost use Rattle.std.specs.Prelude.{◌≡◌, ◌-◌, length, drop, MatchResult};
 ghost use Rattle.cw_model.specs.Tokens.{IsTokenCut};
 ghost use Rattle.cw_model.specs.Grammar.{Derives, first_line};
 ghost use Rattle.cw_tree.specs.SyntaxView.{program_of};
-ghost use Rattle.cw_parse.specs.Parsed.{AreRefused, HasNoTree, IsParsed, IsUnparsed};
+ghost use Rattle.cw_parse.specs.Parsed.{HasNoTree, IsParsed, IsUnparsed};
 
 use crate::input::Reading;
 use crate::item::whole;
@@ -14,7 +14,7 @@ use crate::stop::Stop;
 use cw_model::token::Token;
 use cw_text::{Fault, Place, Source};
 use cw_tree::syntax::Ast;
-use std::alloc::{AllocError, Global};
+use std::alloc::Global;
 
 // Returns the line of the token at which `left` tokens remain, or the line of the text's end if no token remains.
 fn line_of(source: &Source, tokens: &[Token], left: usize) -> u32
@@ -76,34 +76,5 @@ fn tree_with(alloc: Global, source: &Source, names: &Names, tokens: &[Token]) ->
             let line = line_of(source, tokens, left);
             Err(Fault::Syntax(Place { line }))
         }
-    }
-}
-
-/// Returns the index of the first of these tokens that continues no source, or the number of tokens if the source
-/// ends too early; `None` if they are a source, apart from limits.
-///
-/// # Errors
-///
-/// Returns an error if there is no memory for the tree.
-pub fn first_refused(
-    alloc: Global,
-    source: &Source,
-    tokens: &[Token],
-) -> Result<Option<usize>, AllocError>
-    requires { IsTokenCut source.now tokens.now }
-    ensures { IfOk result (λ found. AreRefused source.now tokens.now found) }
-{
-    let text = source.bytes();
-    let names = Names::of(alloc, text, tokens)?;
-    let reading = Reading {
-        alloc,
-        text,
-        names: &names,
-        limit: tokens.len(),
-    };
-    match whole(reading, tokens) {
-        Ok(_) => Ok(None),
-        Err(Stop::Memory) => Err(AllocError),
-        Err(Stop::At(left)) => Ok(Some(tokens.len().saturating_sub(left))),
     }
 }
