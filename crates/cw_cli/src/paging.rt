@@ -53,7 +53,9 @@ pub(crate) fn run_page<W: Sink>(
     let heads = made.heads.as_slice();
     let drawn = drawn_alone(alloc, &code, heads, args, limit, burden, top, most);
     let version = RELEASE.as_bytes();
-    page(alloc, name, version, args, burden, bytes, &code, &drawn, out)?;
+    page(
+        alloc, name, version, args, burden, bytes, &code, &drawn, out,
+    )?;
     drawn?;
     Ok(())
 }
@@ -93,7 +95,9 @@ pub(crate) fn run_page_with<
         rt, alloc, &code, heads, args, limit, burden, top, most, crew, gate,
     );
     let version = RELEASE.as_bytes();
-    page(alloc, name, version, args, burden, bytes, &code, &drawn, out)?;
+    page(
+        alloc, name, version, args, burden, bytes, &code, &drawn, out,
+    )?;
     drawn?;
     Ok(())
 }
@@ -173,14 +177,7 @@ fn drawn_with<
 }
 
 // Returns whether the numbers of a page are in range and the code may be run so.
-fn is_asked(
-    code: &Verified,
-    args: &[i64],
-    limit: u64,
-    burden: Burden,
-    top: u64,
-    most: u64,
-) -> bool
+fn is_asked(code: &Verified, args: &[i64], limit: u64, burden: Burden, top: u64, most: u64) -> bool
     ensures { result ≡ is_asked (code_view code.now.code) (asked_for args.now limit burden top most) }
 {
     if top < 1 || MOST_TOP < top {

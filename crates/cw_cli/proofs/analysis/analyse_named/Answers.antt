@@ -62,4 +62,4 @@ returns-in-Page g c =
     (run_is g.W.Sink.seen c.args.out.now c.run_page_with.new.out c.args.name.now c.args.bytes.now c.args.args.now c.args.options runs c.run_page_with.result (c.run_page_with.ensures c.in-Page.is c.in_ok-made.ensures))
 
 pub run_page_with-requires-clause-numbered : goal.run_page_with-requires-clause-numbered
-run_page_with-requires-clause-numbered g c = sites_numbered c.derived_sites_are_numbered.ensures c.args.bytes.now _ c.in_ok-made.ensures.compiled
+run_page_with-requires-clause-numbered g c κs within = sites_numbered c.derived_sites_are_numbered.ensures c.args.bytes.now _ c.in_ok-made.ensures.compiled

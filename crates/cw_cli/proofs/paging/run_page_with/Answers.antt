@@ -64,4 +64,4 @@ returns g c = λ is made.
     finished name bytes args words options _ compiled _ _ _ tells g.W.Sink.seen c.args.out.now c.page.new.to c.drawn_with-drawn.result _ was ran c.in_ok-page.ensures.answers c.in_ok-page.ensures.idle
 
 pub drawn_with-drawn-requires-clause-numbered : goal.drawn_with-drawn-requires-clause-numbered
-drawn_with-drawn-requires-clause-numbered g c = subst (λ v. HasNumberedSites (code_view v.code)) (sym c.in_ok-code.ensures.ok) c.requires.numbered
+drawn_with-drawn-requires-clause-numbered g c κs within = subst (λ v. HasNumberedSites (code_view v.code)) (sym c.in_ok-code.ensures.ok) c.requires.numbered
