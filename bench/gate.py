@@ -50,6 +50,7 @@ BEFORE = [
     ["bench/reference/examples.py", "--check"],
     ["bench/reference/check.py"],
     ["bench/reference/walks.py", "--check"],
+    ["bench/page/constants.py", "--check"],
     ["bench/unfolded.py", "--check"],
     ["bench/wrong/wrong.py"],
     ["bench/turned/turn.py", "--turn", NUMBER, "--jobs", "4"],
