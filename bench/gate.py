@@ -93,7 +93,7 @@ def unnamed(prefix):
     """Returns what is missing after an installation: files, and commands and options that a page or a completion does not name."""
     program = os.path.join(prefix, "bin", "cilkwork")
     commands = re.findall(r"^  (\w+)  ", said(program, "--help").split("Commands:")[1].split("\n\n")[0], re.M)
-    options = {it for verb in commands if verb != "help" for it in re.findall(r"--(\w+) <", said(program, verb, "--help"))}
+    options = {it for verb in commands if verb != "help" for it in re.findall(r"^ +--(\w+)", said(program, verb, "--help"), re.M)}
     lacks = [it for it in INSTALLED if not os.path.isfile(os.path.join(prefix, it))]
     for name in WORDED:
         with open(os.path.join(prefix, "share", name), encoding="utf-8") as it:

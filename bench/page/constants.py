@@ -4,7 +4,8 @@
     constants.py [--check]
 
 The files are page_style.rt (page.css), page_script.rt (page.js) and page_frame.rt (what template.html has between its holes). Each constant is
-named in one function only, because a proof of any other function that named it would carry all its bytes.
+named in one function only, because a proof of any other function that named it would carry all its bytes. All others name the definition of
+specs/Frame.antt, which is unfolded in that function only.
 """
 import os
 import sys
@@ -15,13 +16,15 @@ FOLDER = os.path.normpath(os.path.join(os.path.dirname(os.path.abspath(__file__)
 HEAD = '''//! %s, written by `bench/page/constants.py`.
 
 ghost use Rattle.std.specs.Prelude.{\u25cc\u2261\u25cc};
+ghost use Rattle.cw_report.specs.Frame.{%s};
 '''
 CONSTANT = '''
 const %s: &[u8] =%sbr##"%s"##;
 
 /// Returns %s.
+#[tactic(auto, unfolding(crate::specs::Frame::%s))]
 pub fn %s() -> &'static [u8]
-    ensures { result.now \u2261 %s.now }
+    ensures { result.now \u2261 %s }
 {
     %s
 }
@@ -42,14 +45,22 @@ def constant(name, piece):
         raise SystemExit("%s has a character that its literal cannot have" % name)
     words = WORDS.get(name) or "the piece before the hole %s" % name.removeprefix("BEFORE_")
     line = 'const %s: &[u8] = br##"%s' % (name, text.partition("\n")[0])
-    return CONSTANT % (name, "\n    " if len(line) > WIDTH else " ", text, words, name.lower(), name, name)
+    lower = name.lower()
+    return CONSTANT % (name, "\n    " if len(line) > WIDTH else " ", text, words, lower, lower, lower, name)
+
+
+def file_text(title, names, pieces):
+    """Returns the text of the file of these constants."""
+    words = [name.lower() for name in names]
+    listed = words[0] if len(words) == 1 else "\n  " + ",\n  ".join(sorted(words)) + ",\n"
+    return HEAD % (title, listed) + "".join(constant(name, pieces[name]) for name in names)
 
 
 def texts():
     """Returns the text of each file, by its path."""
     pieces = assemble.constants()
     rest = [name for name in pieces if name not in ("STYLE", "SCRIPT")]
-    return {os.path.join(FOLDER, file): HEAD % title + "".join(constant(name, pieces[name]) for name in names or rest) for file, title, names in FILES}
+    return {os.path.join(FOLDER, file): file_text(title, names or rest, pieces) for file, title, names in FILES}
 
 
 def main():

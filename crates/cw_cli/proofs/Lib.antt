@@ -4,3 +4,4 @@ mod Ordered
 mod Runs
 mod Tools
 pub mod ReadWords
+mod Drawing

@@ -17,6 +17,9 @@ schedule_is_no_check e = cc
 pub speedup_is_no_check : {most : ℕ} → mode.Speedup most ≡ mode.Check → ⊥
 speedup_is_no_check e = cc
 
+pub page_is_no_check : {top most : ℕ} → mode.Page top most ≡ mode.Check → ⊥
+page_is_no_check e = cc
+
 pub gain_is_no_check : {top : ℕ} → mode.Gain top ≡ mode.Check → ⊥
 gain_is_no_check e = cc
 

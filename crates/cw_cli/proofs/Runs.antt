@@ -42,6 +42,7 @@ use Rattle.cw_gen.specs.Generates.{Generates}
 use Rattle.cw_compile.specs.Compiled.{IsCompiled}
 use Rattle.cw_compile.specs.Sources.{IsRefused}
 use Rattle.cw_cli.specs.Analyses as analyses
+use Rattle.cw_cli.specs.Pages.{Input, input_of}
 use Rattle.cw_words.specs.declared.asked.Mode.{Mode}
 use Rattle.cw_words.specs.declared.asked.Mode.TheVariants as mode
 use Rattle.cw_words.specs.declared.asked.Options.{Options}
@@ -78,7 +79,7 @@ trap_not_over : {trap : Trap} {line : ℕ} {lines : List ℤ} → TrappedAt trap
 trap_not_over e = cc
 
 -- the report of values, for code that carries what reports show of the program
-values_are : (program : Program) (code : Code) (burden : Burden) (e : Values) (tree : Tree) → Generates program code
+pub values_are : (program : Program) (code : Code) (burden : Burden) (e : Values) (tree : Tree) → Generates program code
     → handed_text code (Ok e) ≡ report_text report.Run program burden (Ended e.value e.lines.items e.totals.items tree)
 values_are program code burden e tree g =
     ap (λ part. flat_map value_line e.lines.items ++ (part ++ (codes "return " ++ value_line e.value)))
@@ -91,18 +92,18 @@ sites_numbered law bytes code compiled =
     ap (are_numbered 0) compiled.generates.sites ∙ law bytes source.tokens compiled.program source.parsed.derived
 
 -- the report that is asked for of what is counted
-report_is : (m : Mode) (program : Program) (code : Code) (args : List ℤ) (n : ℕ) (burden : Burden) (e : run.Ended) (r : Runs code args n burden e) → HasTables m
+report_is : (i : Input) (m : Mode) (program : Program) (code : Code) (args : List ℤ) (n : ℕ) (burden : Burden) (e : run.Ended) (r : Runs code args n burden e) → HasTables m
     → Generates program code → are_numbered 0 (call_sites program) ≡ true
-    → told_of m code (Ok e) ≡ analyses.text_in m program burden (Ended e.value e.lines.items e.totals.items r.tree)
-report_is mode.Scale program code args n burden e r has g numbered = scale_is program code burden e r.tree g.tags r.tags r.measure r.regions
-report_is mode.Sites program code args n burden e r has g numbered = sites_are program code e r.tree g.sites g.main_line numbered r.sites
-report_is _ program code args n burden e r has g numbered = absurd has
+    → told_of m code (Ok e) ≡ analyses.text_in i m program burden (Ended e.value e.lines.items e.totals.items r.tree)
+report_is i mode.Scale program code args n burden e r has g numbered = scale_is program code burden e r.tree g.tags r.tags r.measure r.regions
+report_is i mode.Sites program code args n burden e r has g numbered = sites_are program code e r.tree g.sites g.main_line numbered r.sites
+report_is i _ program code args n burden e r has g numbered = absurd has
 
-printed_is : (m : Mode) (program : Program) (code : Code) (burden : Burden) (trap : Trap) (line : ℕ) (lines : Vec ℤ) → HasTables m
-    → told_of m code (Err (fault.Trap trap line lines)) ≡ analyses.text_in m program burden (TrappedAt trap line lines.items)
-printed_is mode.Scale program code burden trap line lines has = refl
-printed_is mode.Sites program code burden trap line lines has = refl
-printed_is _ program code burden trap line lines has = absurd has
+printed_is : (i : Input) (m : Mode) (program : Program) (code : Code) (burden : Burden) (trap : Trap) (line : ℕ) (lines : Vec ℤ) → HasTables m
+    → told_of m code (Err (fault.Trap trap line lines)) ≡ analyses.text_in i m program burden (TrappedAt trap line lines.items)
+printed_is i mode.Scale program code burden trap line lines has = refl
+printed_is i mode.Sites program code burden trap line lines has = refl
+printed_is i _ program code burden trap line lines has = absurd has
 
 -- the report of a run that has no tables, for another reason than a trap, is empty
 over_is : (m : Mode) (code : Code) → told_of m code (Err fault.OverLimit) ≡ []
@@ -113,6 +114,7 @@ over_is mode.Sites code = refl
 over_is (mode.Gain top) code = refl
 over_is (mode.Greedy processors) code = refl
 over_is (mode.Speedup most) code = refl
+over_is (mode.Page top most) code = refl
 
 memory_is : (m : Mode) (code : Code) → told_of m code (Err fault.Memory) ≡ []
 memory_is mode.Check code = refl
@@ -122,6 +124,7 @@ memory_is mode.Sites code = refl
 memory_is (mode.Gain top) code = refl
 memory_is (mode.Greedy processors) code = refl
 memory_is (mode.Speedup most) code = refl
+memory_is (mode.Page top most) code = refl
 
 arguments_are : (m : Mode) (code : Code) → told_of m code (Err fault.Arguments) ≡ []
 arguments_are mode.Check code = refl
@@ -131,6 +134,7 @@ arguments_are mode.Sites code = refl
 arguments_are (mode.Gain top) code = refl
 arguments_are (mode.Greedy processors) code = refl
 arguments_are (mode.Speedup most) code = refl
+arguments_are (mode.Page top most) code = refl
 
 strands_are : (m : Mode) (code : Code) (count : ℕ) → told_of m code (Err (fault.Strands count)) ≡ []
 strands_are mode.Check code count = refl
@@ -140,6 +144,7 @@ strands_are mode.Sites code count = refl
 strands_are (mode.Gain top) code count = refl
 strands_are (mode.Greedy processors) code count = refl
 strands_are (mode.Speedup most) code count = refl
+strands_are (mode.Page top most) code count = refl
 
 -- a mode with tables asks for no schedule
 tables_in_range : (m : Mode) → HasTables m → IsModeInRange m
@@ -161,6 +166,7 @@ trap_scheduled mode.Sites trap line lines = tt
 trap_scheduled (mode.Gain top) trap line lines = tt
 trap_scheduled (mode.Greedy processors) trap line lines = tt
 trap_scheduled (mode.Speedup most) trap line lines = tt
+trap_scheduled (mode.Page top most) trap line lines = tt
 
 -- the row of a schedule
 row_is : (p p' work work' span span' steps steps' : ℕ) → p ≡ p' → work ≡ work' → span ≡ span' → steps ≡ steps'
@@ -172,7 +178,7 @@ row_is p p' work work' span span' steps steps' a b c d =
     ∙ ap (λ x. csv_line (decimal p' ∷ decimal work' ∷ decimal span' ∷ decimal x ∷ [])) d
 
 -- the measures of a tree
-readings_are : (burden : Burden) (m : Readings) (t : Tree) → AreReadings burden t m → m ≡ readings_of burden t
+pub readings_are : (burden : Burden) (m : Readings) (t : Tree) → AreReadings burden t m → m ≡ readings_of burden t
 readings_are burden m t h =
     ap (λ x. record m { work = x }) h.work ∙ ap (λ x. record m { work = work t; span = x }) h.span
     ∙ ap (λ x. record m { work = work t; span = span t; burdened = x }) h.burdened
@@ -181,15 +187,18 @@ readings_are burden m t h =
 no_part : {W : Type 0} (seen : W → Seen) (old new : W) (text : List ℕ) → new ≡ old → WritesPart (seen old) (seen new) text → ⊥
 no_part seen old new text same part = let e : (seen new).failures ≡ (seen old).failures = ap (λ w. (seen w).failures) same in omega (arith, e, part.failed)
 
-module _ (bytes : List ℕ) (args : List ℤ) (words : list_all fits args ≡ true) (options : Options) (code : Code) (compiled : IsCompiled bytes code) where
-  abbrev May : Type 0
+module _ (name bytes : List ℕ) (args : List ℤ) (words : list_all fits args ≡ true) (options : Options) (code : Code) (compiled : IsCompiled bytes code) where
+  abbrev pub input : Input
+  input = input_of name bytes args
+
+  abbrev pub May : Type 0
   May = analyses.MayRun compiled.program args options
 
-  abbrev answer : Answer
+  abbrev pub answer : Answer
   answer = analyses.answer_to compiled.program args options
 
   -- a valid request allows the run
-  may : (burden : Burden) → IsModeInRange options.mode → options.burden.charge ≤ MOST_BURDEN → is_request code args options.limit burden ≡ true → May
+  pub may : (burden : Burden) → IsModeInRange options.mode → options.burden.charge ≤ MOST_BURDEN → is_request code args options.limit burden ≡ true → May
   may burden of_mode low h =
       let n = and_parts (nat_eq (length args) (main_params code)) (nat_le 1 options.limit && (nat_le options.limit MOST_LIMIT && nat_le burden.charge MOST_BURDEN)) h in
       let l = and_parts (nat_le 1 options.limit) (nat_le options.limit MOST_LIMIT && nat_le burden.charge MOST_BURDEN) n.1 in
@@ -209,7 +218,7 @@ module _ (bytes : List ℕ) (args : List ℤ) (words : list_all fits args ≡ tr
   may_run_so : IsModeInRange options.mode → is_request code args options.limit options.burden ≡ true → May
   may_run_so of_mode h = may options.burden of_mode (burden_of h) h
 
-  must : (burden : Burden) → burden.charge ≤ MOST_BURDEN → May → is_request code args options.limit burden ≡ true
+  pub must : (burden : Burden) → burden.charge ≤ MOST_BURDEN → May → is_request code args options.limit burden ≡ true
   must burden low m =
       both_true (nat_eq (length args) (main_params code)) _ (equal (length args) (main_params code) (m.count ∙ sym compiled.generates.params))
       (both_true (nat_le 1 options.limit) _ (at_most 1 options.limit m.in_range.some_limit)
@@ -218,12 +227,12 @@ module _ (bytes : List ℕ) (args : List ℤ) (words : list_all fits args ≡ tr
   run_of : May → analyses.IsRunOf bytes args options compiled.program
   run_of m = record { compiles = compiled.compiles; may = m }
 
-  answer_is : May → (a : Answer) → code_serial code args options.limit ≡ Some a → answer ≡ a
+  pub answer_is : May → (a : Answer) → code_serial code args options.limit ≡ Some a → answer ≡ a
   answer_is m a e = same_Some _ _ (sym (compiled.generates.serial args words m.count options.limit) ∙ e)
 
   -- the report of an answer, in the mode that is asked for
   abbrev pub report_of : Answer → List ℕ
-  report_of a = analyses.text_in options.mode compiled.program options.burden a
+  report_of a = analyses.text_in input options.mode compiled.program options.burden a
 
   -- a run that ended: the meaning of its code, and its report
   pub record EndsAs (text : List ℕ) : Type 0 where
@@ -276,10 +285,10 @@ module _ (bytes : List ℕ) (args : List ℤ) (words : list_all fits args ≡ tr
               is = answer_is m end r.answer;
               scheduled = subst (λ k. IsScheduledIn k end) (sym is) tt;
               told = values_are compiled.program code options.burden e r.tree compiled.generates
-                  ∙ ap (λ k. analyses.text_in k compiled.program options.burden end) (sym is);
+                  ∙ ap (λ k. analyses.text_in input k compiled.program options.burden end) (sym is);
             };
         unrun = unrun_of of_mode;
-        printed = λ trap line lines. ap (λ k. analyses.text_in k compiled.program options.burden (TrappedAt trap line lines.items)) (sym is);
+        printed = λ trap line lines. ap (λ k. analyses.text_in input k compiled.program options.burden (TrappedAt trap line lines.items)) (sym is);
         over = refl;
         memory = refl;
         arguments = refl;
@@ -302,10 +311,10 @@ module _ (bytes : List ℕ) (args : List ℤ) (words : list_all fits args ≡ tr
               ended = tt;
               is = answer_is m end r.answer;
               scheduled = tables_scheduled options.mode end has;
-              told = report_is options.mode compiled.program code args options.limit options.burden e r has compiled.generates numbered;
+              told = report_is input options.mode compiled.program code args options.limit options.burden e r has compiled.generates numbered;
             };
         unrun = unrun_of of_mode;
-        printed = λ trap line lines. printed_is options.mode compiled.program code options.burden trap line lines has;
+        printed = λ trap line lines. printed_is input options.mode compiled.program code options.burden trap line lines has;
         over = over_is options.mode code;
         memory = memory_is options.mode code;
         arguments = arguments_are options.mode code;
@@ -326,10 +335,10 @@ module _ (bytes : List ℕ) (args : List ℤ) (words : list_all fits args ≡ tr
           is = answer_is m end r.answer;
           scheduled = subst (λ k. IsScheduledIn k end) (sym is) tt;
           told = gains_are compiled.program code heads top options.burden g r.tree r.value r.lines r.totals heads_are compiled.generates.sites compiled.generates.main_line r.measure r.functions
-              ∙ ap (λ k. analyses.text_in k compiled.program options.burden end) (sym is);
+              ∙ ap (λ k. analyses.text_in input k compiled.program options.burden end) (sym is);
         };
     unrun = unrun_of of_mode;
-    printed = λ trap line lines. ap (λ k. analyses.text_in k compiled.program options.burden (TrappedAt trap line lines.items)) (sym is);
+    printed = λ trap line lines. ap (λ k. analyses.text_in input k compiled.program options.burden (TrappedAt trap line lines.items)) (sym is);
     over = refl;
     memory = refl;
     arguments = refl;
@@ -375,10 +384,10 @@ module _ (bytes : List ℕ) (args : List ℤ) (words : list_all fits args ≡ tr
             is = answer_is m end r.ends.answer;
             scheduled = subst (λ k. IsScheduledIn k end) (sym is) scheduled;
             told = ap (λ row. schedule_header ++ row) (row_is s.processors p s.work _ s.span _ s.greedy (greedy_length p r.tree) r.processors r.work r.span r.greedy)
-                ∙ ap (λ k. analyses.text_in k compiled.program options.burden end) (sym is);
+                ∙ ap (λ k. analyses.text_in input k compiled.program options.burden end) (sym is);
           };
       unrun = unscheduled;
-      printed = λ trap line lines. ap (λ k. analyses.text_in k compiled.program options.burden (TrappedAt trap line lines.items)) (sym is);
+      printed = λ trap line lines. ap (λ k. analyses.text_in input k compiled.program options.burden (TrappedAt trap line lines.items)) (sym is);
       over = refl;
       memory = refl;
       arguments = refl;
@@ -422,10 +431,10 @@ module _ (bytes : List ℕ) (args : List ℤ) (words : list_all fits args ≡ tr
             is = answer_is m end r.ends.answer;
             scheduled = subst (λ k. IsScheduledIn k end) (sym is_speedup) bounded;
             told = ap₂ texts.speedup_text (readings_are options.burden s.measure r.tree r.measure) r.rows
-                ∙ ap (λ k. analyses.text_in k compiled.program options.burden end) (sym is_speedup);
+                ∙ ap (λ k. analyses.text_in input k compiled.program options.burden end) (sym is_speedup);
           };
       unrun = unsped;
-      printed = λ trap line lines. ap (λ k. analyses.text_in k compiled.program options.burden (TrappedAt trap line lines.items)) (sym is_speedup);
+      printed = λ trap line lines. ap (λ k. analyses.text_in input k compiled.program options.burden (TrappedAt trap line lines.items)) (sym is_speedup);
       over = refl;
       memory = refl;
       arguments = refl;
@@ -433,7 +442,7 @@ module _ (bytes : List ℕ) (args : List ℤ) (words : list_all fits args ≡ tr
     }
 
   -- a text that is the report of the answer
-  text_is : (a : Answer) (text : List ℕ) → answer ≡ a → text ≡ report_of a → text ≡ analyses.text_of compiled.program args options
+  text_is : (a : Answer) (text : List ℕ) → answer ≡ a → text ≡ report_of a → text ≡ analyses.text_of name bytes compiled.program args options
   text_is a text e told = told ∙ sym (ap report_of e)
 
   module _ {V : Type 0} (ran : V → Type 0) (failed : Fault → Type 0) (told : Result V Fault → List ℕ) (tells : Tells ran failed told) {W : Type 0} (seen : W → Seen) (old new : W) where
@@ -445,7 +454,7 @@ module _ (bytes : List ℕ) (args : List ℤ) (words : list_all fits args ≡ tr
     scheduled_of e r = let ends = tells.ended e r in subst (IsScheduledIn options.mode) (sym ends.is) ends.scheduled
 
     -- a run that ended, and whose report was written
-    reported : (e : V) → ran e → WritesAll (seen old) (seen new) (told (Ok e)) → analyses.IsReported seen old new bytes args options
+    reported : (e : V) → ran e → WritesAll (seen old) (seen new) (told (Ok e)) → analyses.IsReported seen old new name bytes args options
     reported e r took =
         let ends = tells.ended e r in
         record {
@@ -457,7 +466,7 @@ module _ (bytes : List ℕ) (args : List ℤ) (words : list_all fits args ≡ tr
         }
 
     -- a run that did not end, and whose text was written
-    unreported_as : (f : Fault) → IsUnrun f → WritesAll (seen old) (seen new) (told (Err f)) → (told (Err f) ≡ [] → new ≡ old) → analyses.IsUnreported seen old new bytes args options f
+    unreported_as : (f : Fault) → IsUnrun f → WritesAll (seen old) (seen new) (told (Err f)) → (told (Err f) ≡ [] → new ≡ old) → analyses.IsUnreported seen old new name bytes args options f
     unreported_as fault.OverLimit h took idle =
         record { program = compiled.program; run = run_of h.0; over = h.1; untouched = idle tells.over }
     unreported_as (fault.Trap trap line lines) h took idle = record {
@@ -473,28 +482,28 @@ module _ (bytes : List ℕ) (args : List ℤ) (words : list_all fits args ≡ tr
         record { program = compiled.program; run = run_of h.0; many = h.1; untouched = idle (tells.strands count) }
     unreported_as _ h took idle = absurd h
 
-    unreported : (f : Fault) → failed f → WritesAll (seen old) (seen new) (told (Err f)) → (told (Err f) ≡ [] → new ≡ old) → analyses.IsUnreported seen old new bytes args options f
+    unreported : (f : Fault) → failed f → WritesAll (seen old) (seen new) (told (Err f)) → (told (Err f) ≡ [] → new ≡ old) → analyses.IsUnreported seen old new name bytes args options f
     unreported f h took idle = unreported_as f (tells.unrun f h) took idle
 
     finished_itself : (ended : Result V Fault) → RanAs ended → WritesAll (seen old) (seen new) (told ended) → (told ended ≡ [] → new ≡ old)
-        → analyses.IsRun seen old new bytes args options (result_of ended)
+        → analyses.IsRun seen old new name bytes args options (result_of ended)
     finished_itself (Ok e) r took idle = reported e r took
     finished_itself (Err f) h took idle = unreported f h took idle
 
     -- a run that ended with a value, and whose report was written
     pub finished : (ended : Result V Fault) (e : V) → ended ≡ Ok e → RanAs ended → WritesAll (seen old) (seen new) (told ended)
-        → (told ended ≡ [] → new ≡ old) → analyses.IsReported seen old new bytes args options
+        → (told ended ≡ [] → new ≡ old) → analyses.IsReported seen old new name bytes args options
     finished ended e same h took idle =
-        subst (λ r. analyses.IsRun seen old new bytes args options (result_of r)) same (finished_itself ended h took idle)
+        subst (λ r. analyses.IsRun seen old new name bytes args options (result_of r)) same (finished_itself ended h took idle)
 
     -- a run that ended without a value
     pub stopped : (ended : Result V Fault) (f : Fault) → ended ≡ Err f → RanAs ended → WritesAll (seen old) (seen new) (told ended)
-        → (told ended ≡ [] → new ≡ old) → analyses.IsUnreported seen old new bytes args options f
+        → (told ended ≡ [] → new ≡ old) → analyses.IsUnreported seen old new name bytes args options f
     stopped ended f same h took idle =
-        subst (λ r. analyses.IsRun seen old new bytes args options (result_of r)) same (finished_itself ended h took idle)
+        subst (λ r. analyses.IsRun seen old new name bytes args options (result_of r)) same (finished_itself ended h took idle)
 
     -- a write that failed
-    cut_short_as : (f : Fault) → IsUnrun f → WritesPart (seen old) (seen new) (told (Err f)) → (told (Err f) ≡ [] → new ≡ old) → analyses.IsCutShort seen old new bytes args options
+    cut_short_as : (f : Fault) → IsUnrun f → WritesPart (seen old) (seen new) (told (Err f)) → (told (Err f) ≡ [] → new ≡ old) → analyses.IsCutShort seen old new name bytes args options
     cut_short_as (fault.Trap trap line lines) h part idle = record {
       program = compiled.program;
       run = run_of h.0;
@@ -508,7 +517,7 @@ module _ (bytes : List ℕ) (args : List ℤ) (words : list_all fits args ≡ tr
     cut_short_as (fault.Strands count) h part idle = absurd (no_part seen old new _ (idle (tells.strands count)) part)
     cut_short_as _ h part idle = absurd h
 
-    cut_short : (ended : Result V Fault) → RanAs ended → WritesPart (seen old) (seen new) (told ended) → (told ended ≡ [] → new ≡ old) → analyses.IsCutShort seen old new bytes args options
+    cut_short : (ended : Result V Fault) → RanAs ended → WritesPart (seen old) (seen new) (told ended) → (told ended ≡ [] → new ≡ old) → analyses.IsCutShort seen old new name bytes args options
     cut_short (Ok e) r part idle =
         let ends = tells.ended e r in
         record {
@@ -522,36 +531,36 @@ module _ (bytes : List ℕ) (args : List ℤ) (words : list_all fits args ≡ tr
 
     -- a text that was not written
     pub unwritten : (ended : Result V Fault) → RanAs ended → (told ended ≡ [] → new ≡ old) → (f : Fault) → AnswersLess seen old new (told ended) f
-        → analyses.IsUnreported seen old new bytes args options f
+        → analyses.IsUnreported seen old new name bytes args options f
     unwritten ended r idle fault.Memory h = h
     unwritten ended r idle fault.Write h = cut_short ended r h idle
     unwritten ended r idle _ h = absurd h
 
 -- ---- a check
 
-module _ {W : Type 0} (seen : W → Seen) (old new : W) (bytes : List ℕ) (args : List ℤ) (options : Options) where
+module _ {W : Type 0} (seen : W → Seen) (old new : W) (name bytes : List ℕ) (args : List ℤ) (options : Options) where
   -- the result of an analysis in the mode that is asked for
-  in_mode : (m : Mode) → options.mode ≡ m → (r : Result (Unit {0}) Fault) → analyses.IsAnalysedIn seen old new bytes args options m r → analyses.IsAnalysed seen old new bytes args options r
-  in_mode m is r h = subst (λ k. analyses.IsAnalysedIn seen old new bytes args options k r) (sym is) h
+  in_mode : (m : Mode) → options.mode ≡ m → (r : Result (Unit {0}) Fault) → analyses.IsAnalysedIn seen old new name bytes args options m r → analyses.IsAnalysed seen old new name bytes args options r
+  in_mode m is r h = subst (λ k. analyses.IsAnalysedIn seen old new name bytes args options k r) (sym is) h
 
-  check_text_is : (program : Program) → options.mode ≡ mode.Check → check_text ≡ analyses.text_of program args options
-  check_text_is program is = ap (λ m. analyses.text_in m program options.burden (analyses.answer_to program args options)) (sym is)
+  check_text_is : (program : Program) → options.mode ≡ mode.Check → check_text ≡ analyses.text_of name bytes program args options
+  check_text_is program is = ap (λ m. analyses.text_in (input_of name bytes args) m program options.burden (analyses.answer_to program args options)) (sym is)
 
   -- bytes that compile, and the text of a check
   pub checked : (code : Code) → IsCompiled bytes code → options.mode ≡ mode.Check → (r : Result (Unit {0}) Fault)
-      → Writes (seen old) (seen new) check_text r → analyses.IsAnalysed seen old new bytes args options r
+      → Writes (seen old) (seen new) check_text r → analyses.IsAnalysed seen old new name bytes args options r
   checked code compiled is (Ok done) h = in_mode mode.Check is (Ok done) (record {
     program = compiled.program;
     compiles = compiled.compiles;
     took = subst (λ text. WritesAll (seen old) (seen new) text) (check_text_is compiled.program is) h;
   })
-  checked code compiled is (Err f) h = in_mode mode.Check is (Err f) (subst (analyses.IsUnchecked seen old new bytes args options) (sym h.0) (record {
+  checked code compiled is (Err f) h = in_mode mode.Check is (Err f) (subst (analyses.IsUnchecked seen old new name bytes args options) (sym h.0) (record {
     program = compiled.program;
     compiles = compiled.compiles;
     took = subst (λ text. WritesPart (seen old) (seen new) text) (check_text_is compiled.program is) h.1;
   }))
 
-  in_running_mode : (m : Mode) → m ≢ mode.Check → (r : Result (Unit {0}) Fault) → analyses.IsRun seen old new bytes args options r → analyses.IsAnalysedIn seen old new bytes args options m r
+  in_running_mode : (m : Mode) → m ≢ mode.Check → (r : Result (Unit {0}) Fault) → analyses.IsRun seen old new name bytes args options r → analyses.IsAnalysedIn seen old new name bytes args options m r
   in_running_mode mode.Check runs r h = absurd (runs refl)
   in_running_mode mode.Run runs r h = h
   in_running_mode mode.Scale runs r h = h
@@ -559,58 +568,60 @@ module _ {W : Type 0} (seen : W → Seen) (old new : W) (bytes : List ℕ) (args
   in_running_mode (mode.Gain top) runs r h = h
   in_running_mode (mode.Greedy processors) runs r h = h
   in_running_mode (mode.Speedup most) runs r h = h
+  in_running_mode (mode.Page top most) runs r h = h
 
   -- the result of a run, if the mode runs the program
-  pub run_is : options.mode ≢ mode.Check → (r : Result (Unit {0}) Fault) → analyses.IsRun seen old new bytes args options r → analyses.IsAnalysed seen old new bytes args options r
+  pub run_is : options.mode ≢ mode.Check → (r : Result (Unit {0}) Fault) → analyses.IsRun seen old new name bytes args options r → analyses.IsAnalysed seen old new name bytes args options r
   run_is runs r h = in_running_mode options.mode runs r h
 
 -- the number in the mode is out of range
-pub out_of_range : {W : Type 0} (seen : W → Seen) (old : W) (bytes : List ℕ) (args : List ℤ) (options : Options) (code : Code) → IsCompiled bytes code → (m : Mode) (f : Fault) → options.mode ≡ m
-    → f ≡ fault.Arguments → ¬ (IsModeInRange m) → analyses.IsUnreported seen old old bytes args options f
-out_of_range seen old bytes args options code compiled m f is same not = subst (analyses.IsUnreported seen old old bytes args options) (sym same)
+pub out_of_range : {W : Type 0} (seen : W → Seen) (old : W) (name bytes : List ℕ) (args : List ℤ) (options : Options) (code : Code) → IsCompiled bytes code → (m : Mode) (f : Fault) → options.mode ≡ m
+    → f ≡ fault.Arguments → ¬ (IsModeInRange m) → analyses.IsUnreported seen old old name bytes args options f
+out_of_range seen old name bytes args options code compiled m f is same not = subst (analyses.IsUnreported seen old old name bytes args options) (sym same)
     (record { program = compiled.program; compiles = compiled.compiles; misused = λ may. not (subst IsModeInRange is may.in_range.mode); untouched = refl })
 
 -- ---- bytes that are rejected
 
-run_refusal : {W : Type 0} (seen : W → Seen) (old : W) (bytes : List ℕ) (args : List ℤ) (options : Options) (f : Fault) → IsRefused bytes f → analyses.IsUnreported seen old old bytes args options f
-run_refusal seen old bytes args options (fault.Lexical p) h = record { refused = h; untouched = refl }
-run_refusal seen old bytes args options (fault.Syntax p) h = record { refused = h; untouched = refl }
-run_refusal seen old bytes args options (fault.Types p) h = record { refused = h; untouched = refl }
-run_refusal seen old bytes args options (fault.Ownership p) h = record { refused = h; untouched = refl }
-run_refusal seen old bytes args options (fault.Size p) h = record { refused = h; untouched = refl }
-run_refusal seen old bytes args options fault.Memory h = refl
-run_refusal seen old bytes args options _ h = absurd h
+run_refusal : {W : Type 0} (seen : W → Seen) (old : W) (name bytes : List ℕ) (args : List ℤ) (options : Options) (f : Fault) → IsRefused bytes f → analyses.IsUnreported seen old old name bytes args options f
+run_refusal seen old name bytes args options (fault.Lexical p) h = record { refused = h; untouched = refl }
+run_refusal seen old name bytes args options (fault.Syntax p) h = record { refused = h; untouched = refl }
+run_refusal seen old name bytes args options (fault.Types p) h = record { refused = h; untouched = refl }
+run_refusal seen old name bytes args options (fault.Ownership p) h = record { refused = h; untouched = refl }
+run_refusal seen old name bytes args options (fault.Size p) h = record { refused = h; untouched = refl }
+run_refusal seen old name bytes args options fault.Memory h = refl
+run_refusal seen old name bytes args options _ h = absurd h
 
-check_refusal : {W : Type 0} (seen : W → Seen) (old : W) (bytes : List ℕ) (args : List ℤ) (options : Options) (f : Fault) → IsRefused bytes f → analyses.IsUnchecked seen old old bytes args options f
-check_refusal seen old bytes args options (fault.Lexical p) h = record { refused = h; untouched = refl }
-check_refusal seen old bytes args options (fault.Syntax p) h = record { refused = h; untouched = refl }
-check_refusal seen old bytes args options (fault.Types p) h = record { refused = h; untouched = refl }
-check_refusal seen old bytes args options (fault.Ownership p) h = record { refused = h; untouched = refl }
-check_refusal seen old bytes args options (fault.Size p) h = record { refused = h; untouched = refl }
-check_refusal seen old bytes args options fault.Memory h = refl
-check_refusal seen old bytes args options _ h = absurd h
+check_refusal : {W : Type 0} (seen : W → Seen) (old : W) (name bytes : List ℕ) (args : List ℤ) (options : Options) (f : Fault) → IsRefused bytes f → analyses.IsUnchecked seen old old name bytes args options f
+check_refusal seen old name bytes args options (fault.Lexical p) h = record { refused = h; untouched = refl }
+check_refusal seen old name bytes args options (fault.Syntax p) h = record { refused = h; untouched = refl }
+check_refusal seen old name bytes args options (fault.Types p) h = record { refused = h; untouched = refl }
+check_refusal seen old name bytes args options (fault.Ownership p) h = record { refused = h; untouched = refl }
+check_refusal seen old name bytes args options (fault.Size p) h = record { refused = h; untouched = refl }
+check_refusal seen old name bytes args options fault.Memory h = refl
+check_refusal seen old name bytes args options _ h = absurd h
 
-refused_in : {W : Type 0} (seen : W → Seen) (old : W) (bytes : List ℕ) (args : List ℤ) (options : Options) (m : Mode) (f : Fault) → IsRefused bytes f
-    → analyses.IsAnalysedIn seen old old bytes args options m (Err f)
-refused_in seen old bytes args options mode.Check f h = check_refusal seen old bytes args options f h
-refused_in seen old bytes args options mode.Run f h = run_refusal seen old bytes args options f h
-refused_in seen old bytes args options mode.Scale f h = run_refusal seen old bytes args options f h
-refused_in seen old bytes args options mode.Sites f h = run_refusal seen old bytes args options f h
-refused_in seen old bytes args options (mode.Gain top) f h = run_refusal seen old bytes args options f h
-refused_in seen old bytes args options (mode.Greedy processors) f h = run_refusal seen old bytes args options f h
-refused_in seen old bytes args options (mode.Speedup most) f h = run_refusal seen old bytes args options f h
+refused_in : {W : Type 0} (seen : W → Seen) (old : W) (name bytes : List ℕ) (args : List ℤ) (options : Options) (m : Mode) (f : Fault) → IsRefused bytes f
+    → analyses.IsAnalysedIn seen old old name bytes args options m (Err f)
+refused_in seen old name bytes args options mode.Check f h = check_refusal seen old name bytes args options f h
+refused_in seen old name bytes args options mode.Run f h = run_refusal seen old name bytes args options f h
+refused_in seen old name bytes args options mode.Scale f h = run_refusal seen old name bytes args options f h
+refused_in seen old name bytes args options mode.Sites f h = run_refusal seen old name bytes args options f h
+refused_in seen old name bytes args options (mode.Gain top) f h = run_refusal seen old name bytes args options f h
+refused_in seen old name bytes args options (mode.Greedy processors) f h = run_refusal seen old name bytes args options f h
+refused_in seen old name bytes args options (mode.Speedup most) f h = run_refusal seen old name bytes args options f h
+refused_in seen old name bytes args options (mode.Page top most) f h = run_refusal seen old name bytes args options f h
 
 -- bytes that are rejected, in every mode
-pub refusal : {W : Type 0} (seen : W → Seen) (old : W) (bytes : List ℕ) (args : List ℤ) (options : Options) (f : Fault) → IsRefused bytes f
-    → (r : Result (Unit {0}) Fault) → IsErrAnd r (λ x. x ≡ f) → analyses.IsAnalysed seen old old bytes args options r
-refusal seen old bytes args options f h (Ok done) e = absurd e
-refusal seen old bytes args options f h (Err g) e = refused_in seen old bytes args options options.mode g (subst (IsRefused bytes) (sym e) h)
+pub refusal : {W : Type 0} (seen : W → Seen) (old : W) (name bytes : List ℕ) (args : List ℤ) (options : Options) (f : Fault) → IsRefused bytes f
+    → (r : Result (Unit {0}) Fault) → IsErrAnd r (λ x. x ≡ f) → analyses.IsAnalysed seen old old name bytes args options r
+refusal seen old name bytes args options f h (Ok done) e = absurd e
+refusal seen old name bytes args options f h (Err g) e = refused_in seen old name bytes args options options.mode g (subst (IsRefused bytes) (sym e) h)
 
 -- a crew of at most the maximum size, and a larger one
-pub by_crew : {W : Type 0} (seen : W → Seen) (old new : W) (bytes : List ℕ) (args : List ℤ) (options : Options) (bodies : ℕ) (r : Result (Unit {0}) Fault)
-    → bodies ≤ MOST_BODIES → analyses.IsAnalysed seen old new bytes args options r → analyses.IsAnalysedBy seen old new bytes args options bodies r
-by_crew seen old new bytes args options bodies r few h = record { fits = λ _. h; refused = λ many. absurd (omega (arith, few, many)); untouched = λ many. absurd (omega (arith, few, many)) }
+pub by_crew : {W : Type 0} (seen : W → Seen) (old new : W) (name bytes : List ℕ) (args : List ℤ) (options : Options) (bodies : ℕ) (r : Result (Unit {0}) Fault)
+    → bodies ≤ MOST_BODIES → analyses.IsAnalysed seen old new name bytes args options r → analyses.IsAnalysedBy seen old new name bytes args options bodies r
+by_crew seen old new name bytes args options bodies r few h = record { fits = λ _. h; refused = λ many. absurd (omega (arith, few, many)); untouched = λ many. absurd (omega (arith, few, many)) }
 
-pub by_crowd : {W : Type 0} (seen : W → Seen) (old : W) (bytes : List ℕ) (args : List ℤ) (options : Options) (bodies : ℕ)
-    → MOST_BODIES < bodies → analyses.IsAnalysedBy seen old old bytes args options bodies (Err fault.Arguments)
-by_crowd seen old bytes args options bodies many = record { fits = λ few. absurd (omega (arith, few, many)); refused = λ _. refl; untouched = λ _. refl }
+pub by_crowd : {W : Type 0} (seen : W → Seen) (old : W) (name bytes : List ℕ) (args : List ℤ) (options : Options) (bodies : ℕ)
+    → MOST_BODIES < bodies → analyses.IsAnalysedBy seen old old name bytes args options bodies (Err fault.Arguments)
+by_crowd seen old name bytes args options bodies many = record { fits = λ few. absurd (omega (arith, few, many)); refused = λ _. refl; untouched = λ _. refl }

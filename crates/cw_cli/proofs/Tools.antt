@@ -2,7 +2,7 @@
 use Rattle.std.proofs.Common.{◌≡◌, ℕ, ℤ, option_map, IfSome, ◌<◌, ◌≤◌, ◌⊎◌, inl, inr, List, [], ◌++◌, ◌+◌, length, take}
 use Rattle.std.proofs.Common.{Option, Some, None, Result, Ok, Err, refl, sym, subst, arith, Bool, true, false}
 use Rattle.std.proofs.lemmas.List.{append-nil, take_all, length-take-le}
-use Rattle.std.specs.Prelude.{nat_le, is_err, OnOk}
+use Rattle.std.specs.Prelude.{nat_le, is_err, string_bytes, OnOk}
 use Rattle.std.proofs.lemmas.Bool.Decides.{nat_tests}
 use Rattle.std.specs.Io.KnownBytes.{Appends}
 use Rattle.cw_model.specs.declared.limits.TheConstants.{MOST_SOURCE_BYTES}
@@ -14,6 +14,7 @@ use Rattle.cw_report.specs.Sinks.{Writes}
 use Rattle.cw_compile.specs.Sources as sources
 use Rattle.cw_cli.specs.Analyses as analyses
 use Rattle.cw_cli.specs.Analyses.{IsAnalysed, IsAnalysedBy}
+use Rattle.cw_cli.specs.Pages.{base_name}
 use Rattle.cw_words.specs.declared.asked.Mode.{Mode}
 use Rattle.cw_words.specs.declared.asked.Mode.TheVariants as mode
 use Rattle.cw_cli.specs.Tools as tools
@@ -77,11 +78,11 @@ module _ (bytes : List ℕ) (long : MOST_SOURCE_BYTES < length bytes) where
   refused_whole fault.Memory h = h
   refused_whole _ h = absurd h
 
-  module _ {W : Type 0} (seen : W → Seen) (old new : W) (args : List ℤ) (options : Options) where
-    refused_for : (f : Fault) → analyses.IsRefusedFor seen old new (take most_read bytes) args options f → analyses.IsRefusedFor seen old new bytes args options f
+  module _ {W : Type 0} (seen : W → Seen) (old new : W) (name : List ℕ) (args : List ℤ) (options : Options) where
+    refused_for : (f : Fault) → analyses.IsRefusedFor seen old new name (take most_read bytes) args options f → analyses.IsRefusedFor seen old new name bytes args options f
     refused_for f h = record { refused = refused_whole f h.refused; untouched = h.untouched }
 
-    unreported_whole : (f : Fault) → analyses.IsUnreported seen old new (take most_read bytes) args options f → analyses.IsUnreported seen old new bytes args options f
+    unreported_whole : (f : Fault) → analyses.IsUnreported seen old new name (take most_read bytes) args options f → analyses.IsUnreported seen old new name bytes args options f
     unreported_whole fault.OverLimit h = absurd (no_source h.run.compiles.accepted.source.has_tokens.text)
     unreported_whole (fault.Trap trap line printed) h = absurd (no_source h.run.compiles.accepted.source.has_tokens.text)
     unreported_whole fault.Memory h = h
@@ -95,7 +96,7 @@ module _ (bytes : List ℕ) (long : MOST_SOURCE_BYTES < length bytes) where
     unreported_whole fault.Code h = absurd h.refused
     unreported_whole (fault.Strands count) h = absurd (no_source h.run.compiles.accepted.source.has_tokens.text)
 
-    unchecked_whole : (f : Fault) → analyses.IsUnchecked seen old new (take most_read bytes) args options f → analyses.IsUnchecked seen old new bytes args options f
+    unchecked_whole : (f : Fault) → analyses.IsUnchecked seen old new name (take most_read bytes) args options f → analyses.IsUnchecked seen old new name bytes args options f
     unchecked_whole fault.OverLimit h = h
     unchecked_whole (fault.Trap trap line printed) h = h
     unchecked_whole fault.Memory h = h
@@ -109,11 +110,11 @@ module _ (bytes : List ℕ) (long : MOST_SOURCE_BYTES < length bytes) where
     unchecked_whole fault.Code h = absurd h.refused
     unchecked_whole (fault.Strands count) h = absurd h.refused
 
-    run_whole : (r : Result (Unit {0}) Fault) → analyses.IsRun seen old new (take most_read bytes) args options r → analyses.IsRun seen old new bytes args options r
+    run_whole : (r : Result (Unit {0}) Fault) → analyses.IsRun seen old new name (take most_read bytes) args options r → analyses.IsRun seen old new name bytes args options r
     run_whole (Ok done) h = absurd (no_source h.run.compiles.accepted.source.has_tokens.text)
     run_whole (Err f) h = unreported_whole f h
 
-    long_whole : (m : Mode) (r : Result (Unit {0}) Fault) → analyses.IsAnalysedIn seen old new (take most_read bytes) args options m r → analyses.IsAnalysedIn seen old new bytes args options m r
+    long_whole : (m : Mode) (r : Result (Unit {0}) Fault) → analyses.IsAnalysedIn seen old new name (take most_read bytes) args options m r → analyses.IsAnalysedIn seen old new name bytes args options m r
     long_whole mode.Check (Ok done) h = absurd (no_source h.compiles.accepted.source.has_tokens.text)
     long_whole mode.Check (Err f) h = unchecked_whole f h
     long_whole mode.Run r h = run_whole r h
@@ -122,19 +123,20 @@ module _ (bytes : List ℕ) (long : MOST_SOURCE_BYTES < length bytes) where
     long_whole (mode.Gain top) r h = run_whole r h
     long_whole (mode.Greedy processors) r h = run_whole r h
     long_whole (mode.Speedup most) r h = run_whole r h
+    long_whole (mode.Page top most) r h = run_whole r h
 
-module _ {W : Type 0} (seen : W → Seen) (old new : W) (args : List ℤ) (options : Options) where
+module _ {W : Type 0} (seen : W → Seen) (old new : W) (name : List ℕ) (args : List ℤ) (options : Options) where
   -- the result of an analysis of the bytes that were read is the result for the whole source
-  whole : (bytes : List ℕ) (r : Result (Unit {0}) Fault) → IsAnalysed seen old new (take most_read bytes) args options r → IsAnalysed seen old new bytes args options r
+  whole : (bytes : List ℕ) (r : Result (Unit {0}) Fault) → IsAnalysed seen old new name (take most_read bytes) args options r → IsAnalysed seen old new name bytes args options r
   whole bytes r h = by_length (shorter_or_longer (length bytes) MOST_SOURCE_BYTES)
     where
-      by_length : (length bytes ≤ MOST_SOURCE_BYTES) ⊎ (MOST_SOURCE_BYTES < length bytes) → IsAnalysed seen old new bytes args options r
-      by_length (inl short) = subst (λ bs. IsAnalysed seen old new bs args options r) (take_all most_read bytes (omega (arith, short))) h
-      by_length (inr long) = long_whole bytes long seen old new args options options.mode r h
+      by_length : (length bytes ≤ MOST_SOURCE_BYTES) ⊎ (MOST_SOURCE_BYTES < length bytes) → IsAnalysed seen old new name bytes args options r
+      by_length (inl short) = subst (λ bs. IsAnalysed seen old new name bs args options r) (take_all most_read bytes (omega (arith, short))) h
+      by_length (inr long) = long_whole bytes long seen old new name args options options.mode r h
 
   -- the result of an analysis by a crew is the result for the whole source, too
-  whole_by : (bytes : List ℕ) (bodies : ℕ) (r : Result (Unit {0}) Fault) → IsAnalysedBy seen old new (take most_read bytes) args options bodies r
-      → IsAnalysedBy seen old new bytes args options bodies r
+  whole_by : (bytes : List ℕ) (bodies : ℕ) (r : Result (Unit {0}) Fault) → IsAnalysedBy seen old new name (take most_read bytes) args options bodies r
+      → IsAnalysedBy seen old new name bytes args options bodies r
   whole_by bytes bodies r h = record { fits = λ few. whole bytes r (h.fits few); refused = h.refused; untouched = h.untouched }
 
 -- the number of failed reads increased
@@ -158,23 +160,25 @@ of_read None read h P here more = (read, tt, here)
 of_read (Some bytes) read h P here more = (bytes, refl, more bytes h)
 
 module _ {W E : Type 0} (seen : W → Seen) (seen' : E → Seen) (old new : W) (old' new' : E) (asked : Request) (bodies reads_before reads_after : ℕ) where
-  module _ {D : Type 0} (remaining : D → Option (List ℕ)) (source inner : D) (limit : ℕ) (before read slice : List ℕ) (args : List ℤ) where
+  module _ {D : Type 0} (remaining : D → Option (List ℕ)) (source inner : D) (limit : ℕ) (name before read slice : List ℕ) (args : List ℤ) where
     -- the result for the bytes that were read is the answer for the source
-    pub answered : limit ≡ most_read → inner ≡ source → before ≡ [] → slice ≡ read → args ≡ asked.args.items →
+    pub answered : limit ≡ most_read → inner ≡ source → before ≡ [] → slice ≡ read → args ≡ asked.args.items → name ≡ base_name (string_bytes asked.file) →
         IfSome (option_map (take limit) (remaining inner)) (λ xs. read ≡ before ++ xs) →
-        (r : Result (Unit {0}) Fault) (status : ℕ) → status ≡ tools.status_of r → IsAnalysedBy seen old new slice args asked.options bodies r
+        (r : Result (Unit {0}) Fault) (status : ℕ) → status ≡ tools.status_of r → IsAnalysedBy seen old new name slice args asked.options bodies r
         → tools.IsTold seen' old' new' asked.explain (tools.line_of r) →
         tools.OnItsBytes (remaining source) (λ bytes. tools.IsToolAnswer seen old new seen' old' new' asked bodies reads_before reads_after bytes status)
-    answered l i b s a h r status st analysis told =
+    answered l i b s a n h r status st analysis told =
         let h1 = subst (λ d. IfSome (option_map (take limit) (remaining d)) (λ xs. read ≡ before ++ xs)) i h in
-        let h2 = subst (λ n. IfSome (option_map (take n) (remaining source)) (λ xs. read ≡ before ++ xs)) l h1 in
+        let h2 = subst (λ k. IfSome (option_map (take k) (remaining source)) (λ xs. read ≡ before ++ xs)) l h1 in
         let h3 : IfSome (option_map (take most_read) (remaining source)) (λ xs. read ≡ xs) = subst (λ p. IfSome (option_map (take most_read) (remaining source)) (λ xs. read ≡ p ++ xs)) b h2 in
-        let of_slice : IsAnalysedBy seen old new read args asked.options bodies r = subst (λ bs. IsAnalysedBy seen old new bs args asked.options bodies r) s analysis in
-        let of_asked : IsAnalysedBy seen old new read asked.args.items asked.options bodies r = subst (λ vs. IsAnalysedBy seen old new read vs asked.options bodies r) a of_slice in
+        let file = base_name (string_bytes asked.file) in
+        let of_slice : IsAnalysedBy seen old new name read args asked.options bodies r = subst (λ bs. IsAnalysedBy seen old new name bs args asked.options bodies r) s analysis in
+        let of_args : IsAnalysedBy seen old new name read asked.args.items asked.options bodies r = subst (λ vs. IsAnalysedBy seen old new name read vs asked.options bodies r) a of_slice in
+        let of_asked : IsAnalysedBy seen old new file read asked.args.items asked.options bodies r = subst (λ x. IsAnalysedBy seen old new x read asked.args.items asked.options bodies r) n of_args in
         of_read (remaining source) read h3 (λ bytes. tools.IsToolAnswer seen old new seen' old' new' asked bodies reads_before reads_after bytes status)
-        (subst (λ n. tools.IsToolAnswer seen old new seen' old' new' asked bodies reads_before reads_after read n) (sym st) (tools.analysed r of_asked told))
+        (subst (λ k. tools.IsToolAnswer seen old new seen' old' new' asked bodies reads_before reads_after read k) (sym st) (tools.analysed r of_asked told))
         (λ bytes e.
-        let of_bytes : IsAnalysedBy seen old new (take most_read bytes) asked.args.items asked.options bodies r =
-        subst (λ bs. IsAnalysedBy seen old new bs asked.args.items asked.options bodies r) e of_asked in
-        subst (λ n. tools.IsToolAnswer seen old new seen' old' new' asked bodies reads_before reads_after bytes n) (sym st)
-        (tools.analysed r (whole_by seen old new asked.args.items asked.options bytes bodies r of_bytes) told))
+        let of_bytes : IsAnalysedBy seen old new file (take most_read bytes) asked.args.items asked.options bodies r =
+        subst (λ bs. IsAnalysedBy seen old new file bs asked.args.items asked.options bodies r) e of_asked in
+        subst (λ k. tools.IsToolAnswer seen old new seen' old' new' asked bodies reads_before reads_after bytes k) (sym st)
+        (tools.analysed r (whole_by seen old new file asked.args.items asked.options bytes bodies r of_bytes) told))

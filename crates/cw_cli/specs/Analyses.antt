@@ -15,26 +15,30 @@ use Rattle.cw_report.specs.Seen.{Seen}
 use Rattle.cw_report.specs.Sinks.{WritesAll, WritesPart}
 use Rattle.cw_cli.specs.Schedules.{greedy_text, IsScheduledIn, HasTooManyStrands}
 use Rattle.cw_cli.specs.Speedups.{speedup_text}
+use Rattle.cw_cli.specs.Pages.{Input, input_of, page_text}
 use Rattle.cw_compile.specs.Sources.{Compiles, IsRefused}
 use Rattle.cw_words.specs.declared.asked.Mode.{Mode}
 use Rattle.cw_words.specs.declared.asked.Mode.TheVariants as mode
 use Rattle.cw_words.specs.declared.asked.Options.{Options}
 
--- the report of an answer, in each mode
-abbrev pub text_in : Mode → Program → (burden : Burden) → Answer → List ℕ
-text_in mode.Check program burden answer = report_text report.Check program burden answer
-text_in mode.Run program burden answer = report_text report.Run program burden answer
-text_in mode.Scale program burden answer = report_text report.Scale program burden answer
-text_in mode.Sites program burden answer = report_text report.Sites program burden answer
-text_in (mode.Gain top) program burden answer = report_text (report.Gain top) program burden answer
-text_in (mode.Greedy processors) program burden answer = greedy_text processors answer
-text_in (mode.Speedup most) program burden answer = speedup_text most burden answer
+-- the report of an answer, in each mode, of a run of this input
+abbrev pub text_in : Input → Mode → Program → (burden : Burden) → Answer → List ℕ
+text_in input mode.Check program burden answer = report_text report.Check program burden answer
+text_in input mode.Run program burden answer = report_text report.Run program burden answer
+text_in input mode.Scale program burden answer = report_text report.Scale program burden answer
+text_in input mode.Sites program burden answer = report_text report.Sites program burden answer
+text_in input (mode.Gain top) program burden answer = report_text (report.Gain top) program burden answer
+text_in input (mode.Greedy processors) program burden answer = greedy_text processors answer
+text_in input (mode.Speedup most) program burden answer = speedup_text most burden answer
+text_in input (mode.Page top most) program burden answer = page_text input top most program burden answer
 
 -- a schedule is for processors in range, speedups go up to such processors, and functions that are told are so many
 abbrev pub IsModeInRange : Mode → Type 0
 IsModeInRange (mode.Gain top) = (1 ≤ top) × (top ≤ MOST_TOP)
 IsModeInRange (mode.Greedy processors) = (1 ≤ processors) × (processors ≤ MOST_PROCESSORS)
 IsModeInRange (mode.Speedup most) = (1 ≤ most) × (most ≤ MOST_PROCESSORS)
+IsModeInRange (mode.Page top most) =
+    ((1 ≤ top) × (top ≤ MOST_TOP)) × ((1 ≤ most) × (most ≤ MOST_PROCESSORS))
 IsModeInRange _ = Unit {0}
 
 -- the limit and the burden are in range, and the number that a mode has
@@ -60,8 +64,9 @@ answer_to program args options = serial_answer program args options.limit
 
 -- the report of a program; that of a check says nothing of what the program answers, and of a trap only a run
 -- writes what it printed before
-abbrev pub text_of : Program → List ℤ → Options → List ℕ
-text_of program args options = text_in options.mode program options.burden (answer_to program args options)
+abbrev pub text_of : (name bytes : List ℕ) → Program → List ℤ → Options → List ℕ
+text_of name bytes program args options =
+    text_in (input_of name bytes args) options.mode program options.burden (answer_to program args options)
 
 -- what is told of a schedule that is asked for
 abbrev pub IsScheduleOf : Program → List ℤ → Options → Type 0
@@ -82,7 +87,7 @@ module _ {W : Type 0} (seen : W → Seen) (old new : W) where
   abbrev pub TookPart : List ℕ → Type 0
   TookPart text = WritesPart (seen old) (seen new) text
 
-  module _ (bytes : List ℕ) (args : List ℤ) (options : Options) where
+  module _ (name bytes : List ℕ) (args : List ℤ) (options : Options) where
     -- the bytes are refused for this reason
     pub record IsRefusedFor (f : Fault) : Type 0 where
       pub refused : IsRefused bytes f
@@ -92,13 +97,13 @@ module _ {W : Type 0} (seen : W → Seen) (old new : W) where
     pub record IsChecked : Type 0 where
       pub program : Program
       pub compiles : Compiles bytes program
-      pub took : Took (text_of program args options)
+      pub took : Took (text_of name bytes program args options)
 
     -- the bytes compile, and a write of the report failed
     pub record IsCheckCutShort : Type 0 where
       pub program : Program
       pub compiles : Compiles bytes program
-      pub took : TookPart (text_of program args options)
+      pub took : TookPart (text_of name bytes program args options)
 
     -- what must hold where a check answers this fault: nothing is run, so no fault of a run comes
     abbrev pub IsUnchecked : Fault → Type 0
@@ -115,7 +120,7 @@ module _ {W : Type 0} (seen : W → Seen) (old new : W) where
       pub run : IsRunOf bytes args options program
       pub ended : HasEnded (answer_to program args options)
       pub scheduled : IsScheduleOf program args options
-      pub took : Took (text_of program args options)
+      pub took : Took (text_of name bytes program args options)
 
     -- its serial elision costs more than the limit
     pub record IsOverLimit : Type 0 where
@@ -129,7 +134,7 @@ module _ {W : Type 0} (seen : W → Seen) (old new : W) where
       pub program : Program
       pub run : IsRunOf bytes args options program
       pub trapped : answer_to program args options ≡ TrappedAt trap line printed
-      pub took : Took (text_of program args options)
+      pub took : Took (text_of name bytes program args options)
 
     -- it did not pass its limit, and a write of its report failed
     pub record IsCutShort : Type 0 where
@@ -137,7 +142,7 @@ module _ {W : Type 0} (seen : W → Seen) (old new : W) where
       pub run : IsRunOf bytes args options program
       pub within : answer_to program args options ≢ OverLimit
       pub scheduled : IsScheduleOf program args options
-      pub took : TookPart (text_of program args options)
+      pub took : TookPart (text_of name bytes program args options)
 
     -- a schedule is asked for, and the run ended with too many strands, so many
     pub record HasNoSchedule (told : ℕ) : Type 0 where

@@ -49,6 +49,7 @@ pub record AreBounded (t : Tree) : Type 0 where
 abbrev pub IsScheduledIn : Mode → Answer → Type 0
 IsScheduledIn (mode.Greedy processors) (Ended v lines totals t) = IsScheduled processors t
 IsScheduledIn (mode.Speedup most) (Ended v lines totals t) = AreBounded t
+IsScheduledIn (mode.Page top most) (Ended v lines totals t) = AreBounded t
 IsScheduledIn _ _ = Unit {0}
 
 -- a schedule is asked for, and the run ended with more strands than are kept, of which this count is told

@@ -14,13 +14,14 @@ HasTables mode.Scale = Unit {0}
 HasTables mode.Sites = Unit {0}
 HasTables _ = ⊥
 
--- the tables of a run; a check has none, nor a run of values alone, gains, a schedule or speedups
+-- the tables of a run; a check has none, nor a run of values alone, gains, a schedule, speedups or a page
 abbrev pub told_of : Mode → Code → Result Ended Fault → List ℕ
 told_of mode.Check code ended = []
 told_of mode.Run code ended = []
 told_of (mode.Gain top) code ended = []
 told_of (mode.Greedy processors) code ended = []
 told_of (mode.Speedup most) code ended = []
+told_of (mode.Page top most) code ended = []
 told_of mode.Scale code ended = scale_report ended
 told_of mode.Sites code ended = sites_of code ended
 

@@ -1,6 +1,6 @@
 //! From bytes to a report.
 
-ghost use Rattle.std.specs.Prelude.{◌≡◌, ◌<◌, ◌≤◌, ◌-◌, ◌^◌, ℕ, List, MatchResult, length};
+ghost use Rattle.std.specs.Prelude.{◌≡◌, ◌<◌, ◌≤◌, ◌-◌, ◌^◌, ℕ, List, [], MatchResult, length};
 ghost use Rattle.cw_code.specs.Code.{code_view};
 ghost use Rattle.cw_pool.specs.declared.run.TheConstants.{MOST_BODIES};
 ghost use Rattle.cw_words.specs.declared.asked.Mode.TheVariants as mode;
@@ -12,6 +12,7 @@ ghost use Rattle.cw_gains.specs.Gains.{HasNumberedSites};
 ghost use Rattle.cw_schedule.specs.Schedules.{SchedulesAsCode};
 ghost use Rattle.cw_speedup.specs.Speedups.{SpeedsUpAsCode};
 
+use crate::paging::{run_page, run_page_with};
 use crate::reporting::{are_words, write_gains, write_tables, write_values};
 use cw_compile::{Compiled, compile_with_heads};
 use cw_gains::gains::{gains_of_run, gains_of_run_with};
@@ -56,7 +57,26 @@ pub fn analyse_alone<W: Sink>(
     out: &mut W,
 ) -> Result<(), Fault>
     requires { (W.seen out.old).failures < 2 ^ 64 - 1 }
-    ensures { IsAnalysed W.seen out.old out.new bytes.now args.now options result }
+    ensures { IsAnalysed W.seen out.old out.new [] bytes.now args.now options result }
+{
+    analyse_named_alone(alloc, b"", bytes, args, options, out)
+}
+
+/// Analyses the program as `analyse_alone` does. `name` is the name of the source, which the title of a page shows.
+///
+/// # Errors
+///
+/// Those of `analyse_alone`.
+pub fn analyse_named_alone<W: Sink>(
+    alloc: Global,
+    name: &[u8],
+    bytes: &[u8],
+    args: &[i64],
+    options: Options,
+    out: &mut W,
+) -> Result<(), Fault>
+    requires { (W.seen out.old).failures < 2 ^ 64 - 1 }
+    ensures { IsAnalysed W.seen out.old out.new name.now bytes.now args.now options result }
 {
     derived_sites_are_numbered();
     let made = compile_with_heads(alloc, bytes)?;
@@ -67,7 +87,11 @@ pub fn analyse_alone<W: Sink>(
         Mode::Gain(top) => run_gain(alloc, made, args, top, options, out),
         Mode::Greedy(processors) => run_greedy(alloc, made.code, args, processors, options, out),
         Mode::Speedup(most) => run_speedup(alloc, made.code, args, most, options, out),
-        Mode::Page { .. } => Err(Fault::Arguments),
+        Mode::Page { top, processors } => {
+            run_page(
+                alloc, name, bytes, made, args, top, processors, options, out,
+            )
+        }
     }
 }
 
@@ -79,7 +103,8 @@ pub fn analyse_alone<W: Sink>(
 /// code that spawns nothing are made by the caller's thread alone. In mode `Gain` the crew does the first run, and behind it
 /// as many threads as there are workers the further ones, side by side; in mode `Greedy` the crew does the run, and the
 /// caller's thread the schedule; in mode `Speedup` the crew does the run, and the caller's thread a second run, which
-/// measures, and the schedules.
+/// measures, and the schedules; in mode `Page` the crew does the run, as many threads as there are workers the further
+/// ones of the gain table, and the caller's thread what mode `Speedup` does.
 ///
 /// Before all that, a crew of more than 63 bodies is `Arguments` in each mode, with nothing written.
 ///
@@ -100,14 +125,42 @@ pub fn analyse<
     out: &mut W,
 ) -> Result<(), Fault>
     requires { (W.seen out.old).failures < 2 ^ 64 - 1 }
-    ensures { IsAnalysedBy W.seen out.old out.new bytes.now args.now options
+    ensures { IsAnalysedBy W.seen out.old out.new [] bytes.now args.now options
+        (length crew.items) result }
+{
+    analyse_named(rt, alloc, b"", bytes, args, options, crew, gate, out)
+}
+
+/// Analyses the program as `analyse` does. `name` is the name of the source, which the title of a page shows.
+///
+/// # Errors
+///
+/// Those of `analyse`.
+pub fn analyse_named<
+    W: Sink,
+    G: Gate + Drop + Send + Sync + 'static,
+    B: Body<G> + Send + Drop + 'static,
+    R: Threads + Wait,
+>(
+    rt: &R,
+    alloc: Global,
+    name: &[u8],
+    bytes: &[u8],
+    args: &[i64],
+    options: Options,
+    crew: Vec<B>,
+    gate: Arc<G>,
+    out: &mut W,
+) -> Result<(), Fault>
+    requires { (W.seen out.old).failures < 2 ^ 64 - 1 }
+    ensures { IsAnalysedBy W.seen out.old out.new name.now bytes.now args.now options
         (length crew.items) result }
 {
     if crew.len() > MOST_BODIES {
         return Err(Fault::Arguments);
     }
     if crew.is_empty() {
-        return analyse_alone(alloc, bytes, args, options, out);
+        return analyse_named_alone(alloc, name, bytes, args, options, out);
     }
     derived_sites_are_numbered();
     let made = compile_with_heads(alloc, bytes)?;
@@ -124,7 +177,11 @@ pub fn analyse<
         Mode::Speedup(most) => {
             run_speedup_with(rt, alloc, made.code, args, most, options, crew, gate, out)
         }
-        Mode::Page { .. } => Err(Fault::Arguments),
+        Mode::Page { top, processors } => {
+            run_page_with(
+                rt, alloc, name, bytes, made, args, top, processors, options, crew, gate, out,
+            )
+        }
     }
 }
 
@@ -137,8 +194,8 @@ fn run_plain<W: Sink>(
     out: &mut W,
 ) -> Result<(), Fault>
     requires { (W.seen out.old).failures < 2 ^ 64 - 1 }
-    ensures { (bytes : List ℕ) → options.mode ≡ mode.Run → IsCompiled bytes (code_view code.code)
-        → IsRun W.seen out.old out.new bytes args.now options result }
+    ensures { (name bytes : List ℕ) → options.mode ≡ mode.Run → IsCompiled bytes (code_view code.code)
+        → IsRun W.seen out.old out.new name bytes args.now options result }
 {
     let code = Arc::new(alloc, code)?;
     let share = Arc::try_clone(&code)?;
@@ -155,8 +212,8 @@ fn run<W: Sink>(
     out: &mut W,
 ) -> Result<(), Fault>
     requires { (W.seen out.old).failures < 2 ^ 64 - 1 }
-    ensures { (bytes : List ℕ) → HasTables options.mode → IsCompiled bytes (code_view code.code)
-        → IsRun W.seen out.old out.new bytes args.now options result }
+    ensures { (name bytes : List ℕ) → HasTables options.mode → IsCompiled bytes (code_view code.code)
+        → IsRun W.seen out.old out.new name bytes args.now options result }
 {
     let code = Arc::new(alloc, code)?;
     let share = Arc::try_clone(&code)?;
@@ -182,8 +239,8 @@ fn run_plain_with<
 ) -> Result<(), Fault>
     requires out { (W.seen out.old).failures < 2 ^ 64 - 1 }
     requires few { length crew.items ≤ MOST_BODIES }
-    ensures { (bytes : List ℕ) → options.mode ≡ mode.Run → IsCompiled bytes (code_view code.code)
-        → IsRun W.seen out.old out.new bytes args.now options result }
+    ensures { (name bytes : List ℕ) → options.mode ≡ mode.Run → IsCompiled bytes (code_view code.code)
+        → IsRun W.seen out.old out.new name bytes args.now options result }
 {
     let code = Arc::new(alloc, code)?;
     let share = Arc::try_clone(&code)?;
@@ -218,8 +275,8 @@ fn run_with<
 ) -> Result<(), Fault>
     requires out { (W.seen out.old).failures < 2 ^ 64 - 1 }
     requires few { length crew.items ≤ MOST_BODIES }
-    ensures { (bytes : List ℕ) → HasTables options.mode → IsCompiled bytes (code_view code.code)
-        → IsRun W.seen out.old out.new bytes args.now options result }
+    ensures { (name bytes : List ℕ) → HasTables options.mode → IsCompiled bytes (code_view code.code)
+        → IsRun W.seen out.old out.new name bytes args.now options result }
 {
     let code = Arc::new(alloc, code)?;
     let share = Arc::try_clone(&code)?;
@@ -247,8 +304,8 @@ fn run_gain<W: Sink>(
 ) -> Result<(), Fault>
     requires out { (W.seen out.old).failures < 2 ^ 64 - 1 }
     requires numbered { HasNumberedSites (code_view made.code.code) }
-    ensures { (bytes : List ℕ) → options.mode ≡ mode.Gain top → IsMade bytes made
-        → IsRun W.seen out.old out.new bytes args.now options result }
+    ensures { (name bytes : List ℕ) → options.mode ≡ mode.Gain top → IsMade bytes made
+        → IsRun W.seen out.old out.new name bytes args.now options result }
 {
     let most = top_of(top)?;
     let code = Arc::new(alloc, made.code)?;
@@ -281,8 +338,8 @@ fn run_gain_with<
     requires out { (W.seen out.old).failures < 2 ^ 64 - 1 }
     requires few { length crew.items ≤ MOST_BODIES }
     requires numbered { HasNumberedSites (code_view made.code.code) }
-    ensures { (bytes : List ℕ) → options.mode ≡ mode.Gain top → IsMade bytes made
-        → IsRun W.seen out.old out.new bytes args.now options result }
+    ensures { (name bytes : List ℕ) → options.mode ≡ mode.Gain top → IsMade bytes made
+        → IsRun W.seen out.old out.new name bytes args.now options result }
 {
     let most = top_of(top)?;
     let code = Arc::new(alloc, made.code)?;
@@ -298,7 +355,7 @@ fn run_gain_with<
 }
 
 // How many functions are told at most, where that is in range.
-fn top_of(top: u64) -> Result<usize, Fault>
+pub(crate) fn top_of(top: u64) -> Result<usize, Fault>
     ensures { MatchResult result (λ most. (most ≡ top) × IsModeInRange (mode.Gain top))
         (λ e. (e ≡ Fault.Arguments) × ¬ (IsModeInRange (mode.Gain top))) }
 {
@@ -319,9 +376,9 @@ fn run_greedy<W: Sink>(
     out: &mut W,
 ) -> Result<(), Fault>
     requires { (W.seen out.old).failures < 2 ^ 64 - 1 }
-    ensures { (bytes : List ℕ) → options.mode ≡ mode.Greedy processors
+    ensures { (name bytes : List ℕ) → options.mode ≡ mode.Greedy processors
         → IsCompiled bytes (code_view code.code)
-        → IsRun W.seen out.old out.new bytes args.now options result }
+        → IsRun W.seen out.old out.new name bytes args.now options result }
 {
     are_words(args);
     if options.burden.charge > MOST_BURDEN {
@@ -380,9 +437,9 @@ fn run_greedy_with<
 ) -> Result<(), Fault>
     requires out { (W.seen out.old).failures < 2 ^ 64 - 1 }
     requires few { length crew.items ≤ MOST_BODIES }
-    ensures { (bytes : List ℕ) → options.mode ≡ mode.Greedy processors
+    ensures { (name bytes : List ℕ) → options.mode ≡ mode.Greedy processors
         → IsCompiled bytes (code_view code.code)
-        → IsRun W.seen out.old out.new bytes args.now options result }
+        → IsRun W.seen out.old out.new name bytes args.now options result }
 {
     are_words(args);
     if options.burden.charge > MOST_BURDEN {
@@ -405,9 +462,9 @@ fn run_speedup<W: Sink>(
     out: &mut W,
 ) -> Result<(), Fault>
     requires { (W.seen out.old).failures < 2 ^ 64 - 1 }
-    ensures { (bytes : List ℕ) → options.mode ≡ mode.Speedup most
+    ensures { (name bytes : List ℕ) → options.mode ≡ mode.Speedup most
         → IsCompiled bytes (code_view code.code)
-        → IsRun W.seen out.old out.new bytes args.now options result }
+        → IsRun W.seen out.old out.new name bytes args.now options result }
 {
     are_words(args);
     let code = Arc::new(alloc, code)?;
@@ -464,9 +521,9 @@ fn run_speedup_with<
 ) -> Result<(), Fault>
     requires out { (W.seen out.old).failures < 2 ^ 64 - 1 }
     requires few { length crew.items ≤ MOST_BODIES }
-    ensures { (bytes : List ℕ) → options.mode ≡ mode.Speedup most
+    ensures { (name bytes : List ℕ) → options.mode ≡ mode.Speedup most
         → IsCompiled bytes (code_view code.code)
-        → IsRun W.seen out.old out.new bytes args.now options result }
+        → IsRun W.seen out.old out.new name bytes args.now options result }
 {
     are_words(args);
     let code = Arc::new(alloc, code)?;

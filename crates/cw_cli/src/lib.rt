@@ -4,10 +4,11 @@
 mod analysis;
 mod crews;
 mod misuse;
+mod paging;
 mod reporting;
 mod telling;
 
-pub use analysis::{analyse, analyse_alone};
+pub use analysis::{analyse, analyse_alone, analyse_named, analyse_named_alone};
 pub use crews::crew_of;
 pub use cw_compile::compile;
 pub use telling::{refuse, say, say_why, tool, unread};

@@ -36,10 +36,10 @@ pub(crate) fn write_values<W: Sink>(
     out: &mut W,
 ) -> Result<(), Fault>
     requires { (W.seen out.old).failures < 2 ^ 64 - 1 }
-    ensures { (bytes : List ℕ) → options.mode ≡ mode.Run
+    ensures { (name bytes : List ℕ) → options.mode ≡ mode.Run
         → IsCompiled bytes (code_view code.now.code)
         → GivesAsCode (code_view code.now.code) args.now options.limit options.burden values
-        → IsRun W.seen out.old out.new bytes args.now options result }
+        → IsRun W.seen out.old out.new name bytes args.now options result }
 {
     are_words(args);
     answer(alloc, code, &values, out)?;
@@ -57,9 +57,9 @@ pub(crate) fn write_tables<W: Sink>(
     out: &mut W,
 ) -> Result<(), Fault>
     requires { (W.seen out.old).failures < 2 ^ 64 - 1 }
-    ensures { (bytes : List ℕ) → HasTables options.mode → IsCompiled bytes (code_view code.now.code)
+    ensures { (name bytes : List ℕ) → HasTables options.mode → IsCompiled bytes (code_view code.now.code)
         → RunsAsCode (code_view code.now.code) args.now options.limit options.burden ended
-        → IsRun W.seen out.old out.new bytes args.now options result }
+        → IsRun W.seen out.old out.new name bytes args.now options result }
 {
     derived_sites_are_numbered();
     are_words(args);
@@ -77,10 +77,10 @@ pub(crate) fn write_gains<W: Sink>(
     out: &mut W,
 ) -> Result<(), Fault>
     requires { (W.seen out.old).failures < 2 ^ 64 - 1 }
-    ensures { (bytes : List ℕ) (code : Verified) (heads : List Head) (top : ℕ)
+    ensures { (name bytes : List ℕ) (code : Verified) (heads : List Head) (top : ℕ)
         → options.mode ≡ mode.Gain top → IsModeInRange options.mode → AreMade bytes code heads
         → GainsAsCode (code_view code.code) heads args.now options.limit options.burden top gains
-        → IsRun W.seen out.old out.new bytes args.now options result }
+        → IsRun W.seen out.old out.new name bytes args.now options result }
 {
     are_words(args);
     gain(alloc, &gains, out)?;

@@ -15,8 +15,9 @@ ghost use Rattle.cw_cli.specs.Tools.{
   fault_line,
 };
 
-use crate::analysis::analyse;
+use crate::analysis::analyse_named;
 use crate::misuse::misused;
+use crate::paging::base_name;
 use cw_compile::compile;
 use cw_explain::{Named, Refused, explain, explain_unread};
 use cw_model::limits::{MOST_SOURCE_BYTES, MOST_STRANDS};
@@ -82,9 +83,10 @@ pub fn tool<
         return refuse(&Fault::Memory, err);
     }
     let args = asked.args.as_slice();
-    match analyse(
+    match analyse_named(
         rt,
         alloc,
+        base_name(asked.file.as_bytes()),
         bytes.as_slice(),
         args,
         asked.options,

@@ -105,8 +105,12 @@ pub fn gains_of_run_with<R: Threads>(
     }
 }
 
-// The gain table of a run that ended.
-fn gains_of_ended(
+/// Computes the gain table as `gains_of_run` does, of a run that ended, and leaves the run.
+///
+/// # Errors
+///
+/// `Memory` if memory runs out.
+pub fn gains_of_ended(
     alloc: Global,
     code: &Arc<Verified>,
     heads: &[Head],
@@ -134,8 +138,12 @@ fn gains_of_ended(
     })
 }
 
-// The gain table of a run that ended, computed by `threads` threads.
-fn gains_of_ended_with<R: Threads>(
+/// Computes the gain table as `gains_of_run_with` does, of a run that ended, and leaves the run.
+///
+/// # Errors
+///
+/// `Memory` if memory runs out.
+pub fn gains_of_ended_with<R: Threads>(
     rt: &R,
     alloc: Global,
     code: &Arc<Verified>,

@@ -4,4 +4,7 @@ pub mod Sinks
 pub mod Tables
 pub mod Texts
 pub mod Speedups
+pub mod Escaping
+pub mod Frame
+pub mod Pages
 pub mod Answers

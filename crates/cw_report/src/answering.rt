@@ -5,9 +5,12 @@ ghost use Rattle.cw_model.specs.Report.{check_text};
 ghost use Rattle.cw_report.specs.Sinks.{Writes};
 ghost use Rattle.cw_report.specs.Texts.{Makes, gain_report, run_report, scale_report, schedule_report, sites_report};
 ghost use Rattle.cw_report.specs.Answers.{AnswersText};
+ghost use Rattle.cw_report.specs.Pages.{page_report};
 ghost use Rattle.cw_report.specs.Speedups.{speedup_report};
 
+use crate::drawing::Drawn;
 use crate::gain_table::gain_text;
+use crate::page_text::page_text;
 use crate::sink::Sink;
 use crate::speedup_table::speedup_text;
 use crate::tables::{scale_text, schedule_text, sites_text};
@@ -16,6 +19,7 @@ use crate::writing::write_text;
 use cw_gains::gains::Gains;
 use cw_machine::alone::Ended;
 use cw_machine::values::Values;
+use cw_model::burden::Burden;
 use cw_runnable::verified::Verified;
 use cw_schedule::schedules::Schedule;
 use cw_speedup::speedups::Speedup;
@@ -166,6 +170,43 @@ pub fn speedup<W: Sink>(
 {
     match speedup {
         Ok(speedup) => tell(speedup_text(alloc, speedup), to),
+        Err(_) => Ok(()),
+    }
+}
+
+/// Writes the page of a run of this source, which has this name without folders, on these arguments, by a program of this
+/// version. If the run did not end, it writes nothing and does not use the sink.
+///
+/// Fewer than 2^64 - 1 writes to the sink failed before.
+///
+/// # Errors
+///
+/// `Memory` if memory runs out for the text: nothing was written then. `Write` if a write failed or took no byte: the sink
+/// took a beginning of the text, and counts one more failed write.
+pub fn page<W: Sink>(
+    alloc: Global,
+    name: &[u8],
+    version: &[u8],
+    args: &[i64],
+    burden: Burden,
+    source: &[u8],
+    code: &Verified,
+    drawn: &Result<Drawn, Fault>,
+    to: &mut W,
+) -> Result<(), Fault>
+    requires { (W.seen to.old).failures < 2 ^ 64 - 1 }
+    ensures idle { page_report name.now version.now args.now burden source.now code.now drawn.now ≡ []
+        → to.new ≡ to.old }
+    ensures answers { AnswersText W.seen to.old to.new
+        (page_report name.now version.now args.now burden source.now code.now drawn.now) result }
+{
+    match drawn {
+        Ok(drawn) => tell(
+            page_text(
+                alloc, name, version, args, burden, source, &code.code, drawn,
+            ),
+            to,
+        ),
         Err(_) => Ok(()),
     }
 }

@@ -4,12 +4,15 @@
 
 mod answering;
 mod counted;
+mod drawing;
+mod escaping;
 mod fields;
 mod gain_table;
 mod input;
 mod page_frame;
 mod page_script;
 mod page_style;
+mod page_text;
 mod sink;
 mod speedup_table;
 mod table;
@@ -17,8 +20,9 @@ mod tables;
 mod text;
 mod writing;
 
-pub use answering::{answer, gain, ok, scale, schedule, sites, speedup};
+pub use answering::{answer, gain, ok, page, scale, schedule, sites, speedup};
 pub use counted::Counted;
+pub use drawing::Drawn;
 pub use input::Input;
 pub use sink::Sink;
 pub use writing::{write_fault, write_text};

@@ -1,6 +1,20 @@
 //! The pieces of a page between its holes (`bench/page/template.html`), written by `bench/page/constants.py`.
 
 ghost use Rattle.std.specs.Prelude.{◌≡◌};
+ghost use Rattle.cw_report.specs.Frame.{
+  before_about,
+  before_gain,
+  before_heading,
+  before_output,
+  before_scale,
+  before_script,
+  before_sites,
+  before_source,
+  before_speedup,
+  before_style,
+  before_title,
+  end,
+};
 
 const BEFORE_TITLE: &[u8] = br##"<!DOCTYPE html>
 <html lang="en" data-cilkwork-page="1">
@@ -13,8 +27,9 @@ const BEFORE_TITLE: &[u8] = br##"<!DOCTYPE html>
 <title>"##;
 
 /// Returns the piece before the hole TITLE.
+#[tactic(auto, unfolding(crate::specs::Frame::before_title))]
 pub fn before_title() -> &'static [u8]
-    ensures { result.now ≡ BEFORE_TITLE.now }
+    ensures { result.now ≡ before_title }
 {
     BEFORE_TITLE
 }
@@ -24,8 +39,9 @@ const BEFORE_STYLE: &[u8] = br##" - cilkwork</title>
 "##;
 
 /// Returns the piece before the hole STYLE.
+#[tactic(auto, unfolding(crate::specs::Frame::before_style))]
 pub fn before_style() -> &'static [u8]
-    ensures { result.now ≡ BEFORE_STYLE.now }
+    ensures { result.now ≡ before_style }
 {
     BEFORE_STYLE
 }
@@ -35,8 +51,9 @@ const BEFORE_SCRIPT: &[u8] = br##"</style>
 "##;
 
 /// Returns the piece before the hole SCRIPT.
+#[tactic(auto, unfolding(crate::specs::Frame::before_script))]
 pub fn before_script() -> &'static [u8]
-    ensures { result.now ≡ BEFORE_SCRIPT.now }
+    ensures { result.now ≡ before_script }
 {
     BEFORE_SCRIPT
 }
@@ -49,8 +66,9 @@ const BEFORE_HEADING: &[u8] = br##"</script>
 <h1>"##;
 
 /// Returns the piece before the hole HEADING.
+#[tactic(auto, unfolding(crate::specs::Frame::before_heading))]
 pub fn before_heading() -> &'static [u8]
-    ensures { result.now ≡ BEFORE_HEADING.now }
+    ensures { result.now ≡ before_heading }
 {
     BEFORE_HEADING
 }
@@ -66,8 +84,9 @@ const BEFORE_ABOUT: &[u8] = br##"</h1>
 "##;
 
 /// Returns the piece before the hole ABOUT.
+#[tactic(auto, unfolding(crate::specs::Frame::before_about))]
 pub fn before_about() -> &'static [u8]
-    ensures { result.now ≡ BEFORE_ABOUT.now }
+    ensures { result.now ≡ before_about }
 {
     BEFORE_ABOUT
 }
@@ -78,8 +97,9 @@ const BEFORE_SCALE: &[u8] = br##"</pre></details>
 "##;
 
 /// Returns the piece before the hole SCALE.
+#[tactic(auto, unfolding(crate::specs::Frame::before_scale))]
 pub fn before_scale() -> &'static [u8]
-    ensures { result.now ≡ BEFORE_SCALE.now }
+    ensures { result.now ≡ before_scale }
 {
     BEFORE_SCALE
 }
@@ -90,8 +110,9 @@ const BEFORE_SPEEDUP: &[u8] = br##"</pre></details>
 "##;
 
 /// Returns the piece before the hole SPEEDUP.
+#[tactic(auto, unfolding(crate::specs::Frame::before_speedup))]
 pub fn before_speedup() -> &'static [u8]
-    ensures { result.now ≡ BEFORE_SPEEDUP.now }
+    ensures { result.now ≡ before_speedup }
 {
     BEFORE_SPEEDUP
 }
@@ -102,8 +123,9 @@ const BEFORE_GAIN: &[u8] = br##"</pre></details>
 "##;
 
 /// Returns the piece before the hole GAIN.
+#[tactic(auto, unfolding(crate::specs::Frame::before_gain))]
 pub fn before_gain() -> &'static [u8]
-    ensures { result.now ≡ BEFORE_GAIN.now }
+    ensures { result.now ≡ before_gain }
 {
     BEFORE_GAIN
 }
@@ -114,8 +136,9 @@ const BEFORE_SITES: &[u8] = br##"</pre></details>
 "##;
 
 /// Returns the piece before the hole SITES.
+#[tactic(auto, unfolding(crate::specs::Frame::before_sites))]
 pub fn before_sites() -> &'static [u8]
-    ensures { result.now ≡ BEFORE_SITES.now }
+    ensures { result.now ≡ before_sites }
 {
     BEFORE_SITES
 }
@@ -126,8 +149,9 @@ const BEFORE_OUTPUT: &[u8] = br##"</pre></details>
 "##;
 
 /// Returns the piece before the hole OUTPUT.
+#[tactic(auto, unfolding(crate::specs::Frame::before_output))]
 pub fn before_output() -> &'static [u8]
-    ensures { result.now ≡ BEFORE_OUTPUT.now }
+    ensures { result.now ≡ before_output }
 {
     BEFORE_OUTPUT
 }
@@ -138,8 +162,9 @@ const BEFORE_SOURCE: &[u8] = br##"</pre></details>
 "##;
 
 /// Returns the piece before the hole SOURCE.
+#[tactic(auto, unfolding(crate::specs::Frame::before_source))]
 pub fn before_source() -> &'static [u8]
-    ensures { result.now ≡ BEFORE_SOURCE.now }
+    ensures { result.now ≡ before_source }
 {
     BEFORE_SOURCE
 }
@@ -151,8 +176,9 @@ const END: &[u8] = br##"</pre></details>
 "##;
 
 /// Returns the piece after the last hole.
+#[tactic(auto, unfolding(crate::specs::Frame::end))]
 pub fn end() -> &'static [u8]
-    ensures { result.now ≡ END.now }
+    ensures { result.now ≡ end }
 {
     END
 }

@@ -1,6 +1,7 @@
 //! The script of a page (`bench/page/page.js`), written by `bench/page/constants.py`.
 
 ghost use Rattle.std.specs.Prelude.{◌≡◌};
+ghost use Rattle.cw_report.specs.Frame.{script};
 
 const SCRIPT: &[u8] = br##"// Draws a cilkwork page from the reports that it holds as text.
 //
@@ -731,8 +732,9 @@ addEventListener("DOMContentLoaded", () => {
 "##;
 
 /// Returns the script.
+#[tactic(auto, unfolding(crate::specs::Frame::script))]
 pub fn script() -> &'static [u8]
-    ensures { result.now ≡ SCRIPT.now }
+    ensures { result.now ≡ script }
 {
     SCRIPT
 }

@@ -1,6 +1,7 @@
 //! The style of a page (`bench/page/page.css`), written by `bench/page/constants.py`.
 
 ghost use Rattle.std.specs.Prelude.{◌≡◌};
+ghost use Rattle.cw_report.specs.Frame.{style};
 
 const STYLE: &[u8] =
     br##"/* The look of a cilkwork page. Blue is work, orange is span, everywhere. */
@@ -229,8 +230,9 @@ summary { cursor: pointer; padding: .15rem 0; }
 "##;
 
 /// Returns the style.
+#[tactic(auto, unfolding(crate::specs::Frame::style))]
 pub fn style() -> &'static [u8]
-    ensures { result.now ≡ STYLE.now }
+    ensures { result.now ≡ style }
 {
     STYLE
 }

@@ -4,9 +4,11 @@ ghost use Rattle.std.specs.Prelude.{◌≡◌, IfErr, flat_map};
 ghost use Rattle.cw_model.specs.Report.{reduction_word, total_line, value_line};
 ghost use Rattle.cw_code.specs.Code.{code_view};
 ghost use Rattle.cw_report.specs.Texts.{Grows, Makes};
+ghost use Rattle.cw_report.specs.Pages.{output_of};
 ghost use Rattle.cw_report.specs.Texts as texts;
 
 use cw_code::code::{Code, Reducer};
+use cw_machine::alone::Ended;
 use cw_machine::values::Values;
 use cw_model::syntax::Reduction;
 use cw_model::total::Total;
@@ -40,14 +42,48 @@ pub fn ended_text(alloc: Global, code: &Code, values: &Values) -> Result<Vec<u8>
     ensures ok { Makes (texts.run_text (code_view code.now) values.now) result }
     ensures why { IfErr result (λ e. e ≡ Fault.Memory) }
 {
-    let mut text = printed_text(alloc, values.lines.as_slice())?;
-    push_totals(
-        &mut text,
-        code.reducers.as_slice(),
+    all_values(
+        alloc,
+        code,
+        values.lines.as_slice(),
         values.totals.as_slice(),
-    )?;
+        values.value,
+    )
+}
+
+/// Returns the report of a run of code that ended and was measured, as `ended_text` does.
+///
+/// # Errors
+///
+/// `Fault::Memory` if there is no memory for the text.
+pub fn output_text(alloc: Global, code: &Code, ended: &Ended) -> Result<Vec<u8>, Fault>
+    ensures ok { Makes (output_of (code_view code.now) ended.now) result }
+    ensures why { IfErr result (λ e. e ≡ Fault.Memory) }
+{
+    all_values(
+        alloc,
+        code,
+        ended.lines.as_slice(),
+        ended.totals.as_slice(),
+        ended.value,
+    )
+}
+
+// Returns the report of a run of code that printed these values, has these totals and returned this value.
+fn all_values(
+    alloc: Global,
+    code: &Code,
+    lines: &[i64],
+    totals: &[Total],
+    value: i64,
+) -> Result<Vec<u8>, Fault>
+    ensures ok { Makes (texts.ended_text (code_view code.now) lines.now totals.now value) result }
+    ensures why { IfErr result (λ e. e ≡ Fault.Memory) }
+{
+    let mut text = printed_text(alloc, lines)?;
+    push_totals(&mut text, code.reducers.as_slice(), totals)?;
     text.extend_from_slice(b"return ")?;
-    push_value(&mut text, values.value)?;
+    push_value(&mut text, value)?;
     Ok(text)
 }
 

@@ -131,6 +131,10 @@ const MODES: &[Mode] = &[
     Mode::Gain(1),
     Mode::Greedy(1),
     Mode::Speedup(1),
+    Mode::Page {
+        top: 1,
+        processors: 1,
+    },
 ];
 
 // Returns a crew with one body more than a run may have.

@@ -42,7 +42,13 @@ const DIVIDES: &str = "int main(int n) { print(n); int x = 100 / n; return x; }"
 // Prints forever.
 const FOREVER: &str = "int main(int n) { while (1) { print(n); } return n; }";
 
-static ROWS: [Row; 9] = [
+// A page of a run.
+const PAGE: Mode = Mode::Page {
+    top: 1,
+    processors: 2,
+};
+
+static ROWS: [Row; 12] = [
     Row {
         source: FOREVER,
         arg: 1,
@@ -112,6 +118,30 @@ static ROWS: [Row; 9] = [
         arg: 1,
         limit: 100,
         mode: Mode::Greedy(2),
+        fault: 10,
+        failures: 1,
+    },
+    Row {
+        source: FOREVER,
+        arg: 1,
+        limit: 100,
+        mode: PAGE,
+        fault: 7,
+        failures: 0,
+    },
+    Row {
+        source: DIVIDES,
+        arg: 0,
+        limit: 100,
+        mode: PAGE,
+        fault: 8,
+        failures: 0,
+    },
+    Row {
+        source: DIVIDES,
+        arg: 1,
+        limit: 100,
+        mode: PAGE,
         fault: 10,
         failures: 1,
     },
@@ -136,7 +166,7 @@ fn fails_so(alloc: Global, row: &Row) -> bool {
 }
 
 // A run that exceeds its limit writes nothing, and neither does one that traps in a mode that prints no values. The
-// output of a run before its trap is written, and so is a schedule.
+// output of a run before its trap is written, and so are a schedule and a page.
 #[test]
 fn a_shut_sink_is_told_only_where_something_is_written(rt: HostRuntime) -> Result<(), Fail> {
     for row in &ROWS {

@@ -8,4 +8,5 @@ mod Told
 mod Scheduling
 mod Gaining
 mod Speeding
+mod Paging
 mod Moved

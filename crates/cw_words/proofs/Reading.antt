@@ -1,6 +1,6 @@
 -- The traversal of words that do not begin with a hyphen.
 use Rattle.std.proofs.Common.{◌≡◌, ◌∙◌, ◌<◌, ◌^◌, ◌==◌, ◌++◌, ap, ap₂, sym, refl, subst, arith, ℕ, cond, slice_get, nat_eq, suc, Bool}
-use Rattle.std.proofs.Common.{false, List, [], ◌∷◌, drop, length, Option, Some, None, codes, unwrap_or, is_some}
+use Rattle.std.proofs.Common.{true, false, List, [], ◌∷◌, drop, length, Option, Some, None, codes, unwrap_or, is_some}
 use Rattle.std.specs.List.{All, fold}
 use Rattle.std.specs.Prelude.{if◌then◌else◌}
 use Rattle.std.specs.Option.{option_map_or}
@@ -11,12 +11,12 @@ use Rattle.clap.specs.Kinds.{Kinds, or_else, range_kinds, values_kinds}
 use Rattle.clap.specs.Lexer.{usize_max, long_of, short_of}
 use Rattle.clap.specs.declared.builder.value_parser.ValueParser.TheVariants as vp
 use Rattle.clap.specs.Walk.{first_of, long_or_other, short_or_plain, trailing, Held, Row, Rule, Step, Text, Waiting, Walk, idle, positional, option, walked}
-use Rattle.clap.specs.Walk.{walk, walk_from, nothing_held, settled, finished, plain_word, subcommand_met, subcommand_or_other, after_step}
-use Rattle.clap.specs.Simple.{App, Shape, built, names_of, entered, new_shape, subcommand_of}
+use Rattle.clap.specs.Walk.{walk, walk_from, nothing_held, reacted, settled, finished, plain_word, subcommand_met, subcommand_or_other, after_step}
+use Rattle.clap.specs.Simple.{App, Shape, built, names_of, entered, new_rule, new_shape, subcommand_of}
 use Rattle.clap.specs.Faults.{flag_word_fault, bundle_fault, other_fault, turn_fault, walk_fault, step_fault, settle_fault, defaults_fault, check_fault, entered_fault}
 use Rattle.clap.proofs.OnLiterals.{clap_on_literals}
 use Rattle.cw_words.specs.Command.{burden_row, command_line, command_name, limit_row, processors_row, top_row, up_to_row, usual_edges, usual_numbers, workers_row}
-use Rattle.cw_words.specs.Requests.{AreRead, HaveCommand, Words, edges_text, faults, numbers_of, texts_of}
+use Rattle.cw_words.specs.Requests.{AreRead, HaveCommand, Words, asks_table, edges_text, faults, numbers_of, texts_of}
 use Rattle.cw_words.specs.WordLaws.{IsPlain, TakesBurden, checking}
 use Rattle.cw_words.specs.declared.verb.Verb.{Verb}
 use Rattle.cw_words.specs.declared.verb.Verb.TheVariants as verb
@@ -67,6 +67,10 @@ abbrev first_shape : List Shape → Shape
 first_shape [] = new_shape []
 first_shape (s ∷ rest) = s
 
+abbrev pub first_rule : List Rule → Rule
+first_rule [] = new_rule []
+first_rule (a ∷ rest) = a
+
 abbrev pub line : App
 line = built command_line
 
@@ -91,6 +95,9 @@ greedy = first_shape (drop 5 line.subs)
 abbrev pub speedup : Shape
 speedup = first_shape (drop 6 line.subs)
 
+abbrev pub page : Shape
+page = first_shape (drop 7 line.subs)
+
 abbrev pub shape_of : Verb → Shape
 shape_of verb.Check = check
 shape_of verb.Run = run
@@ -99,16 +106,27 @@ shape_of verb.Sites = sites
 shape_of verb.Gain = gain
 shape_of verb.Greedy = greedy
 shape_of verb.Speedup = speedup
+shape_of verb.Page = page
 
--- a command that takes a burden has the rules of `run`
-abbrev running : Text → Shape
-running name = record run { name = name }
+-- a command that takes a burden has the rules of `run` or, if it prints a table, of `scale`
+abbrev pub prints : Verb → Bool
+prints verb.Scale = true
+prints verb.Sites = true
+prints _ = false
 
-is_running : (m : Verb) → TakesBurden m → shape_of m ≡ running (command_name m)
+abbrev based : Bool → Shape
+based false = run
+based true = scale
+
+abbrev running : Bool → Text → Shape
+running t name = record (based t) { name = name }
+
+is_running : (m : Verb) → TakesBurden m → shape_of m ≡ running (prints m) (command_name m)
 is_running verb.Check runs = absurd runs
 is_running verb.Gain runs = absurd runs
 is_running verb.Greedy runs = absurd runs
 is_running verb.Speedup runs = absurd runs
+is_running verb.Page runs = absurd runs
 is_running verb.Run runs = refl
 is_running verb.Scale runs = refl
 is_running verb.Sites runs = refl
@@ -118,13 +136,18 @@ held rows pending = record { rows = rows; pending = pending; skip = 0 }
 
 -- ---- the words after a command that takes a burden
 
--- the option before the source: none, a limit, a burden, a word for edges or a number of workers
+-- the option before the source: none, a limit, a burden, a word for edges, a number of workers or aligned columns
 pub data Given : Type 0 where
   nothing : Given
   limited : Text → Given
   burdened : Text → Given
   edged : Text → Given
   worked : Text → Given
+  tabled : Given
+
+-- the row of aligned columns
+abbrev pub tabled_rows : List Row
+tabled_rows = (reacted scale.rules (first_rule (drop 6 scale.rules)) [] nothing_held).rows
 
 -- the arguments before the source
 abbrev before : Given → Held
@@ -133,90 +156,115 @@ before (limited n) = held [] (Some (codes "limit", n ∷ []))
 before (burdened n) = held [] (Some (codes "burden", n ∷ []))
 before (edged n) = held [] (Some (codes "edges", n ∷ []))
 before (worked n) = held [] (Some (codes "workers", n ∷ []))
+before tabled = held tabled_rows None
 
-abbrev rows_before : Given → List Row
-rows_before g = (settled run.rules (before g)).rows
+abbrev rows_before : Bool → Given → List Row
+rows_before t g = (settled (based t).rules (before g)).rows
 
-abbrev source_met : Given → Text → Walk
-source_met g file = at idle 2 (held (rows_before g) (Some (codes "FILE", file ∷ [])))
+abbrev source_met : Bool → Given → Text → Walk
+source_met t g file = at idle 2 (held (rows_before t g) (Some (codes "FILE", file ∷ [])))
 
-abbrev rows_with : Given → Text → List Row
-rows_with g file = (settled run.rules (source_met g file).held).rows
+abbrev rows_with : Bool → Given → Text → List Row
+rows_with t g file = (settled (based t).rules (source_met t g file).held).rows
 
-abbrev args_met : Given → Text → Text → List Text → Walk
-args_met g file v vs = at positional 2 (held (rows_with g file) (Some (codes "ARGS", v ∷ vs)))
+abbrev args_met : Bool → Given → Text → Text → List Text → Walk
+args_met t g file v vs = at positional 2 (held (rows_with t g file) (Some (codes "ARGS", v ∷ vs)))
 
-source_step : (g : Given) (file : Text) → IsPlain file → walked run.rules [] (at idle 1 (before g)) file ≡ source_met g file
-source_step nothing file plain = step run.rules idle 1 file (before nothing) refl plain
-source_step (limited n) file plain = step run.rules idle 1 file (before (limited n)) refl plain
-source_step (burdened n) file plain = step run.rules idle 1 file (before (burdened n)) refl plain
-source_step (edged n) file plain = step run.rules idle 1 file (before (edged n)) refl plain
-source_step (worked n) file plain = step run.rules idle 1 file (before (worked n)) refl plain
+source_step : (t : Bool) (g : Given) (file : Text) → IsPlain file → walked (based t).rules [] (at idle 1 (before g)) file ≡ source_met t g file
+source_step false nothing file plain = step (based false).rules idle 1 file (before nothing) refl plain
+source_step false (limited n) file plain = step (based false).rules idle 1 file (before (limited n)) refl plain
+source_step false (burdened n) file plain = step (based false).rules idle 1 file (before (burdened n)) refl plain
+source_step false (edged n) file plain = step (based false).rules idle 1 file (before (edged n)) refl plain
+source_step false (worked n) file plain = step (based false).rules idle 1 file (before (worked n)) refl plain
+source_step false tabled file plain = step (based false).rules idle 1 file (before tabled) refl plain
+source_step true nothing file plain = step (based true).rules idle 1 file (before nothing) refl plain
+source_step true (limited n) file plain = step (based true).rules idle 1 file (before (limited n)) refl plain
+source_step true (burdened n) file plain = step (based true).rules idle 1 file (before (burdened n)) refl plain
+source_step true (edged n) file plain = step (based true).rules idle 1 file (before (edged n)) refl plain
+source_step true (worked n) file plain = step (based true).rules idle 1 file (before (worked n)) refl plain
+source_step true tabled file plain = step (based true).rules idle 1 file (before tabled) refl plain
 
-source_turn : (name : Text) (g : Given) (file : Text) → IsPlain file → turn_fault (running name) [] (at idle 1 (before g)) file ≡ []
-source_turn name nothing file plain = turn (running name) idle 1 file (before nothing) refl plain
-source_turn name (limited n) file plain = turn (running name) idle 1 file (before (limited n)) refl plain
-source_turn name (burdened n) file plain = turn (running name) idle 1 file (before (burdened n)) refl plain
-source_turn name (edged n) file plain = turn (running name) idle 1 file (before (edged n)) refl plain
-source_turn name (worked n) file plain = turn (running name) idle 1 file (before (worked n)) refl plain
+source_turn : (t : Bool) (name : Text) (g : Given) (file : Text) → IsPlain file → turn_fault (running t name) [] (at idle 1 (before g)) file ≡ []
+source_turn false name nothing file plain = turn (running false name) idle 1 file (before nothing) refl plain
+source_turn false name (limited n) file plain = turn (running false name) idle 1 file (before (limited n)) refl plain
+source_turn false name (burdened n) file plain = turn (running false name) idle 1 file (before (burdened n)) refl plain
+source_turn false name (edged n) file plain = turn (running false name) idle 1 file (before (edged n)) refl plain
+source_turn false name (worked n) file plain = turn (running false name) idle 1 file (before (worked n)) refl plain
+source_turn false name tabled file plain = turn (running false name) idle 1 file (before tabled) refl plain
+source_turn true name nothing file plain = turn (running true name) idle 1 file (before nothing) refl plain
+source_turn true name (limited n) file plain = turn (running true name) idle 1 file (before (limited n)) refl plain
+source_turn true name (burdened n) file plain = turn (running true name) idle 1 file (before (burdened n)) refl plain
+source_turn true name (edged n) file plain = turn (running true name) idle 1 file (before (edged n)) refl plain
+source_turn true name (worked n) file plain = turn (running true name) idle 1 file (before (worked n)) refl plain
+source_turn true name tabled file plain = turn (running true name) idle 1 file (before tabled) refl plain
 
-first_step : (g : Given) (file v : Text) → IsPlain v → walked run.rules [] (source_met g file) v ≡ args_met g file v []
-first_step g file v plain = step run.rules idle 2 v (source_met g file).held refl plain
+first_step : (t : Bool) (g : Given) (file v : Text) → IsPlain v → walked (based t).rules [] (source_met t g file) v ≡ args_met t g file v []
+first_step false g file v plain = step (based false).rules idle 2 v (source_met false g file).held refl plain
+first_step true g file v plain = step (based true).rules idle 2 v (source_met true g file).held refl plain
 
-first_turn : (name : Text) (g : Given) (file v : Text) → IsPlain v → turn_fault (running name) [] (source_met g file) v ≡ []
-first_turn name nothing file v plain = turn (running name) idle 2 v (source_met nothing file).held refl plain
-first_turn name (limited n) file v plain = turn (running name) idle 2 v (source_met (limited n) file).held refl plain
-first_turn name (burdened n) file v plain = turn (running name) idle 2 v (source_met (burdened n) file).held refl plain
-first_turn name (edged n) file v plain = turn (running name) idle 2 v (source_met (edged n) file).held refl plain
-first_turn name (worked n) file v plain = turn (running name) idle 2 v (source_met (worked n) file).held refl plain
+first_turn : (t : Bool) (name : Text) (g : Given) (file v : Text) → IsPlain v → turn_fault (running t name) [] (source_met t g file) v ≡ []
+first_turn false name nothing file v plain = turn (running false name) idle 2 v (source_met false nothing file).held refl plain
+first_turn false name (limited n) file v plain = turn (running false name) idle 2 v (source_met false (limited n) file).held refl plain
+first_turn false name (burdened n) file v plain = turn (running false name) idle 2 v (source_met false (burdened n) file).held refl plain
+first_turn false name (edged n) file v plain = turn (running false name) idle 2 v (source_met false (edged n) file).held refl plain
+first_turn false name (worked n) file v plain = turn (running false name) idle 2 v (source_met false (worked n) file).held refl plain
+first_turn false name tabled file v plain = turn (running false name) idle 2 v (source_met false tabled file).held refl plain
+first_turn true name nothing file v plain = turn (running true name) idle 2 v (source_met true nothing file).held refl plain
+first_turn true name (limited n) file v plain = turn (running true name) idle 2 v (source_met true (limited n) file).held refl plain
+first_turn true name (burdened n) file v plain = turn (running true name) idle 2 v (source_met true (burdened n) file).held refl plain
+first_turn true name (edged n) file v plain = turn (running true name) idle 2 v (source_met true (edged n) file).held refl plain
+first_turn true name (worked n) file v plain = turn (running true name) idle 2 v (source_met true (worked n) file).held refl plain
+first_turn true name tabled file v plain = turn (running true name) idle 2 v (source_met true tabled file).held refl plain
 
-next_step : (g : Given) (file v : Text) (vs : List Text) (word : Text) → IsPlain word → walked run.rules [] (args_met g file v vs) word ≡ args_met g file v (vs ++ word ∷ [])
-next_step g file v vs word plain = step run.rules positional 2 word (args_met g file v vs).held refl plain
+next_step : (t : Bool) (g : Given) (file v : Text) (vs : List Text) (word : Text) → IsPlain word → walked (based t).rules [] (args_met t g file v vs) word ≡ args_met t g file v (vs ++ word ∷ [])
+next_step false g file v vs word plain = step (based false).rules positional 2 word (args_met false g file v vs).held refl plain
+next_step true g file v vs word plain = step (based true).rules positional 2 word (args_met true g file v vs).held refl plain
 
-next_turn : (name : Text) (g : Given) (file v : Text) (vs : List Text) (word : Text) → IsPlain word → turn_fault (running name) [] (args_met g file v vs) word ≡ []
-next_turn name g file v vs word plain = turn (running name) positional 2 word (args_met g file v vs).held refl plain
+next_turn : (t : Bool) (name : Text) (g : Given) (file v : Text) (vs : List Text) (word : Text) → IsPlain word → turn_fault (running t name) [] (args_met t g file v vs) word ≡ []
+next_turn false name g file v vs word plain = turn (running false name) positional 2 word (args_met false g file v vs).held refl plain
+next_turn true name g file v vs word plain = turn (running true name) positional 2 word (args_met true g file v vs).held refl plain
 
 pub all_rest : (x : Text) (xs : List Text) → All IsPlain (x ∷ xs) → All IsPlain xs
 all_rest x xs h k d lt = h (suc k) d (omega (arith, lt))
 
-rest_walk : (g : Given) (file v : Text) (vs rest : List Text) → All IsPlain rest → fold (walked run.rules []) (args_met g file v vs) rest ≡ args_met g file v (vs ++ rest)
-rest_walk g file v vs [] plain = ap (args_met g file v) (sym (append-nil vs))
-rest_walk g file v vs (word ∷ rest) plain =
-    ap (λ w. fold (walked run.rules []) w rest) (next_step g file v vs word (plain 0 word (omega arith)))
-    ∙ rest_walk g file v (vs ++ word ∷ []) rest (all_rest word rest plain) ∙ ap (args_met g file v) (append_assoc vs (word ∷ []) rest)
+rest_walk : (t : Bool) (g : Given) (file v : Text) (vs rest : List Text) → All IsPlain rest → fold (walked (based t).rules []) (args_met t g file v vs) rest ≡ args_met t g file v (vs ++ rest)
+rest_walk t g file v vs [] plain = ap (args_met t g file v) (sym (append-nil vs))
+rest_walk t g file v vs (word ∷ rest) plain =
+    ap (λ w. fold (walked (based t).rules []) w rest) (next_step t g file v vs word (plain 0 word (omega arith)))
+    ∙ rest_walk t g file v (vs ++ word ∷ []) rest (all_rest word rest plain) ∙ ap (args_met t g file v) (append_assoc vs (word ∷ []) rest)
 
-rest_fault : (name : Text) (g : Given) (file v : Text) (vs rest : List Text) → All IsPlain rest → walk_fault (running name) [] (args_met g file v vs) rest ≡ []
+rest_fault : (t : Bool) (name : Text) (g : Given) (file v : Text) (vs rest : List Text) → All IsPlain rest → walk_fault (running t name) [] (args_met t g file v vs) rest ≡ []
 unfolding walk_fault
-rest_fault name g file v vs [] plain = refl
-rest_fault name g file v vs (word ∷ rest) plain =
-    ap₂ (λ k w. or_else k (walk_fault (running name) [] w rest)) (next_turn name g file v vs word (plain 0 word (omega arith))) (next_step g file v vs word (plain 0 word (omega arith)))
-    ∙ rest_fault name g file v (vs ++ word ∷ []) rest (all_rest word rest plain)
+rest_fault t name g file v vs [] plain = refl
+rest_fault t name g file v vs (word ∷ rest) plain =
+    ap₂ (λ k w. or_else k (walk_fault (running t name) [] w rest)) (next_turn t name g file v vs word (plain 0 word (omega arith))) (next_step t g file v vs word (plain 0 word (omega arith)))
+    ∙ rest_fault t name g file v (vs ++ word ∷ []) rest (all_rest word rest plain)
 
 -- the end of the traversal
-abbrev end : Given → Text → List Text → Walk
-end g file [] = source_met g file
-end g file (v ∷ vs) = args_met g file v vs
+abbrev end : Bool → Given → Text → List Text → Walk
+end t g file [] = source_met t g file
+end t g file (v ∷ vs) = args_met t g file v vs
 
-args_walk : (g : Given) (file : Text) (args : List Text) → All IsPlain args → fold (walked run.rules []) (source_met g file) args ≡ end g file args
-args_walk g file [] plain = refl
-args_walk g file (v ∷ vs) plain = ap (λ w. fold (walked run.rules []) w vs) (first_step g file v (plain 0 v (omega arith))) ∙ rest_walk g file v [] vs (all_rest v vs plain)
+args_walk : (t : Bool) (g : Given) (file : Text) (args : List Text) → All IsPlain args → fold (walked (based t).rules []) (source_met t g file) args ≡ end t g file args
+args_walk t g file [] plain = refl
+args_walk t g file (v ∷ vs) plain = ap (λ w. fold (walked (based t).rules []) w vs) (first_step t g file v (plain 0 v (omega arith))) ∙ rest_walk t g file v [] vs (all_rest v vs plain)
 
-args_fault : (name : Text) (g : Given) (file : Text) (args : List Text) → All IsPlain args → walk_fault (running name) [] (source_met g file) args ≡ []
+args_fault : (t : Bool) (name : Text) (g : Given) (file : Text) (args : List Text) → All IsPlain args → walk_fault (running t name) [] (source_met t g file) args ≡ []
 unfolding walk_fault
-args_fault name g file [] plain = refl
-args_fault name g file (v ∷ vs) plain =
-    ap₂ (λ k w. or_else k (walk_fault (running name) [] w vs)) (first_turn name g file v (plain 0 v (omega arith))) (first_step g file v (plain 0 v (omega arith)))
-    ∙ rest_fault name g file v [] vs (all_rest v vs plain)
+args_fault t name g file [] plain = refl
+args_fault t name g file (v ∷ vs) plain =
+    ap₂ (λ k w. or_else k (walk_fault (running t name) [] w vs)) (first_turn t name g file v (plain 0 v (omega arith))) (first_step t g file v (plain 0 v (omega arith)))
+    ∙ rest_fault t name g file v [] vs (all_rest v vs plain)
 
-source_walk : (g : Given) (file : Text) (args : List Text) → IsPlain file → All IsPlain args → fold (walked run.rules []) (at idle 1 (before g)) (file ∷ args) ≡ end g file args
-source_walk g file args plain plains = ap (λ w. fold (walked run.rules []) w args) (source_step g file plain) ∙ args_walk g file args plains
+source_walk : (t : Bool) (g : Given) (file : Text) (args : List Text) → IsPlain file → All IsPlain args → fold (walked (based t).rules []) (at idle 1 (before g)) (file ∷ args) ≡ end t g file args
+source_walk t g file args plain plains = ap (λ w. fold (walked (based t).rules []) w args) (source_step t g file plain) ∙ args_walk t g file args plains
 
-source_fault : (name : Text) (g : Given) (file : Text) (args : List Text) → IsPlain file → All IsPlain args → walk_fault (running name) [] (at idle 1 (before g)) (file ∷ args) ≡ []
+source_fault : (t : Bool) (name : Text) (g : Given) (file : Text) (args : List Text) → IsPlain file → All IsPlain args → walk_fault (running t name) [] (at idle 1 (before g)) (file ∷ args) ≡ []
 unfolding walk_fault
-source_fault name g file args plain plains =
-    ap₂ (λ k w. or_else k (walk_fault (running name) [] w args)) (source_turn name g file plain) (source_step g file plain) ∙ args_fault name g file args plains
+source_fault t name g file args plain plains =
+    ap₂ (λ k w. or_else k (walk_fault (running t name) [] w args)) (source_turn t name g file plain) (source_step t g file plain) ∙ args_fault t name g file args plains
 
--- ---- a number before the source
+-- ---- an option before the source
 
 abbrev number_words : Given → List Text
 number_words nothing = []
@@ -224,106 +272,143 @@ number_words (limited n) = codes "--limit" ∷ n ∷ []
 number_words (burdened n) = codes "--burden" ∷ n ∷ []
 number_words (edged n) = codes "--edges" ∷ n ∷ []
 number_words (worked n) = codes "--workers" ∷ n ∷ []
+number_words tabled = codes "--table" ∷ []
 
-abbrev IsGiven : Given → Type 0
-IsGiven nothing = Unit {0}
-IsGiven (limited n) = IsPlain n
-IsGiven (burdened n) = IsPlain n
-IsGiven (edged n) = IsPlain n
-IsGiven (worked n) = IsPlain n
+abbrev IsGiven : Bool → Given → Type 0
+IsGiven t nothing = Unit {0}
+IsGiven t (limited n) = IsPlain n
+IsGiven t (burdened n) = IsPlain n
+IsGiven t (edged n) = IsPlain n
+IsGiven t (worked n) = IsPlain n
+IsGiven t tabled = t ≡ true
 
 -- between the name of an option and its value
 abbrev waiting : Text → Walk
 waiting id = at (option id) 1 (held [] (Some (id, [])))
 
-limit_step : walked run.rules [] (walk_from nothing_held) (codes "--limit") ≡ waiting (codes "limit")
+limit_step : (t : Bool) → walked (based t).rules [] (walk_from nothing_held) (codes "--limit") ≡ waiting (codes "limit")
 unfolding clap_on_literals
-limit_step = refl
+limit_step false = refl
+limit_step true = refl
 
-limit_turn : (name : Text) → turn_fault (running name) [] (walk_from nothing_held) (codes "--limit") ≡ []
+limit_turn : (t : Bool) (name : Text) → turn_fault (running t name) [] (walk_from nothing_held) (codes "--limit") ≡ []
 unfolding clap_on_literals
-limit_turn name = refl
+limit_turn false name = refl
+limit_turn true name = refl
 
-burden_step : walked run.rules [] (walk_from nothing_held) (codes "--burden") ≡ waiting (codes "burden")
+limit_value_step : (t : Bool) (n : Text) → IsPlain n → walked (based t).rules [] (waiting (codes "limit")) n ≡ at idle 1 (before (limited n))
+limit_value_step false n plain = step (based false).rules (option (codes "limit")) 1 n (waiting (codes "limit")).held refl plain
+limit_value_step true n plain = step (based true).rules (option (codes "limit")) 1 n (waiting (codes "limit")).held refl plain
+
+limit_value_turn : (t : Bool) (name : Text) (n : Text) → IsPlain n → turn_fault (running t name) [] (waiting (codes "limit")) n ≡ []
+limit_value_turn false name n plain = turn (running false name) (option (codes "limit")) 1 n (waiting (codes "limit")).held refl plain
+limit_value_turn true name n plain = turn (running true name) (option (codes "limit")) 1 n (waiting (codes "limit")).held refl plain
+
+burden_step : (t : Bool) → walked (based t).rules [] (walk_from nothing_held) (codes "--burden") ≡ waiting (codes "burden")
 unfolding clap_on_literals
-burden_step = refl
+burden_step false = refl
+burden_step true = refl
 
-edges_step : walked run.rules [] (walk_from nothing_held) (codes "--edges") ≡ waiting (codes "edges")
+burden_turn : (t : Bool) (name : Text) → turn_fault (running t name) [] (walk_from nothing_held) (codes "--burden") ≡ []
 unfolding clap_on_literals
-edges_step = refl
+burden_turn false name = refl
+burden_turn true name = refl
 
-burden_turn : (name : Text) → turn_fault (running name) [] (walk_from nothing_held) (codes "--burden") ≡ []
+burden_value_step : (t : Bool) (n : Text) → IsPlain n → walked (based t).rules [] (waiting (codes "burden")) n ≡ at idle 1 (before (burdened n))
+burden_value_step false n plain = step (based false).rules (option (codes "burden")) 1 n (waiting (codes "burden")).held refl plain
+burden_value_step true n plain = step (based true).rules (option (codes "burden")) 1 n (waiting (codes "burden")).held refl plain
+
+burden_value_turn : (t : Bool) (name : Text) (n : Text) → IsPlain n → turn_fault (running t name) [] (waiting (codes "burden")) n ≡ []
+burden_value_turn false name n plain = turn (running false name) (option (codes "burden")) 1 n (waiting (codes "burden")).held refl plain
+burden_value_turn true name n plain = turn (running true name) (option (codes "burden")) 1 n (waiting (codes "burden")).held refl plain
+
+edges_step : (t : Bool) → walked (based t).rules [] (walk_from nothing_held) (codes "--edges") ≡ waiting (codes "edges")
 unfolding clap_on_literals
-burden_turn name = refl
+edges_step false = refl
+edges_step true = refl
 
-edges_turn : (name : Text) → turn_fault (running name) [] (walk_from nothing_held) (codes "--edges") ≡ []
+edges_turn : (t : Bool) (name : Text) → turn_fault (running t name) [] (walk_from nothing_held) (codes "--edges") ≡ []
 unfolding clap_on_literals
-edges_turn name = refl
+edges_turn false name = refl
+edges_turn true name = refl
 
-workers_step : walked run.rules [] (walk_from nothing_held) (codes "--workers") ≡ waiting (codes "workers")
+edges_value_step : (t : Bool) (n : Text) → IsPlain n → walked (based t).rules [] (waiting (codes "edges")) n ≡ at idle 1 (before (edged n))
+edges_value_step false n plain = step (based false).rules (option (codes "edges")) 1 n (waiting (codes "edges")).held refl plain
+edges_value_step true n plain = step (based true).rules (option (codes "edges")) 1 n (waiting (codes "edges")).held refl plain
+
+edges_value_turn : (t : Bool) (name : Text) (n : Text) → IsPlain n → turn_fault (running t name) [] (waiting (codes "edges")) n ≡ []
+edges_value_turn false name n plain = turn (running false name) (option (codes "edges")) 1 n (waiting (codes "edges")).held refl plain
+edges_value_turn true name n plain = turn (running true name) (option (codes "edges")) 1 n (waiting (codes "edges")).held refl plain
+
+workers_step : (t : Bool) → walked (based t).rules [] (walk_from nothing_held) (codes "--workers") ≡ waiting (codes "workers")
 unfolding clap_on_literals
-workers_step = refl
+workers_step false = refl
+workers_step true = refl
 
-workers_turn : (name : Text) → turn_fault (running name) [] (walk_from nothing_held) (codes "--workers") ≡ []
+workers_turn : (t : Bool) (name : Text) → turn_fault (running t name) [] (walk_from nothing_held) (codes "--workers") ≡ []
 unfolding clap_on_literals
-workers_turn name = refl
+workers_turn false name = refl
+workers_turn true name = refl
 
-limit_value_step : (n : Text) → IsPlain n → walked run.rules [] (waiting (codes "limit")) n ≡ at idle 1 (before (limited n))
-limit_value_step n plain = step run.rules (option (codes "limit")) 1 n (waiting (codes "limit")).held refl plain
+workers_value_step : (t : Bool) (n : Text) → IsPlain n → walked (based t).rules [] (waiting (codes "workers")) n ≡ at idle 1 (before (worked n))
+workers_value_step false n plain = step (based false).rules (option (codes "workers")) 1 n (waiting (codes "workers")).held refl plain
+workers_value_step true n plain = step (based true).rules (option (codes "workers")) 1 n (waiting (codes "workers")).held refl plain
 
-limit_value_turn : (name : Text) (n : Text) → IsPlain n → turn_fault (running name) [] (waiting (codes "limit")) n ≡ []
-limit_value_turn name n plain = turn (running name) (option (codes "limit")) 1 n (waiting (codes "limit")).held refl plain
+workers_value_turn : (t : Bool) (name : Text) (n : Text) → IsPlain n → turn_fault (running t name) [] (waiting (codes "workers")) n ≡ []
+workers_value_turn false name n plain = turn (running false name) (option (codes "workers")) 1 n (waiting (codes "workers")).held refl plain
+workers_value_turn true name n plain = turn (running true name) (option (codes "workers")) 1 n (waiting (codes "workers")).held refl plain
 
-burden_value_step : (n : Text) → IsPlain n → walked run.rules [] (waiting (codes "burden")) n ≡ at idle 1 (before (burdened n))
-burden_value_step n plain = step run.rules (option (codes "burden")) 1 n (waiting (codes "burden")).held refl plain
+table_step : (t : Bool) → t ≡ true → walked (based t).rules [] (walk_from nothing_held) (codes "--table") ≡ at idle 1 (before tabled)
+unfolding clap_on_literals
+table_step true is = refl
+table_step false is = cc
 
-edges_value_step : (n : Text) → IsPlain n → walked run.rules [] (waiting (codes "edges")) n ≡ at idle 1 (before (edged n))
-edges_value_step n plain = step run.rules (option (codes "edges")) 1 n (waiting (codes "edges")).held refl plain
+table_turn : (t : Bool) (name : Text) → t ≡ true → turn_fault (running t name) [] (walk_from nothing_held) (codes "--table") ≡ []
+unfolding clap_on_literals
+table_turn true name is = refl
+table_turn false name is = cc
 
-burden_value_turn : (name : Text) (n : Text) → IsPlain n → turn_fault (running name) [] (waiting (codes "burden")) n ≡ []
-burden_value_turn name n plain = turn (running name) (option (codes "burden")) 1 n (waiting (codes "burden")).held refl plain
+words_walk : (t : Bool) (g : Given) (file : Text) (args : List Text) → IsGiven t g → IsPlain file → All IsPlain args
+    → fold (walked (based t).rules []) (walk_from nothing_held) (number_words g ++ file ∷ args) ≡ end t g file args
+words_walk t nothing file args given plain plains = source_walk t nothing file args plain plains
+words_walk t (limited n) file args given plain plains =
+    ap (λ w. fold (walked (based t).rules []) w (n ∷ file ∷ args)) (limit_step t) ∙ ap (λ w. fold (walked (based t).rules []) w (file ∷ args)) (limit_value_step t n given)
+    ∙ source_walk t (limited n) file args plain plains
+words_walk t (burdened n) file args given plain plains =
+    ap (λ w. fold (walked (based t).rules []) w (n ∷ file ∷ args)) (burden_step t) ∙ ap (λ w. fold (walked (based t).rules []) w (file ∷ args)) (burden_value_step t n given)
+    ∙ source_walk t (burdened n) file args plain plains
+words_walk t (edged n) file args given plain plains =
+    ap (λ w. fold (walked (based t).rules []) w (n ∷ file ∷ args)) (edges_step t) ∙ ap (λ w. fold (walked (based t).rules []) w (file ∷ args)) (edges_value_step t n given)
+    ∙ source_walk t (edged n) file args plain plains
+words_walk t (worked n) file args given plain plains =
+    ap (λ w. fold (walked (based t).rules []) w (n ∷ file ∷ args)) (workers_step t) ∙ ap (λ w. fold (walked (based t).rules []) w (file ∷ args)) (workers_value_step t n given)
+    ∙ source_walk t (worked n) file args plain plains
+words_walk t tabled file args given plain plains =
+    ap (λ w. fold (walked (based t).rules []) w (file ∷ args)) (table_step t given) ∙ source_walk t tabled file args plain plains
 
-edges_value_turn : (name : Text) (n : Text) → IsPlain n → turn_fault (running name) [] (waiting (codes "edges")) n ≡ []
-edges_value_turn name n plain = turn (running name) (option (codes "edges")) 1 n (waiting (codes "edges")).held refl plain
-
-workers_value_step : (n : Text) → IsPlain n → walked run.rules [] (waiting (codes "workers")) n ≡ at idle 1 (before (worked n))
-workers_value_step n plain = step run.rules (option (codes "workers")) 1 n (waiting (codes "workers")).held refl plain
-
-workers_value_turn : (name : Text) (n : Text) → IsPlain n → turn_fault (running name) [] (waiting (codes "workers")) n ≡ []
-workers_value_turn name n plain = turn (running name) (option (codes "workers")) 1 n (waiting (codes "workers")).held refl plain
-
-words_walk : (g : Given) (file : Text) (args : List Text) → IsGiven g → IsPlain file → All IsPlain args
-    → fold (walked run.rules []) (walk_from nothing_held) (number_words g ++ file ∷ args) ≡ end g file args
-words_walk nothing file args given plain plains = source_walk nothing file args plain plains
-words_walk (limited n) file args given plain plains =
-    ap (λ w. fold (walked run.rules []) w (n ∷ file ∷ args)) limit_step ∙ ap (λ w. fold (walked run.rules []) w (file ∷ args)) (limit_value_step n given)
-    ∙ source_walk (limited n) file args plain plains
-words_walk (burdened n) file args given plain plains =
-    ap (λ w. fold (walked run.rules []) w (n ∷ file ∷ args)) burden_step ∙ ap (λ w. fold (walked run.rules []) w (file ∷ args)) (burden_value_step n given)
-    ∙ source_walk (burdened n) file args plain plains
-words_walk (edged n) file args given plain plains =
-    ap (λ w. fold (walked run.rules []) w (n ∷ file ∷ args)) edges_step ∙ ap (λ w. fold (walked run.rules []) w (file ∷ args)) (edges_value_step n given)
-    ∙ source_walk (edged n) file args plain plains
-words_walk (worked n) file args given plain plains =
-    ap (λ w. fold (walked run.rules []) w (n ∷ file ∷ args)) workers_step ∙ ap (λ w. fold (walked run.rules []) w (file ∷ args)) (workers_value_step n given)
-    ∙ source_walk (worked n) file args plain plains
-
-words_fault : (name : Text) (g : Given) (file : Text) (args : List Text) → IsGiven g → IsPlain file → All IsPlain args
-    → walk_fault (running name) [] (walk_from nothing_held) (number_words g ++ file ∷ args) ≡ []
+words_fault : (t : Bool) (name : Text) (g : Given) (file : Text) (args : List Text) → IsGiven t g → IsPlain file → All IsPlain args
+    → walk_fault (running t name) [] (walk_from nothing_held) (number_words g ++ file ∷ args) ≡ []
 unfolding walk_fault
-words_fault name nothing file args given plain plains = source_fault name nothing file args plain plains
-words_fault name (limited n) file args given plain plains =
-    ap₂ (λ k w. or_else k (walk_fault (running name) [] w (n ∷ file ∷ args))) (limit_turn name) limit_step
-    ∙ ap₂ (λ k w. or_else k (walk_fault (running name) [] w (file ∷ args))) (limit_value_turn name n given) (limit_value_step n given) ∙ source_fault name (limited n) file args plain plains
-words_fault name (burdened n) file args given plain plains =
-    ap₂ (λ k w. or_else k (walk_fault (running name) [] w (n ∷ file ∷ args))) (burden_turn name) burden_step
-    ∙ ap₂ (λ k w. or_else k (walk_fault (running name) [] w (file ∷ args))) (burden_value_turn name n given) (burden_value_step n given) ∙ source_fault name (burdened n) file args plain plains
-words_fault name (edged n) file args given plain plains =
-    ap₂ (λ k w. or_else k (walk_fault (running name) [] w (n ∷ file ∷ args))) (edges_turn name) edges_step
-    ∙ ap₂ (λ k w. or_else k (walk_fault (running name) [] w (file ∷ args))) (edges_value_turn name n given) (edges_value_step n given) ∙ source_fault name (edged n) file args plain plains
-words_fault name (worked n) file args given plain plains =
-    ap₂ (λ k w. or_else k (walk_fault (running name) [] w (n ∷ file ∷ args))) (workers_turn name) workers_step
-    ∙ ap₂ (λ k w. or_else k (walk_fault (running name) [] w (file ∷ args))) (workers_value_turn name n given) (workers_value_step n given) ∙ source_fault name (worked n) file args plain plains
+words_fault t name nothing file args given plain plains = source_fault t name nothing file args plain plains
+words_fault t name (limited n) file args given plain plains =
+    ap₂ (λ k w. or_else k (walk_fault (running t name) [] w (n ∷ file ∷ args))) (limit_turn t name) (limit_step t)
+    ∙ ap₂ (λ k w. or_else k (walk_fault (running t name) [] w (file ∷ args))) (limit_value_turn t name n given) (limit_value_step t n given)
+    ∙ source_fault t name (limited n) file args plain plains
+words_fault t name (burdened n) file args given plain plains =
+    ap₂ (λ k w. or_else k (walk_fault (running t name) [] w (n ∷ file ∷ args))) (burden_turn t name) (burden_step t)
+    ∙ ap₂ (λ k w. or_else k (walk_fault (running t name) [] w (file ∷ args))) (burden_value_turn t name n given) (burden_value_step t n given)
+    ∙ source_fault t name (burdened n) file args plain plains
+words_fault t name (edged n) file args given plain plains =
+    ap₂ (λ k w. or_else k (walk_fault (running t name) [] w (n ∷ file ∷ args))) (edges_turn t name) (edges_step t)
+    ∙ ap₂ (λ k w. or_else k (walk_fault (running t name) [] w (file ∷ args))) (edges_value_turn t name n given) (edges_value_step t n given)
+    ∙ source_fault t name (edged n) file args plain plains
+words_fault t name (worked n) file args given plain plains =
+    ap₂ (λ k w. or_else k (walk_fault (running t name) [] w (n ∷ file ∷ args))) (workers_turn t name) (workers_step t)
+    ∙ ap₂ (λ k w. or_else k (walk_fault (running t name) [] w (file ∷ args))) (workers_value_turn t name n given) (workers_value_step t n given)
+    ∙ source_fault t name (worked n) file args plain plains
+words_fault t name tabled file args given plain plains =
+    ap₂ (λ k w. or_else k (walk_fault (running t name) [] w (file ∷ args))) (table_turn t name given) (table_step t given)
+    ∙ source_fault t name tabled file args plain plains
 
 -- ---- the word after `check`
 
@@ -357,18 +442,32 @@ level s w has walk below settle =
 abbrev pub command_level : Shape → Walk → Kinds → Kinds
 command_level s w walk = level s w false walk [] (settle_fault s.rules s.args_override_self w.held)
 
-end_level : (name : Text) (g : Given) (file : Text) (args : List Text) → length args < 2 ^ 64 → command_level (running name) (end g file args) [] ≡ []
+end_level : (t : Bool) (name : Text) (g : Given) (file : Text) (args : List Text) → length args < 2 ^ 64 → command_level (running t name) (end t g file args) [] ≡ []
 unfolding defaults_fault
-end_level name nothing file [] lt = refl
-end_level name (limited n) file [] lt = refl
-end_level name (burdened n) file [] lt = refl
-end_level name (edged n) file [] lt = refl
-end_level name (worked n) file [] lt = refl
-end_level name nothing file (v ∷ vs) lt = ap (level (running name) (end nothing file (v ∷ vs)) false [] []) (ap₂ or_else (range_fits (length (v ∷ vs)) lt) (values_accepted false (v ∷ vs)))
-end_level name (limited n) file (v ∷ vs) lt = ap (level (running name) (end (limited n) file (v ∷ vs)) false [] []) (ap₂ or_else (range_fits (length (v ∷ vs)) lt) (values_accepted false (v ∷ vs)))
-end_level name (burdened n) file (v ∷ vs) lt = ap (level (running name) (end (burdened n) file (v ∷ vs)) false [] []) (ap₂ or_else (range_fits (length (v ∷ vs)) lt) (values_accepted false (v ∷ vs)))
-end_level name (edged n) file (v ∷ vs) lt = ap (level (running name) (end (edged n) file (v ∷ vs)) false [] []) (ap₂ or_else (range_fits (length (v ∷ vs)) lt) (values_accepted false (v ∷ vs)))
-end_level name (worked n) file (v ∷ vs) lt = ap (level (running name) (end (worked n) file (v ∷ vs)) false [] []) (ap₂ or_else (range_fits (length (v ∷ vs)) lt) (values_accepted false (v ∷ vs)))
+end_level false name nothing file [] lt = refl
+end_level false name (limited n) file [] lt = refl
+end_level false name (burdened n) file [] lt = refl
+end_level false name (edged n) file [] lt = refl
+end_level false name (worked n) file [] lt = refl
+end_level false name tabled file [] lt = refl
+end_level true name nothing file [] lt = refl
+end_level true name (limited n) file [] lt = refl
+end_level true name (burdened n) file [] lt = refl
+end_level true name (edged n) file [] lt = refl
+end_level true name (worked n) file [] lt = refl
+end_level true name tabled file [] lt = refl
+end_level false name nothing file (v ∷ vs) lt = ap (level (running false name) (end false nothing file (v ∷ vs)) false [] []) (ap₂ or_else (range_fits (length (v ∷ vs)) lt) (values_accepted false (v ∷ vs)))
+end_level false name (limited n) file (v ∷ vs) lt = ap (level (running false name) (end false (limited n) file (v ∷ vs)) false [] []) (ap₂ or_else (range_fits (length (v ∷ vs)) lt) (values_accepted false (v ∷ vs)))
+end_level false name (burdened n) file (v ∷ vs) lt = ap (level (running false name) (end false (burdened n) file (v ∷ vs)) false [] []) (ap₂ or_else (range_fits (length (v ∷ vs)) lt) (values_accepted false (v ∷ vs)))
+end_level false name (edged n) file (v ∷ vs) lt = ap (level (running false name) (end false (edged n) file (v ∷ vs)) false [] []) (ap₂ or_else (range_fits (length (v ∷ vs)) lt) (values_accepted false (v ∷ vs)))
+end_level false name (worked n) file (v ∷ vs) lt = ap (level (running false name) (end false (worked n) file (v ∷ vs)) false [] []) (ap₂ or_else (range_fits (length (v ∷ vs)) lt) (values_accepted false (v ∷ vs)))
+end_level false name tabled file (v ∷ vs) lt = ap (level (running false name) (end false tabled file (v ∷ vs)) false [] []) (ap₂ or_else (range_fits (length (v ∷ vs)) lt) (values_accepted false (v ∷ vs)))
+end_level true name nothing file (v ∷ vs) lt = ap (level (running true name) (end true nothing file (v ∷ vs)) false [] []) (ap₂ or_else (range_fits (length (v ∷ vs)) lt) (values_accepted false (v ∷ vs)))
+end_level true name (limited n) file (v ∷ vs) lt = ap (level (running true name) (end true (limited n) file (v ∷ vs)) false [] []) (ap₂ or_else (range_fits (length (v ∷ vs)) lt) (values_accepted false (v ∷ vs)))
+end_level true name (burdened n) file (v ∷ vs) lt = ap (level (running true name) (end true (burdened n) file (v ∷ vs)) false [] []) (ap₂ or_else (range_fits (length (v ∷ vs)) lt) (values_accepted false (v ∷ vs)))
+end_level true name (edged n) file (v ∷ vs) lt = ap (level (running true name) (end true (edged n) file (v ∷ vs)) false [] []) (ap₂ or_else (range_fits (length (v ∷ vs)) lt) (values_accepted false (v ∷ vs)))
+end_level true name (worked n) file (v ∷ vs) lt = ap (level (running true name) (end true (worked n) file (v ∷ vs)) false [] []) (ap₂ or_else (range_fits (length (v ∷ vs)) lt) (values_accepted false (v ∷ vs)))
+end_level true name tabled file (v ∷ vs) lt = ap (level (running true name) (end true tabled file (v ∷ vs)) false [] []) (ap₂ or_else (range_fits (length (v ∷ vs)) lt) (values_accepted false (v ∷ vs)))
 
 check_level : (file : Text) → command_level check (check_met file) [] ≡ []
 unfolding defaults_fault
@@ -388,6 +487,7 @@ command_step verb.Sites = refl
 command_step verb.Gain = refl
 command_step verb.Greedy = refl
 command_step verb.Speedup = refl
+command_step verb.Page = refl
 
 command_turn : (m : Verb) → turn_fault line.top (names_of line) (walk_from nothing_held) (command_name m) ≡ []
 unfolding clap_on_literals
@@ -398,6 +498,7 @@ command_turn verb.Sites = refl
 command_turn verb.Gain = refl
 command_turn verb.Greedy = refl
 command_turn verb.Speedup = refl
+command_turn verb.Page = refl
 
 pub stopped_walk : (name : Text) (words rest : List Text) → fold (walked line.top.rules (names_of line)) (stopped_at name words) rest ≡ stopped_at name (words ++ rest)
 unfolding walked
@@ -430,6 +531,7 @@ command_faults verb.Sites rest none = ap₂ top_level (top_walk verb.Sites rest)
 command_faults verb.Gain rest none = ap₂ top_level (top_walk verb.Gain rest) (top_fault verb.Gain rest) ∙ ap (λ k. or_else k []) none
 command_faults verb.Greedy rest none = ap₂ top_level (top_walk verb.Greedy rest) (top_fault verb.Greedy rest) ∙ ap (λ k. or_else k []) none
 command_faults verb.Speedup rest none = ap₂ top_level (top_walk verb.Speedup rest) (top_fault verb.Speedup rest) ∙ ap (λ k. or_else k []) none
+command_faults verb.Page rest none = ap₂ top_level (top_walk verb.Page rest) (top_fault verb.Page rest) ∙ ap (λ k. or_else k []) none
 
 pub command_rows : (m : Verb) (rest : List Text) → subcommand_of command_line (command_name m ∷ rest)
     ≡ Some (command_name m, finished (shape_of m).rules (walk (shape_of m).rules [] nothing_held rest).held)
@@ -440,6 +542,7 @@ command_rows verb.Sites rest = ap (λ w. entered line w.stopped) (top_walk verb.
 command_rows verb.Gain rest = ap (λ w. entered line w.stopped) (top_walk verb.Gain rest)
 command_rows verb.Greedy rest = ap (λ w. entered line w.stopped) (top_walk verb.Greedy rest)
 command_rows verb.Speedup rest = ap (λ w. entered line w.stopped) (top_walk verb.Speedup rest)
+command_rows verb.Page rest = ap (λ w. entered line w.stopped) (top_walk verb.Page rest)
 
 -- ---- the meaning of the words
 
@@ -449,25 +552,44 @@ numbers_given (limited n) = n ∷ burden_row.usual ∷ processors_row.usual ∷ 
 numbers_given (burdened n) = limit_row.usual ∷ n ∷ processors_row.usual ∷ up_to_row.usual ∷ top_row.usual ∷ workers_row.usual ∷ []
 numbers_given (edged n) = usual_numbers
 numbers_given (worked n) = limit_row.usual ∷ burden_row.usual ∷ processors_row.usual ∷ up_to_row.usual ∷ top_row.usual ∷ n ∷ []
+numbers_given tabled = usual_numbers
 
 abbrev edges_given : Given → Text
 edges_given (edged n) = n
 edges_given _ = usual_edges
 
-abbrev ran : Verb → Given → Text → List Text → Words
-ran m g file args = record { verb = m; file = file; args = args; numbers = numbers_given g; edges = edges_given g }
+abbrev table_given : Given → Bool
+table_given tabled = true
+table_given _ = false
 
-end_rows : (words : List Text) (m : Verb) (g : Given) (file : Text) (args : List Text) → HaveCommand words m (finished run.rules (end g file args).held) → AreRead words (ran m g file args)
-end_rows words m nothing file [] h = record { rows = _; command = h; file_is = refl; args_are = refl; numbers_are = refl; edges_are = refl }
-end_rows words m nothing file (v ∷ vs) h = record { rows = _; command = h; file_is = refl; args_are = refl; numbers_are = refl; edges_are = refl }
-end_rows words m (limited n) file [] h = record { rows = _; command = h; file_is = refl; args_are = refl; numbers_are = refl; edges_are = refl }
-end_rows words m (limited n) file (v ∷ vs) h = record { rows = _; command = h; file_is = refl; args_are = refl; numbers_are = refl; edges_are = refl }
-end_rows words m (burdened n) file [] h = record { rows = _; command = h; file_is = refl; args_are = refl; numbers_are = refl; edges_are = refl }
-end_rows words m (edged n) file [] h = record { rows = _; command = h; file_is = refl; args_are = refl; numbers_are = refl; edges_are = refl }
-end_rows words m (worked n) file [] h = record { rows = _; command = h; file_is = refl; args_are = refl; numbers_are = refl; edges_are = refl }
-end_rows words m (burdened n) file (v ∷ vs) h = record { rows = _; command = h; file_is = refl; args_are = refl; numbers_are = refl; edges_are = refl }
-end_rows words m (edged n) file (v ∷ vs) h = record { rows = _; command = h; file_is = refl; args_are = refl; numbers_are = refl; edges_are = refl }
-end_rows words m (worked n) file (v ∷ vs) h = record { rows = _; command = h; file_is = refl; args_are = refl; numbers_are = refl; edges_are = refl }
+abbrev ran : Verb → Given → Text → List Text → Words
+ran m g file args = record { verb = m; file = file; args = args; numbers = numbers_given g; edges = edges_given g; table = table_given g }
+
+end_rows : (words : List Text) (m : Verb) (t : Bool) (g : Given) (file : Text) (args : List Text) → HaveCommand words m (finished (based t).rules (end t g file args).held) → AreRead words (ran m g file args)
+end_rows words m false nothing file [] h = record { rows = _; command = h; file_is = refl; args_are = refl; numbers_are = refl; edges_are = refl; table_is = refl }
+end_rows words m false (limited n) file [] h = record { rows = _; command = h; file_is = refl; args_are = refl; numbers_are = refl; edges_are = refl; table_is = refl }
+end_rows words m false (burdened n) file [] h = record { rows = _; command = h; file_is = refl; args_are = refl; numbers_are = refl; edges_are = refl; table_is = refl }
+end_rows words m false (edged n) file [] h = record { rows = _; command = h; file_is = refl; args_are = refl; numbers_are = refl; edges_are = refl; table_is = refl }
+end_rows words m false (worked n) file [] h = record { rows = _; command = h; file_is = refl; args_are = refl; numbers_are = refl; edges_are = refl; table_is = refl }
+end_rows words m false tabled file [] h = record { rows = _; command = h; file_is = refl; args_are = refl; numbers_are = refl; edges_are = refl; table_is = refl }
+end_rows words m true nothing file [] h = record { rows = _; command = h; file_is = refl; args_are = refl; numbers_are = refl; edges_are = refl; table_is = refl }
+end_rows words m true (limited n) file [] h = record { rows = _; command = h; file_is = refl; args_are = refl; numbers_are = refl; edges_are = refl; table_is = refl }
+end_rows words m true (burdened n) file [] h = record { rows = _; command = h; file_is = refl; args_are = refl; numbers_are = refl; edges_are = refl; table_is = refl }
+end_rows words m true (edged n) file [] h = record { rows = _; command = h; file_is = refl; args_are = refl; numbers_are = refl; edges_are = refl; table_is = refl }
+end_rows words m true (worked n) file [] h = record { rows = _; command = h; file_is = refl; args_are = refl; numbers_are = refl; edges_are = refl; table_is = refl }
+end_rows words m true tabled file [] h = record { rows = _; command = h; file_is = refl; args_are = refl; numbers_are = refl; edges_are = refl; table_is = refl }
+end_rows words m false nothing file (v ∷ vs) h = record { rows = _; command = h; file_is = refl; args_are = refl; numbers_are = refl; edges_are = refl; table_is = refl }
+end_rows words m false (limited n) file (v ∷ vs) h = record { rows = _; command = h; file_is = refl; args_are = refl; numbers_are = refl; edges_are = refl; table_is = refl }
+end_rows words m false (burdened n) file (v ∷ vs) h = record { rows = _; command = h; file_is = refl; args_are = refl; numbers_are = refl; edges_are = refl; table_is = refl }
+end_rows words m false (edged n) file (v ∷ vs) h = record { rows = _; command = h; file_is = refl; args_are = refl; numbers_are = refl; edges_are = refl; table_is = refl }
+end_rows words m false (worked n) file (v ∷ vs) h = record { rows = _; command = h; file_is = refl; args_are = refl; numbers_are = refl; edges_are = refl; table_is = refl }
+end_rows words m false tabled file (v ∷ vs) h = record { rows = _; command = h; file_is = refl; args_are = refl; numbers_are = refl; edges_are = refl; table_is = refl }
+end_rows words m true nothing file (v ∷ vs) h = record { rows = _; command = h; file_is = refl; args_are = refl; numbers_are = refl; edges_are = refl; table_is = refl }
+end_rows words m true (limited n) file (v ∷ vs) h = record { rows = _; command = h; file_is = refl; args_are = refl; numbers_are = refl; edges_are = refl; table_is = refl }
+end_rows words m true (burdened n) file (v ∷ vs) h = record { rows = _; command = h; file_is = refl; args_are = refl; numbers_are = refl; edges_are = refl; table_is = refl }
+end_rows words m true (edged n) file (v ∷ vs) h = record { rows = _; command = h; file_is = refl; args_are = refl; numbers_are = refl; edges_are = refl; table_is = refl }
+end_rows words m true (worked n) file (v ∷ vs) h = record { rows = _; command = h; file_is = refl; args_are = refl; numbers_are = refl; edges_are = refl; table_is = refl }
+end_rows words m true tabled file (v ∷ vs) h = record { rows = _; command = h; file_is = refl; args_are = refl; numbers_are = refl; edges_are = refl; table_is = refl }
 
 -- the faults of the words on a level
 abbrev pub level_of : Shape → List Text → Kinds
@@ -476,17 +598,18 @@ level_of s rest = command_level s (walk s.rules [] nothing_held rest) (walk_faul
 abbrev pub rows_at : Shape → List Text → List Row
 rows_at s rest = finished s.rules (walk s.rules [] nothing_held rest).held
 
-pub are_read : (m : Verb) (g : Given) (file : Text) (args : List Text) → TakesBurden m → IsGiven g → IsPlain file → All IsPlain args → length args < 2 ^ 64
+pub are_read : (m : Verb) (g : Given) (file : Text) (args : List Text) → TakesBurden m → IsGiven (prints m) g → IsPlain file → All IsPlain args → length args < 2 ^ 64
     → AreRead (command_name m ∷ number_words g ++ file ∷ args) (ran m g file args)
 are_read m g file args runs given plain plains few =
+    let t = prints m in
     let rest = number_words g ++ file ∷ args in
-    let is : running (command_name m) ≡ shape_of m = sym (is_running m runs) in
-    let walked_is = words_walk g file args given plain plains in
-    let none : level_of (running (command_name m)) rest ≡ [] =
-    ap₂ (command_level (running (command_name m))) walked_is (words_fault (command_name m) g file args given plain plains) ∙ end_level (command_name m) g file args few in
-    let rows_are : rows_at (shape_of m) rest ≡ finished run.rules (end g file args).held =
-    subst (λ s. rows_at s rest ≡ finished run.rules (end g file args).held) is (ap (λ w. finished run.rules w.held) walked_is) in
-    end_rows (command_name m ∷ rest) m g file args (
+    let is : running t (command_name m) ≡ shape_of m = sym (is_running m runs) in
+    let walked_is = words_walk t g file args given plain plains in
+    let none : level_of (running t (command_name m)) rest ≡ [] =
+    ap₂ (command_level (running t (command_name m))) walked_is (words_fault t (command_name m) g file args given plain plains) ∙ end_level t (command_name m) g file args few in
+    let rows_are : rows_at (shape_of m) rest ≡ finished (based t).rules (end t g file args).held =
+    subst (λ s. rows_at s rest ≡ finished (based t).rules (end t g file args).held) is (ap (λ w. finished (based t).rules w.held) walked_is) in
+    end_rows (command_name m ∷ rest) m t g file args (
       command_faults m rest (subst (λ s. level_of s rest ≡ []) is none),
       command_rows m rest ∙ ap (λ rows. Some (command_name m, rows)) rows_are,
     )
@@ -503,6 +626,7 @@ check_is_read file plain =
       args_are = refl;
       numbers_are = refl;
       edges_are = refl;
+      table_is = refl;
     }
 
 -- ---- the rows of a request
@@ -518,10 +642,14 @@ name_in (Some p) = p.0
 pub same_rows : (words : List Text) (m m' : Verb) (rows rows' : List Row) → HaveCommand words m rows → HaveCommand words m' rows' → rows ≡ rows'
 same_rows words m m' rows rows' h k = ap rows_in (sym h.1 ∙ k.1)
 
--- the command with a name, determined by the length of the name and its second letter
+-- the command with a name, determined by the length of the name and its second letter, or by its third letter
 abbrev named : Text → Verb
-named name = cond (nat_eq (length name) 3) verb.Run (by_letter (slice_get name 1))
+named name = cond (nat_eq (length name) 3) verb.Run (cond (is_page (slice_get name 2)) verb.Page (by_letter (slice_get name 1)))
   where
+    is_page : Option ℕ → Bool
+    is_page None = false
+    is_page (Some x) = x == 103
+
     by_letter : Option ℕ → Verb
     by_letter None = verb.Check
     by_letter (Some x) = cond (x == 104) verb.Check (cond (x == 99) verb.Scale (cond (x == 114) verb.Greedy (cond (x == 97) verb.Gain (cond (x == 112) verb.Speedup verb.Sites))))
@@ -534,15 +662,17 @@ named_by verb.Sites = refl
 named_by verb.Gain = refl
 named_by verb.Greedy = refl
 named_by verb.Speedup = refl
+named_by verb.Page = refl
 
 same_verb : (m m' : Verb) → command_name m ≡ command_name m' → m ≡ m'
 same_verb m m' e = sym (named_by m) ∙ ap named e ∙ named_by m'
 
-words_are : (a b : Words) → a.verb ≡ b.verb → a.file ≡ b.file → a.args ≡ b.args → a.numbers ≡ b.numbers → a.edges ≡ b.edges → a ≡ b
-words_are a b m f xs ns es =
+words_are : (a b : Words) → a.verb ≡ b.verb → a.file ≡ b.file → a.args ≡ b.args → a.numbers ≡ b.numbers → a.edges ≡ b.edges → a.table ≡ b.table → a ≡ b
+words_are a b m f xs ns es ts =
     ap (λ x. record a { verb = x }) m ∙ ap (λ x. record a { verb = b.verb; file = x }) f
     ∙ ap (λ x. record a { verb = b.verb; file = b.file; args = x }) xs
-    ∙ ap (λ x. record b { numbers = x; edges = a.edges }) ns ∙ ap (λ x. record b { edges = x }) es
+    ∙ ap (λ x. record b { numbers = x; edges = a.edges; table = a.table }) ns ∙ ap (λ x. record b { edges = x; table = a.table }) es
+    ∙ ap (λ x. record b { table = x }) ts
 
 pub read_once : (given : List Text) (words words' : Words) → AreRead given words → AreRead given words' → words ≡ words'
 read_once given words words' h k =
@@ -553,3 +683,4 @@ read_once given words words' h k =
     (sym h.args_are ∙ ap (λ rows. texts_of rows (codes "ARGS")) same ∙ k.args_are)
     (sym h.numbers_are ∙ ap numbers_of same ∙ k.numbers_are)
     (sym h.edges_are ∙ ap edges_text same ∙ k.edges_are)
+    (sym h.table_is ∙ ap asks_table same ∙ k.table_is)

@@ -170,10 +170,10 @@ limit_given (Some n) = n
 
 end_rows : (words : List Text) (g : Option Text) (p file : Text) (args : List Text) → HaveCommand words verb.Greedy (finished greedy.rules (end g p file args).held)
     → AreRead words (scheduling p file args (limit_given g))
-end_rows words None p file [] h = record { rows = _; command = h; file_is = refl; args_are = refl; numbers_are = refl; edges_are = refl }
-end_rows words None p file (v ∷ vs) h = record { rows = _; command = h; file_is = refl; args_are = refl; numbers_are = refl; edges_are = refl }
-end_rows words (Some n) p file [] h = record { rows = _; command = h; file_is = refl; args_are = refl; numbers_are = refl; edges_are = refl }
-end_rows words (Some n) p file (v ∷ vs) h = record { rows = _; command = h; file_is = refl; args_are = refl; numbers_are = refl; edges_are = refl }
+end_rows words None p file [] h = record { rows = _; command = h; file_is = refl; args_are = refl; numbers_are = refl; edges_are = refl; table_is = refl }
+end_rows words None p file (v ∷ vs) h = record { rows = _; command = h; file_is = refl; args_are = refl; numbers_are = refl; edges_are = refl; table_is = refl }
+end_rows words (Some n) p file [] h = record { rows = _; command = h; file_is = refl; args_are = refl; numbers_are = refl; edges_are = refl; table_is = refl }
+end_rows words (Some n) p file (v ∷ vs) h = record { rows = _; command = h; file_is = refl; args_are = refl; numbers_are = refl; edges_are = refl; table_is = refl }
 
 pub is_scheduled : (g : Option Text) (p file : Text) (args : List Text) → IsPlainLimit g → IsPlain p → IsPlain file → All IsPlain args → length args < 2 ^ 64
     → AreRead (codes "greedy" ∷ limit_words g ++ p ∷ file ∷ args) (scheduling p file args (limit_given g))

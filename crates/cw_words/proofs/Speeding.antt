@@ -152,10 +152,10 @@ processors_given (Some n) = n
 
 end_rows : (words : List Text) (g : Option Text) (file : Text) (args : List Text) → HaveCommand words verb.Speedup (finished speedup.rules (end g file args).held)
     → AreRead words (speeding file args (processors_given g) burden_row.usual)
-end_rows words None file [] h = record { rows = _; command = h; file_is = refl; args_are = refl; numbers_are = refl; edges_are = refl }
-end_rows words None file (v ∷ vs) h = record { rows = _; command = h; file_is = refl; args_are = refl; numbers_are = refl; edges_are = refl }
-end_rows words (Some n) file [] h = record { rows = _; command = h; file_is = refl; args_are = refl; numbers_are = refl; edges_are = refl }
-end_rows words (Some n) file (v ∷ vs) h = record { rows = _; command = h; file_is = refl; args_are = refl; numbers_are = refl; edges_are = refl }
+end_rows words None file [] h = record { rows = _; command = h; file_is = refl; args_are = refl; numbers_are = refl; edges_are = refl; table_is = refl }
+end_rows words None file (v ∷ vs) h = record { rows = _; command = h; file_is = refl; args_are = refl; numbers_are = refl; edges_are = refl; table_is = refl }
+end_rows words (Some n) file [] h = record { rows = _; command = h; file_is = refl; args_are = refl; numbers_are = refl; edges_are = refl; table_is = refl }
+end_rows words (Some n) file (v ∷ vs) h = record { rows = _; command = h; file_is = refl; args_are = refl; numbers_are = refl; edges_are = refl; table_is = refl }
 
 pub is_speeding : (g : Option Text) (file : Text) (args : List Text) → ArePlainProcessors g → IsPlain file → All IsPlain args → length args < 2 ^ 64
     → AreRead (codes "speedup" ∷ processors_words g ++ file ∷ args) (speeding file args (processors_given g) burden_row.usual)

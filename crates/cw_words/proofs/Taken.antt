@@ -4,6 +4,7 @@ use Rattle.std.specs.Prelude.{encode_utf8, find, slice_get, option_map, if◌the
 use Rattle.std.specs.Option.{option_map_or}
 use Rattle.std.specs.List.{fold}
 use Rattle.std.specs.Str.{bytes_eq, chars}
+use Rattle.std.proofs.lemmas.Bool.{false≢true}
 use Rattle.clap.specs.Lexer.{long_of, short_of}
 use Rattle.clap.specs.Kinds.{Kinds, or_else}
 use Rattle.clap.specs.Walk.{has_long, has_short, subcommand_met, Held, Outcome, Row, Rule, Step, Text, Walk, Names, idle, plain, trailing, walk, walked, walk_from, nothing_held, after_step}
@@ -17,8 +18,8 @@ use Rattle.cw_words.specs.Command.{command_name}
 use Rattle.cw_words.specs.Requests.{AreRead, Words, faults, words_in}
 use Rattle.cw_words.specs.declared.verb.Verb.{Verb}
 use Rattle.cw_words.specs.declared.verb.Verb.TheVariants as verb
-use Rattle.cw_words.proofs.Reading.{check, gain, greedy, line, run, scale, sites, speedup, level, shape_of, stopped_at, stopped_walk}
-use Rattle.cw_words.proofs.Filled.{NamesNoSource, NotSource, filled_finished, given_first}
+use Rattle.cw_words.proofs.Reading.{check, gain, greedy, line, page, run, scale, sites, speedup, level, shape_of, stopped_at, stopped_walk}
+use Rattle.cw_words.proofs.Filled.{IsSource, NamesNoSource, NotSource, filled_finished, given_first}
 
 both_none : (a b : Kinds) → or_else a b ≡ [] → (a ≡ []) × (b ≡ [])
 both_none [] b h = (refl, h)
@@ -150,26 +151,27 @@ subcommand_is : (word : Text) → (subcommand_met names idle word ≡ None)
     ⊎ (((m : Verb) × (subcommand_met names idle word ≡ Some (command_name m))) ⊎ (subcommand_met names idle word ≡ Some (codes "help")))
 subcommand_is word =
     go (bytes_eq (codes "check") word) (bytes_eq (codes "run") word) (bytes_eq (codes "scale") word)
-    (bytes_eq (codes "sites") word) (bytes_eq (codes "gain") word) (bytes_eq (codes "greedy") word) (bytes_eq (codes "speedup") word) (bytes_eq (codes "help") word)
+    (bytes_eq (codes "sites") word) (bytes_eq (codes "gain") word) (bytes_eq (codes "greedy") word) (bytes_eq (codes "speedup") word) (bytes_eq (codes "page") word) (bytes_eq (codes "help") word)
   where
     met : Bool → Text → Option (Text × List Text) → Option (Text × List Text)
     met b name rest = cond (b || false) (Some (name, [])) rest
 
-    name : (a b c d e f g h : Bool) → Option Text
-    name a b c d e f g h =
+    name : (a b c d e f g p h : Bool) → Option Text
+    name a b c d e f g p h =
         option_map (λ (s : Text × List Text). s.0) (met a (codes "check") (met b (codes "run") (met c (codes "scale")
-        (met d (codes "sites") (met e (codes "gain") (met f (codes "greedy") (met g (codes "speedup") (met h (codes "help") None))))))))
+        (met d (codes "sites") (met e (codes "gain") (met f (codes "greedy") (met g (codes "speedup") (met p (codes "page") (met h (codes "help") None)))))))))
 
-    go : (a b c d e f g h : Bool) → (name a b c d e f g h ≡ None) ⊎ (((m : Verb) × (name a b c d e f g h ≡ Some (command_name m))) ⊎ (name a b c d e f g h ≡ Some (codes "help")))
-    go true b c d e f g h = inr (inl (verb.Check, refl))
-    go false true c d e f g h = inr (inl (verb.Run, refl))
-    go false false true d e f g h = inr (inl (verb.Scale, refl))
-    go false false false true e f g h = inr (inl (verb.Sites, refl))
-    go false false false false true f g h = inr (inl (verb.Gain, refl))
-    go false false false false false true g h = inr (inl (verb.Greedy, refl))
-    go false false false false false false true h = inr (inl (verb.Speedup, refl))
-    go false false false false false false false true = inr (inr refl)
-    go false false false false false false false false = inl refl
+    go : (a b c d e f g p h : Bool) → (name a b c d e f g p h ≡ None) ⊎ (((m : Verb) × (name a b c d e f g p h ≡ Some (command_name m))) ⊎ (name a b c d e f g p h ≡ Some (codes "help")))
+    go true b c d e f g p h = inr (inl (verb.Check, refl))
+    go false true c d e f g p h = inr (inl (verb.Run, refl))
+    go false false true d e f g p h = inr (inl (verb.Scale, refl))
+    go false false false true e f g p h = inr (inl (verb.Sites, refl))
+    go false false false false true f g p h = inr (inl (verb.Gain, refl))
+    go false false false false false true g p h = inr (inl (verb.Greedy, refl))
+    go false false false false false false true p h = inr (inl (verb.Speedup, refl))
+    go false false false false false false false true h = inr (inl (verb.Page, refl))
+    go false false false false false false false false true = inr (inr refl)
+    go false false false false false false false false false = inl refl
 
 stops : (words : List Text) → walk_fault line.top names start words ≡ [] → Stops (walk_on start words)
 unfolding walk_fault walked
@@ -179,78 +181,62 @@ stops (word ∷ words) h = let parts = both_none (turn_by (subcommand_met names 
 
 -- ---- the words after the command
 
-number_or_help : (a b c d e : Bool) → NotSource (cond a (Some (first (drop 2 run.rules)))
-    (cond b (Some (first (drop 3 run.rules))) (cond c (Some (first (drop 4 run.rules)))
-    (cond d (Some (first (drop 5 run.rules))) (cond e (Some (first (drop 6 run.rules))) None)))))
-number_or_help true b c d e = λ is. cc
-number_or_help false true c d e = λ is. cc
-number_or_help false false true d e = λ is. cc
-number_or_help false false false true e = λ is. cc
-number_or_help false false false false true = λ is. cc
-number_or_help false false false false false = tt
+-- a rule is not the rule of the source, or a test fails on it
+abbrev Passes : (Rule → Bool) → Rule → Type 0
+Passes test a = (test a ≡ false) ⊎ (IsSource a.id → ⊥)
 
-help_or_none : (a : Bool) → NotSource (cond a (Some (first (drop 1 check.rules))) None)
-help_or_none true = λ is. cc
-help_or_none false = tt
+abbrev AllPass : (Rule → Bool) → List Rule → Type 0
+AllPass test [] = Unit {0}
+AllPass test (a ∷ c) = Passes test a × AllPass test c
 
-no_number_of_source : NamesNoSource run.rules
-no_number_of_source = (
-  (λ name. number_or_help (has_long (first (drop 2 run.rules)) name) (has_long (first (drop 3 run.rules)) name)
-      (has_long (first (drop 4 run.rules)) name) (has_long (first (drop 5 run.rules)) name) (has_long (first (drop 6 run.rules)) name)),
-  (λ x. number_or_help false false false false (has_short (first (drop 6 run.rules)) x)),
-)
+found_no_source : (test : Rule → Bool) (c : List Rule) → AllPass test c → NotSource (find test c)
+found_no_source test [] passes = tt
+found_no_source test (a ∷ c) passes = go (test a) refl passes.0 (found_no_source test c passes.1)
+  where
+    go : (b : Bool) → test a ≡ b → Passes test a → NotSource (find test c) → NotSource (cond b (Some a) (find test c))
+    go true is (inl fails) later = absurd (false≢true (sym fails ∙ is))
+    go true is (inr differs) later = differs
+    go false is passed later = later
 
-top_or_help : (a b c d e f : Bool) → NotSource (cond a (Some (first (drop 2 gain.rules)))
-    (cond b (Some (first (drop 3 gain.rules))) (cond c (Some (first (drop 4 gain.rules)))
-    (cond d (Some (first (drop 5 gain.rules))) (cond e (Some (first (drop 6 gain.rules))) (cond f (Some (first (drop 7 gain.rules))) None))))))
-top_or_help true b c d e f = λ is. cc
-top_or_help false true c d e f = λ is. cc
-top_or_help false false true d e f = λ is. cc
-top_or_help false false false true e f = λ is. cc
-top_or_help false false false false true f = λ is. cc
-top_or_help false false false false false true = λ is. cc
-top_or_help false false false false false false = tt
+-- the tests by which a flag finds its rule
+abbrev by_long : Text → Rule → Bool
+by_long name a = not (is_some a.index) && has_long a name
 
-up_to_or_help : (a b c d e f : Bool) → NotSource (cond a (Some (first (drop 2 speedup.rules)))
-    (cond b (Some (first (drop 3 speedup.rules))) (cond c (Some (first (drop 4 speedup.rules)))
-    (cond d (Some (first (drop 5 speedup.rules))) (cond e (Some (first (drop 6 speedup.rules))) (cond f (Some (first (drop 7 speedup.rules))) None))))))
-up_to_or_help true b c d e f = λ is. cc
-up_to_or_help false true c d e f = λ is. cc
-up_to_or_help false false true d e f = λ is. cc
-up_to_or_help false false false true e f = λ is. cc
-up_to_or_help false false false false true f = λ is. cc
-up_to_or_help false false false false false true = λ is. cc
-up_to_or_help false false false false false false = tt
-
-limit_or_help : (a b c : Bool) → NotSource (cond a (Some (first (drop 3 greedy.rules))) (cond b (Some (first (drop 4 greedy.rules))) (cond c (Some (first (drop 5 greedy.rules))) None)))
-limit_or_help true b c = λ is. cc
-limit_or_help false true c = λ is. cc
-limit_or_help false false true = λ is. cc
-limit_or_help false false false = tt
+abbrev by_short : ℕ → Rule → Bool
+by_short x a = not (is_some a.index) && has_short a x
 
 no_flag_of_source : (m : Verb) → NamesNoSource (shape_of m).rules
 no_flag_of_source verb.Check = (
-  (λ name. help_or_none (has_long (first (drop 1 check.rules)) name)),
-  (λ x. help_or_none (has_short (first (drop 1 check.rules)) x)),
+  (λ name. found_no_source (by_long name) check.rules (inl refl, (inr (λ is. cc), tt))),
+  (λ x. found_no_source (by_short x) check.rules (inl refl, (inr (λ is. cc), tt))),
 )
-no_flag_of_source verb.Run = no_number_of_source
-no_flag_of_source verb.Scale = no_number_of_source
-no_flag_of_source verb.Sites = no_number_of_source
+no_flag_of_source verb.Run = (
+  (λ name. found_no_source (by_long name) run.rules (inl refl, (inl refl, (inr (λ is. cc), (inr (λ is. cc), (inr (λ is. cc), (inr (λ is. cc), (inr (λ is. cc), tt)))))))),
+  (λ x. found_no_source (by_short x) run.rules (inl refl, (inl refl, (inr (λ is. cc), (inr (λ is. cc), (inr (λ is. cc), (inr (λ is. cc), (inr (λ is. cc), tt)))))))),
+)
+no_flag_of_source verb.Scale = (
+  (λ name. found_no_source (by_long name) scale.rules (inl refl, (inl refl, (inr (λ is. cc), (inr (λ is. cc), (inr (λ is. cc), (inr (λ is. cc), (inr (λ is. cc), (inr (λ is. cc), tt))))))))),
+  (λ x. found_no_source (by_short x) scale.rules (inl refl, (inl refl, (inr (λ is. cc), (inr (λ is. cc), (inr (λ is. cc), (inr (λ is. cc), (inr (λ is. cc), (inr (λ is. cc), tt))))))))),
+)
+no_flag_of_source verb.Sites = (
+  (λ name. found_no_source (by_long name) sites.rules (inl refl, (inl refl, (inr (λ is. cc), (inr (λ is. cc), (inr (λ is. cc), (inr (λ is. cc), (inr (λ is. cc), (inr (λ is. cc), tt))))))))),
+  (λ x. found_no_source (by_short x) sites.rules (inl refl, (inl refl, (inr (λ is. cc), (inr (λ is. cc), (inr (λ is. cc), (inr (λ is. cc), (inr (λ is. cc), (inr (λ is. cc), tt))))))))),
+)
 no_flag_of_source verb.Gain = (
-  (λ name. top_or_help (has_long (first (drop 2 gain.rules)) name) (has_long (first (drop 3 gain.rules)) name)
-      (has_long (first (drop 4 gain.rules)) name) (has_long (first (drop 5 gain.rules)) name) (has_long (first (drop 6 gain.rules)) name)
-      (has_long (first (drop 7 gain.rules)) name)),
-  (λ x. top_or_help false false false false false (has_short (first (drop 7 gain.rules)) x)),
+  (λ name. found_no_source (by_long name) gain.rules (inl refl, (inl refl, (inr (λ is. cc), (inr (λ is. cc), (inr (λ is. cc), (inr (λ is. cc), (inr (λ is. cc), (inr (λ is. cc), (inr (λ is. cc), tt)))))))))),
+  (λ x. found_no_source (by_short x) gain.rules (inl refl, (inl refl, (inr (λ is. cc), (inr (λ is. cc), (inr (λ is. cc), (inr (λ is. cc), (inr (λ is. cc), (inr (λ is. cc), (inr (λ is. cc), tt)))))))))),
 )
 no_flag_of_source verb.Greedy = (
-  (λ name. limit_or_help (has_long (first (drop 3 greedy.rules)) name) (has_long (first (drop 4 greedy.rules)) name) (has_long (first (drop 5 greedy.rules)) name)),
-  (λ x. limit_or_help false false (has_short (first (drop 5 greedy.rules)) x)),
+  (λ name. found_no_source (by_long name) greedy.rules (inl refl, (inl refl, (inl refl, (inr (λ is. cc), (inr (λ is. cc), (inr (λ is. cc), tt))))))),
+  (λ x. found_no_source (by_short x) greedy.rules (inl refl, (inl refl, (inl refl, (inr (λ is. cc), (inr (λ is. cc), (inr (λ is. cc), tt))))))),
 )
 no_flag_of_source verb.Speedup = (
-  (λ name. up_to_or_help (has_long (first (drop 2 speedup.rules)) name) (has_long (first (drop 3 speedup.rules)) name)
-      (has_long (first (drop 4 speedup.rules)) name) (has_long (first (drop 5 speedup.rules)) name) (has_long (first (drop 6 speedup.rules)) name)
-      (has_long (first (drop 7 speedup.rules)) name)),
-  (λ x. up_to_or_help false false false false false (has_short (first (drop 7 speedup.rules)) x)),
+  (λ name. found_no_source (by_long name) speedup.rules (inl refl, (inl refl, (inr (λ is. cc), (inr (λ is. cc), (inr (λ is. cc), (inr (λ is. cc), (inr (λ is. cc), (inr (λ is. cc), (inr (λ is. cc), tt)))))))))),
+  (λ x. found_no_source (by_short x) speedup.rules (inl refl, (inl refl, (inr (λ is. cc), (inr (λ is. cc), (inr (λ is. cc), (inr (λ is. cc), (inr (λ is. cc), (inr (λ is. cc), (inr (λ is. cc), tt)))))))))),
+)
+no_flag_of_source verb.Page = (
+  (λ name. found_no_source (by_long name) page.rules (inl refl, (inl refl, (inr (λ is. cc), (inr (λ is. cc), (inr (λ is. cc), (inr (λ is. cc), (inr (λ is. cc), (inr (λ is. cc), (inr (λ is. cc), tt)))))))))),
+  (λ x. found_no_source (by_short x) page.rules (inl refl, (inl refl, (inr (λ is. cc), (inr (λ is. cc), (inr (λ is. cc), (inr (λ is. cc), (inr (λ is. cc), (inr (λ is. cc), (inr (λ is. cc), tt)))))))))),
 )
 
 -- a source is required
@@ -275,6 +261,7 @@ source_given m rows h = of_verb m h
     of_verb verb.Gain e = go (is_given (codes "FILE") rows) e
     of_verb verb.Greedy e = behind (is_given (codes "P") rows) (is_given (codes "FILE") rows) e
     of_verb verb.Speedup e = go (is_given (codes "FILE") rows) e
+    of_verb verb.Page e = go (is_given (codes "FILE") rows) e
 
 -- a subcommand is required
 stopped_somewhere : (rows : List Row) (w : Walk) → w.stopped ≡ None → check_fault line.top rows (is_some (entered line w.stopped)) ≡ [] → ⊥
@@ -314,6 +301,7 @@ below_of verb.Sites rest h = at_level sites rest h
 below_of verb.Gain rest h = at_level gain rest h
 below_of verb.Greedy rest h = at_level greedy rest h
 below_of verb.Speedup rest h = at_level speedup rest h
+below_of verb.Page rest h = at_level page rest h
 
 entered_is : (m : Verb) (rest : List Text) → entered line (Some (command_name m, rest)) ≡ Some (command_name m, finished (shape_of m).rules (walk (shape_of m).rules [] nothing_held rest).held)
 entered_is verb.Check rest = refl
@@ -323,6 +311,7 @@ entered_is verb.Sites rest = refl
 entered_is verb.Gain rest = refl
 entered_is verb.Greedy rest = refl
 entered_is verb.Speedup rest = refl
+entered_is verb.Page rest = refl
 
 pub taken : (given : List Text) → faults given ≡ [] → (words : Words) × AreRead given words
 taken given h =
@@ -346,6 +335,7 @@ taken given h =
               args_are = refl;
               numbers_are = refl;
               edges_are = refl;
+              table_is = refl;
             },
           )
     ]

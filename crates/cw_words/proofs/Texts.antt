@@ -1,5 +1,5 @@
 -- Texts that are borrowed.
-use Rattle.std.proofs.Common.{◌≡◌, ℕ, ℤ, List, [], ◌∷◌, map, pos, zero, suc, arith, refl, ap, sym, ◌∙◌, subst, Option, Some, None, option_map, unwrap_or, Bor}
+use Rattle.std.proofs.Common.{◌≡◌, ℕ, ℤ, List, [], ◌∷◌, map, pos, zero, suc, arith, refl, ap, sym, ◌∙◌, subst, Bool, Option, Some, None, option_map, unwrap_or, Bor}
 use Rattle.std.specs.List.{All}
 use Rattle.std.proofs.lemmas.List.Elements.{All-map}
 use Rattle.clap.specs.Words.{Text, first_of, first_value, matched_of, raw_values, rows_of}
@@ -80,8 +80,8 @@ unless_weaker P Q fault.Write w h = h
 unless_weaker P Q (fault.Strands n) w h = h
 
 -- the options for which the words give numbers
-pub options_given : (v : Verb) (m : Mode) (limit charge processors up_to top workers l b p u t w : ℕ) (edges : Edges) (word : Text)
-    → m ≡ mode_with v processors up_to top → limit ≡ l → charge ≡ b → edges_name edges ≡ word → processors ≡ p → up_to ≡ u → top ≡ t → workers ≡ w
-    → AreOptionsOf v (l ∷ b ∷ p ∷ u ∷ t ∷ w ∷ []) word (record { mode = m; limit = limit; burden = record { charge = charge; edges = edges } }) workers
-options_given v m limit charge processors up_to top workers l b p u t w edges word is limit_is charge_is edges_are processors_is up_to_is top_is workers_is =
-    (is ∙ ap (λ n. mode_with v n up_to top) processors_is ∙ ap (λ n. mode_with v p n top) up_to_is ∙ ap (mode_with v p u) top_is, limit_is, charge_is, edges_are, workers_is)
+pub options_given : (v : Verb) (m : Mode) (limit charge processors up_to top workers l b p u t w : ℕ) (edges : Edges) (word : Text) (table given : Bool)
+    → m ≡ mode_with v processors up_to top → limit ≡ l → charge ≡ b → edges_name edges ≡ word → table ≡ given → processors ≡ p → up_to ≡ u → top ≡ t → workers ≡ w
+    → AreOptionsOf v (l ∷ b ∷ p ∷ u ∷ t ∷ w ∷ []) word given (record { mode = m; limit = limit; burden = record { charge = charge; edges = edges }; table = table }) workers
+options_given v m limit charge processors up_to top workers l b p u t w edges word table given is limit_is charge_is edges_are table_is processors_is up_to_is top_is workers_is =
+    (is ∙ ap (λ n. mode_with v n up_to top) processors_is ∙ ap (λ n. mode_with v p n top) up_to_is ∙ ap (mode_with v p u) top_is, limit_is, charge_is, edges_are, table_is, workers_is)

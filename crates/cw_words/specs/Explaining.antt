@@ -1,10 +1,11 @@
 -- The words that ask for explanations and for the version.
-use Rattle.std.specs.Prelude.{◌≡◌, Bool, true, false, if◌then◌else◌, List, [], ◌∷◌, codes, string_bytes}
+use Rattle.std.specs.Prelude.{◌≡◌, Bool, true, false, if◌then◌else◌, List, [], ◌∷◌, ◌++◌, codes, string_bytes}
 use Rattle.std.specs.Str.{bytes_eq}
 use Rattle.clap.specs.Words.{Text}
 use Rattle.cw_text.specs.declared.fault.Fault.TheVariants as fault
 use Rattle.cw_words.specs.declared.asked.Said.{Said}
 use Rattle.cw_words.specs.declared.asked.Said.TheVariants as said
+use Rattle.cw_words.specs.declared.release.TheConstants.{RELEASE}
 
 -- a word `--explain` occurs before the first word `--`
 abbrev pub asks_explain : List Text → Bool
@@ -27,6 +28,6 @@ asks_version (word ∷ other ∷ words) = false
 
 -- the name of the program with its version, unless memory ran out
 abbrev pub IsVersion : Said → Type 0
-IsVersion (said.Help text) = string_bytes text ≡ codes "cilkwork 0.1.0\n"
+IsVersion (said.Help text) = string_bytes text ≡ codes "cilkwork " ++ (RELEASE.now ++ codes "\n")
 IsVersion (said.Misuse text) = ⊥
 IsVersion (said.Fault f) = f ≡ fault.Memory

@@ -15,5 +15,5 @@ mod words;
 
 pub use asked::{Mode, Options, Request, Said};
 pub use explaining::take_explain;
-pub use release::{is_version, version};
+pub use release::{RELEASE, is_version, version};
 pub use words::request;

@@ -7,6 +7,9 @@ use crate::asked::Said;
 use cw_text::Fault;
 use std::alloc::Global;
 
+/// The version, without the name of the program.
+pub const RELEASE: &str = "0.1.0";
+
 /// The output of `--version` and `-V`.
 const VERSION: &str = "cilkwork 0.1.0\n";
 

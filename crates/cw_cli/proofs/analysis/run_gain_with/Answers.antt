@@ -10,12 +10,12 @@ use Rattle.cw_cli.proofs.Runs.{out_of_range}
 use Rattle.cw_cli.proofs.analysis.run_gain_with.Goals as goal
 
 pub returns-in_err-most : goal.returns-in_err-most
-returns-in_err-most g c = λ bytes is made.
-    handed_on _ _ _ c.from_residual.result (out_of_range g.W.Sink.seen c.args.out.now bytes c.args.args.now c.args.options _ made.compiled (mode.Gain c.args.top) _ is c.in_err-most.ensures.0 c.in_err-most.ensures.1)
+returns-in_err-most g c = λ name bytes is made.
+    handed_on _ _ _ c.from_residual.result (out_of_range g.W.Sink.seen c.args.out.now name bytes c.args.args.now c.args.options _ made.compiled (mode.Gain c.args.top) _ is c.in_err-most.ensures.0 c.in_err-most.ensures.1)
     c.from_residual.ensures.1
 
 pub returns : goal.returns
-returns g c = λ bytes is made.
+returns g c = λ name bytes is made.
     let code = c.in_ok-code.code.value in
     let limit = c.args.options.limit in
     let burden = c.args.options.burden in
@@ -25,7 +25,7 @@ returns g c = λ bytes is made.
     let of_most : c.args.options.mode ≡ mode.Gain c.in_ok-most.most = subst (λ n. c.args.options.mode ≡ mode.Gain n) (sym c.in_ok-most.ensures.0) is in
     let of_code = subst (λ v. AreMade bytes v c.args.made.heads.items) (sym c.in_ok-code.ensures.ok) made in
     let of_heads = subst (λ hs. AreMade bytes c.in_ok-code.code.value hs) (sym c.as_slice-heads.ensures.value) of_code in
-    c.write_gains.ensures bytes c.in_ok-code.code.value c.as_slice-heads.result.now c.in_ok-most.most of_most of_mode of_heads
+    c.write_gains.ensures name bytes c.in_ok-code.code.value c.as_slice-heads.result.now c.in_ok-most.most of_most of_mode of_heads
     (c.gains_of_run_with-gains.ensures ran)
 
 pub gains_of_run_with-gains-requires : goal.gains_of_run_with-gains-requires

@@ -4,19 +4,19 @@ use Rattle.cw_cli.proofs.Runs.{values_tell, finished, stopped, unwritten}
 use Rattle.cw_cli.proofs.reporting.write_values.Goals as goal
 
 pub returns-in_err-answer : goal.returns-in_err-answer
-returns-in_err-answer g c = λ bytes runs compiled ran.
+returns-in_err-answer g c = λ name bytes runs compiled ran.
     handed_on _ _ _ c.from_residual.result
-    (unwritten bytes c.args.args.now c.are_words.ensures c.args.options _ compiled _ _ _ (values_tell bytes c.args.args.now c.are_words.ensures c.args.options _ compiled runs) g.W.Sink.seen c.args.out.now c.answer.new.to c.args.values ran c.in_err-answer.ensures.idle _ c.in_err-answer.ensures.answers)
+    (unwritten name bytes c.args.args.now c.are_words.ensures c.args.options _ compiled _ _ _ (values_tell name bytes c.args.args.now c.are_words.ensures c.args.options _ compiled runs) g.W.Sink.seen c.args.out.now c.answer.new.to c.args.values ran c.in_err-answer.ensures.idle _ c.in_err-answer.ensures.answers)
     c.from_residual.ensures.1
 
 pub returns-in_err-values : goal.returns-in_err-values
-returns-in_err-values g c = λ bytes runs compiled ran.
+returns-in_err-values g c = λ name bytes runs compiled ran.
     let is : c.args.values ≡ Err c.in_err-values.field-0.0 = c.in_err-values.was in
     handed_on _ _ _ c.from_residual-in_err-values.result
-    (stopped bytes c.args.args.now c.are_words.ensures c.args.options _ compiled _ _ _ (values_tell bytes c.args.args.now c.are_words.ensures c.args.options _ compiled runs) g.W.Sink.seen c.args.out.now c.answer.new.to c.args.values _ is ran c.in_ok-answer.ensures.answers c.in_ok-answer.ensures.idle)
+    (stopped name bytes c.args.args.now c.are_words.ensures c.args.options _ compiled _ _ _ (values_tell name bytes c.args.args.now c.are_words.ensures c.args.options _ compiled runs) g.W.Sink.seen c.args.out.now c.answer.new.to c.args.values _ is ran c.in_ok-answer.ensures.answers c.in_ok-answer.ensures.idle)
     c.from_residual-in_err-values.ensures.1
 
 pub returns : goal.returns
-returns g c = λ bytes runs compiled ran.
+returns g c = λ name bytes runs compiled ran.
     let is : c.args.values ≡ Ok c.in_ok-values.field-0 = c.in_ok-values.was in
-    finished bytes c.args.args.now c.are_words.ensures c.args.options _ compiled _ _ _ (values_tell bytes c.args.args.now c.are_words.ensures c.args.options _ compiled runs) g.W.Sink.seen c.args.out.now c.answer.new.to c.args.values _ is ran c.in_ok-answer.ensures.answers c.in_ok-answer.ensures.idle
+    finished name bytes c.args.args.now c.are_words.ensures c.args.options _ compiled _ _ _ (values_tell name bytes c.args.args.now c.are_words.ensures c.args.options _ compiled runs) g.W.Sink.seen c.args.out.now c.answer.new.to c.args.values _ is ran c.in_ok-answer.ensures.answers c.in_ok-answer.ensures.idle

@@ -23,10 +23,11 @@ returns c =
     let alone : app_of c.no_binary_name.result ≡ without_name (new_app (codes "cilkwork")) = ap app_of_fields c.no_binary_name.ensures ∙ ap without_name named in
     let new_is : app_of c.subcommand_required.result ≡ with_words_alone (new_app (codes "cilkwork")) =
     ap app_of_fields c.subcommand_required.ensures ∙ ap with_command alone in
-    c.in_ok-speedup.ensures.below _ _ c.in_ok-command.ensures
+    c.in_ok-page.ensures.below _ _ c.in_ok-command.ensures
+    ∙ ap (below verb.Page) (c.in_ok-speedup.ensures.below _ _ c.in_ok-subcommand-7.ensures
     ∙ ap (below verb.Speedup) (c.in_ok-greedy.ensures.below _ _ c.in_ok-subcommand-6.ensures
     ∙ ap (below verb.Greedy) (c.in_ok-gain.ensures.below _ _ c.in_ok-subcommand-5.ensures
     ∙ ap (below verb.Gain) (c.in_ok-sites.ensures.below _ _ c.in_ok-subcommand-4.ensures
     ∙ ap (below verb.Sites) (c.in_ok-scale.ensures.below _ _ c.in_ok-subcommand-3.ensures
     ∙ ap (below verb.Scale) (c.in_ok-run.ensures.below _ _ c.in_ok-subcommand-2.ensures
-    ∙ ap (below verb.Run) (c.in_ok-check.ensures.below _ _ c.in_ok-subcommand.ensures ∙ ap (below verb.Check) new_is))))))
+    ∙ ap (below verb.Run) (c.in_ok-check.ensures.below _ _ c.in_ok-subcommand.ensures ∙ ap (below verb.Check) new_is)))))))

@@ -37,27 +37,32 @@ usual =
 read : WordExamples
 unfolding clap_on_literals
 read = (
-  record { rows = _; command = (refl, refl); file_is = refl; args_are = refl; numbers_are = refl; edges_are = refl },
-  record { rows = _; command = (refl, refl); file_is = refl; args_are = refl; numbers_are = refl; edges_are = refl },
-  record { rows = _; command = (refl, refl); file_is = refl; args_are = refl; numbers_are = refl; edges_are = refl },
-  record { rows = _; command = (refl, refl); file_is = refl; args_are = refl; numbers_are = refl; edges_are = refl },
-  record { rows = _; command = (refl, refl); file_is = refl; args_are = refl; numbers_are = refl; edges_are = refl },
-  record { rows = _; command = (refl, refl); file_is = refl; args_are = refl; numbers_are = refl; edges_are = refl },
-  record { rows = _; command = (refl, refl); file_is = refl; args_are = refl; numbers_are = refl; edges_are = refl },
-  record { rows = _; command = (refl, refl); file_is = refl; args_are = refl; numbers_are = refl; edges_are = refl },
-  record { rows = _; command = (refl, refl); file_is = refl; args_are = refl; numbers_are = refl; edges_are = refl },
-  record { rows = _; command = (refl, refl); file_is = refl; args_are = refl; numbers_are = refl; edges_are = refl },
-  record { rows = _; command = (refl, refl); file_is = refl; args_are = refl; numbers_are = refl; edges_are = refl },
-  record { rows = _; command = (refl, refl); file_is = refl; args_are = refl; numbers_are = refl; edges_are = refl },
-  record { rows = _; command = (refl, refl); file_is = refl; args_are = refl; numbers_are = refl; edges_are = refl },
-  record { rows = _; command = (refl, refl); file_is = refl; args_are = refl; numbers_are = refl; edges_are = refl },
-  record { rows = _; command = (refl, refl); file_is = refl; args_are = refl; numbers_are = refl; edges_are = refl },
-  record { rows = _; command = (refl, refl); file_is = refl; args_are = refl; numbers_are = refl; edges_are = refl },
+  record { rows = _; command = (refl, refl); file_is = refl; args_are = refl; numbers_are = refl; edges_are = refl; table_is = refl },
+  record { rows = _; command = (refl, refl); file_is = refl; args_are = refl; numbers_are = refl; edges_are = refl; table_is = refl },
+  record { rows = _; command = (refl, refl); file_is = refl; args_are = refl; numbers_are = refl; edges_are = refl; table_is = refl },
+  record { rows = _; command = (refl, refl); file_is = refl; args_are = refl; numbers_are = refl; edges_are = refl; table_is = refl },
+  record { rows = _; command = (refl, refl); file_is = refl; args_are = refl; numbers_are = refl; edges_are = refl; table_is = refl },
+  record { rows = _; command = (refl, refl); file_is = refl; args_are = refl; numbers_are = refl; edges_are = refl; table_is = refl },
+  record { rows = _; command = (refl, refl); file_is = refl; args_are = refl; numbers_are = refl; edges_are = refl; table_is = refl },
+  record { rows = _; command = (refl, refl); file_is = refl; args_are = refl; numbers_are = refl; edges_are = refl; table_is = refl },
+  record { rows = _; command = (refl, refl); file_is = refl; args_are = refl; numbers_are = refl; edges_are = refl; table_is = refl },
+  record { rows = _; command = (refl, refl); file_is = refl; args_are = refl; numbers_are = refl; edges_are = refl; table_is = refl },
+  record { rows = _; command = (refl, refl); file_is = refl; args_are = refl; numbers_are = refl; edges_are = refl; table_is = refl },
+  record { rows = _; command = (refl, refl); file_is = refl; args_are = refl; numbers_are = refl; edges_are = refl; table_is = refl },
+  record { rows = _; command = (refl, refl); file_is = refl; args_are = refl; numbers_are = refl; edges_are = refl; table_is = refl },
+  record { rows = _; command = (refl, refl); file_is = refl; args_are = refl; numbers_are = refl; edges_are = refl; table_is = refl },
+  record { rows = _; command = (refl, refl); file_is = refl; args_are = refl; numbers_are = refl; edges_are = refl; table_is = refl },
+  record { rows = _; command = (refl, refl); file_is = refl; args_are = refl; numbers_are = refl; edges_are = refl; table_is = refl },
+  record { rows = _; command = (refl, refl); file_is = refl; args_are = refl; numbers_are = refl; edges_are = refl; table_is = refl },
+  record { rows = _; command = (refl, refl); file_is = refl; args_are = refl; numbers_are = refl; edges_are = refl; table_is = refl },
+  record { rows = _; command = (refl, refl); file_is = refl; args_are = refl; numbers_are = refl; edges_are = refl; table_is = refl },
+  record { rows = _; command = (refl, refl); file_is = refl; args_are = refl; numbers_are = refl; edges_are = refl; table_is = refl },
+  record { rows = _; command = (refl, refl); file_is = refl; args_are = refl; numbers_are = refl; edges_are = refl; table_is = refl },
 )
 
 refused : RefusalExamples
 unfolding clap_on_literals
-refused = (refl, refl, refl, refl, refl, refl, refl, refl, refl, refl, refl, refl, refl, refl, refl, refl, refl, refl, refl, refl, refl, refl, refl, refl, refl, refl, refl, refl, refl, refl, refl, refl, refl, refl, refl, refl)
+refused = (refl, refl, refl, refl, refl, refl, refl, refl, refl, refl, refl, refl, refl, refl, refl, refl, refl, refl, refl, refl, refl, refl, refl, refl, refl, refl, refl, refl, refl, refl, refl, refl, refl, refl, refl, refl, refl, refl, refl, refl, refl, refl, refl)
 
 pub returns : goal.returns
 returns c = record { usual = usual; read = read; refused = refused }

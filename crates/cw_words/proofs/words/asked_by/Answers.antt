@@ -75,6 +75,6 @@ returns-clause-ok c =
         in_range = (arguments_given _ _ given c.in_ok-args.ensures.digits, (limit.0, (burden.0, (processors.0, (up_to.0, (top.0, (workers.0, tt)))))));
         file_is = refl;
         args_are = values_given _ _ _ given c.in_ok-args.ensures.ok;
-        options_are = options_given c.args.verb c.mode_of.result _ _ _ _ _ _ _ _ _ _ _ _ _ _ c.mode_of.ensures limit.1 burden.1 edges processors.1 up_to.1 top.1 workers.1;
+        options_are = options_given c.args.verb c.mode_of.result _ _ _ _ _ _ _ _ _ _ _ _ _ _ _ _ c.mode_of.ensures limit.1 burden.1 edges c.asks_table.ensures processors.1 up_to.1 top.1 workers.1;
       };
     }

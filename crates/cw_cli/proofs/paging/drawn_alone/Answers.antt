@@ -1,0 +1,16 @@
+use Rattle.std.proofs.Common.{◌≡◌, true, rules, subst}
+use Rattle.cw_facts.specs.Options.{handed_on}
+use Rattle.cw_code.specs.Code.{code_view}
+use Rattle.cw_speedup.specs.Speedups.{IsNotSpedUp}
+use Rattle.cw_cli.specs.Pages.{asked_for, is_asked}
+use Rattle.cw_cli.proofs.Drawing.{unsped}
+use Rattle.cw_cli.proofs.paging.drawn_alone.Goals as goal
+
+pub returns-in_err-speedup : goal.returns-in_err-speedup
+returns-in_err-speedup c =
+    let code = code_view c.args.code.now.value.code in
+    let given = asked_for c.args.args.now c.args.limit c.args.burden c.args.top c.args.most in
+    let asked : is_asked code given ≡ true = search rules in
+    let why : IsNotSpedUp code c.args.args.now c.args.limit c.args.burden c.args.most c.in_err-speedup.field-0.0 =
+    subst (λ v. IsNotSpedUp (code_view v.code) c.args.args.now c.args.limit c.args.burden c.args.most c.in_err-speedup.field-0.0) c.in_ok-share-2.ensures c.in_err-speedup.ensures in
+    handed_on _ _ _ c.from_residual-in_err-speedup.result (unsped code c.args.heads.now given asked _ why) c.from_residual-in_err-speedup.ensures.1
