@@ -79,6 +79,13 @@ const MISUSED: &[Row] = &[
         "",
         "arguments\nerror: invalid value '0' for '<P>': it is a number from 1 to 1000000, in decimal digits only\nerror: invalid value 'x' for '[ARGS]...': it is a number from 0 to 9223372036854775807, in decimal digits only\n",
     ),
+    (
+        "page f --processors 0 --explain",
+        "",
+        5,
+        "",
+        "arguments\nerror: invalid value '0' for '--processors <N>': it is a number from 1 to 1000000, in decimal digits only\n",
+    ),
     ("run f --limit 0", "", 5, "", "arguments\n"),
 ];
 

@@ -280,6 +280,8 @@ const NO_NUMBERS: &[Misuse] = &[
     ("scale f 9223372036854775808", "arguments\n"),
     ("sites f --limit 0", "arguments\n"),
     ("sites f 1 x", "arguments\n"),
+    ("page f --top 0", "arguments\n"),
+    ("page f --processors 1000001", "arguments\n"),
 ];
 
 #[test]
@@ -371,6 +373,22 @@ const NO_TABLES: &[Misuse] = &[
         "greedy 2 f --edges both",
         "error: unexpected argument '--edges' found\n",
     ),
+    (
+        "page",
+        "error: the following required arguments were not provided:\n",
+    ),
+    (
+        "page f --table",
+        "error: unexpected argument '--table' found\n",
+    ),
+    (
+        "greedy 2 f --table",
+        "error: unexpected argument '--table' found\n",
+    ),
+    (
+        "scale f --table --table",
+        "error: the argument '--table' cannot be used multiple times\n",
+    ),
 ];
 
 #[test]
@@ -445,6 +463,8 @@ const PROGRAM: &[Help] = &[(
         "  4  over limit ",
         "  sites  ",
         "  gain   ",
+        "  speedup  ",
+        "  page     ",
         "some seconds",
         "  --explain  ",
         "  --edges   spawn charges",
@@ -498,6 +518,25 @@ const COMMANDS: &[Help] = &[
             "<P> <FILE> [ARGS]...",
             "  greedy      ",
             "--workers <N>  The number of threads that execute the run [default: 2]\n",
+        ],
+    ),
+    (
+        "speedup --help",
+        "Runs a program",
+        &[
+            "  burdened_speedup  ",
+            "--processors <N>",
+            "[default: 64]",
+            "--table",
+        ],
+    ),
+    (
+        "page --help",
+        "Runs a program",
+        &[
+            "  cilkwork page FILE ARGS > page.html\n",
+            "--top <N>",
+            "--processors <N>",
         ],
     ),
 ];
@@ -563,6 +602,8 @@ const STATUSLESS: &[&str] = &[
     "sites --help",
     "gain --help",
     "greedy --help",
+    "speedup --help",
+    "page --help",
 ];
 
 fn none_tells_statuses<R: Abort + AllocGlobal + Threads + Wait + Copy + Drop + Send + 'static>(
