@@ -22,11 +22,37 @@ HOSTILE = b"// " + CONTROLS + b"""
 int main() {\r
 \treturn 0; // </pre>
 }"""
-LINES = b"int main(int n) {\n  int i = 0;\n  while (i < n) {\n    print(1000000 + i);\n    i = i + 1;\n  }\n  return i;\n}\n"
-SPAWNS = b"int fib(int n) {\n  int a = 0;\n  int b = 0;\n  if (n < 2) {\n    return n;\n  }\n  a = cilk_spawn fib(n - 1);\n  b = fib(n - 2);\n  cilk_sync;\n  return a + b;\n}\n\nint main(int n) {\n  int r = 0;\n  r = fib(n);\n  return r;\n}\n"
+LINES = b"""int main(int n) {
+  int i = 0;
+  while (i < n) {
+    print(1000000 + i);
+    i = i + 1;
+  }
+  return i;
+}
+"""
+SPAWNS = b"""int fib(int n) {
+  int a = 0;
+  int b = 0;
+  if (n < 2) {
+    return n;
+  }
+  a = cilk_spawn fib(n - 1);
+  b = fib(n - 2);
+  cilk_sync;
+  return a + b;
+}
+
+int main(int n) {
+  int r = 0;
+  r = fib(n);
+  return r;
+}
+"""
 DIVIDES = b"int main(int n) {\n  print(1);\n  return 1 / n;\n}\n"
 ENDLESS = b"int main() {\n  print(1);\n  while (1) {\n  }\n  return 0;\n}\n"
 LONGEST = b"\nint main() { return 0; }"  # after a comment, in the longest source
+STDIN = "<stdin>"  # the name of standard input
 OPTIONS = [{"processors": 48}, {"processors": 1}, {"processors": 1000000}, {"top": 1}, {"burden": 0}, {"burden": 1000, "edges": "both"}]
 WHOLE = 131072  # lines of LINES that fill 1 MiB
 
@@ -92,7 +118,7 @@ def try_hostile(cases):
     for lines in (WHOLE - 1, WHOLE, WHOLE + 1, 2 * WHOLE):
         cases.page(cases.write("lines.cilk", LINES), [str(lines)])
     cases.page(cases.write("spawns.cilk", SPAWNS), ["27"], processors=4, top=1)
-    status, expected = assemble.page_by(cases.program, cases.write("-", LINES), ["3"])
+    status, expected = assemble.page_by(cases.program, cases.write(STDIN, LINES), ["3"])
     cases.note("page - 3", status == 0 and ran(cases.program, "page", "-", "3", stdin=None, input=LINES) == (0, expected, b""))
 
 

@@ -20,7 +20,7 @@ import assemble
 from browser import Browser, Keys
 
 SIZE_LIMIT = 50_000  # bytes of page.css and page.js together
-TIME_LIMIT = 10      # seconds of a processor in which the greatest page is drawn, and used as a test does
+TIME_LIMIT = 10      # seconds of a processor in which the largest page is drawn, and used as a test does
 
 SOURCE = b"""int sum_to(int n) {
   int half = 0;
@@ -188,11 +188,11 @@ class Pages(unittest.TestCase):
         self.assertEqual([row[4] for row in functions], ["96.9", "3.1"])
         self.assertEqual([row[6] for row in functions], ["83.2", "16.8"])
 
-    def test_great_counts_keep_their_digits(self):
-        great = str(2 ** 62 - 1).encode()  # no Number
-        self.open(SCALE=SCALE.replace(b"2597719", great), SITES=SITES.replace(b"2517670", great))
+    def test_large_counts_keep_their_digits(self):
+        large = str(2 ** 62 - 1).encode()  # no Number
+        self.open(SCALE=SCALE.replace(b"2597719", large), SITES=SITES.replace(b"2517670", large))
         self.assertIn("4,611,686,018,427,387,903", self.js("[...document.querySelectorAll('.figure')].map(e => e.textContent)"))
-        self.assertIn(great.decode(), [row[5] for row in self.table("#sites")])
+        self.assertIn(large.decode(), [row[5] for row in self.table("#sites")])
         self.assertEqual(self.table("#functions")[0][3], str(2 ** 62 + 18))
 
     def test_source_is_annotated(self):
@@ -211,9 +211,10 @@ class Pages(unittest.TestCase):
             ("2597719,22746,114.205,60007746,0.043", "slower on many processors than on one", "The spawns of line 6 follow one another"),
             ("2597719,26401,98.394,156338,16.616", "falls from 98.394 to 16.616", "about 9 continuations. Make the pieces larger"),
             ("2597719,476401,5.452,656338,3.957", "The span limits this run to 5.452 times", "Look at sum_to first"),
-            ("100000000,1000000,100.000,1700000,58.823", "(100.000), but not if each continuation", "about 47 continuations"),
+            ("100000000,1000000,100.000,1700000,58.823", "64 processors (100.000), but not with 15,000 instructions", "about 47 continuations"),
             ("100000000,1000000,100.000,1100000,90.909", "There is parallelism for 64 processors: 100.000.", "Look at sum_to first"),
             ("100000000,10000,10000.000,11000,9090.909", "to spare: 10,000.000, for 64", "sum_to has 2.5% of it"),
+            ("100000000,10000,10000.000,100000,1000.000", "for each continuation on a path, 1,000.000 is left.", "reduce its work"),
         ):
             self.open(SCALE=SCALE.split(b"\n")[0] + b"\n," + scale.encode() + b"\n")
             self.assertIn(sentence, self.text(".verdict"))
@@ -283,13 +284,15 @@ class Pages(unittest.TestCase):
     def test_comparison(self):
         self.quiet = False  # Chromium reports what it did not run
         self.open()
-        before = {**TEXTS, "HEADING": b"old.cilk 9", "SCALE": SCALE.replace(b"476401,5.452", b"952802,2.726"),
+        before = {**TEXTS, "HEADING": b"old.cilk 9", "SCALE": SCALE.replace(b"476401,5.452", b"952802,2.726").replace(b"2517690,396372", b"2517700,396372") + b"old,7,7,1.000,7,1.000\n",
                   "SOURCE": SOURCE.replace(b"n < 2", b"n < 3").replace(b"  cilk_sync;\n", b"")}
         self.compare_with(assemble.page(before).replace(b"<main", b"<script>" + HACK + b"</script><img src=x onerror='" + HACK + b"'><main"))
         self.assertEqual(self.text("#comparison-heading"), "Compared with old.cilk 9")
         whole = {row[0]: row[1:] for row in self.table("#comparison")}
         self.assertEqual(whole["span"], ["952802", "476401", "\u221250.0%", "better"])
         self.assertEqual(whole["work"], ["2597719", "2597719", "same", ""])
+        self.assertEqual(whole["whole: work"], ["2517700", "2517690", "less than 0.1%", "better"])
+        self.assertEqual(whole["old: work"], ["7", "", "gone", ""])
         self.assertEqual(whole["steps on 8 processors"], ["729429", "729429", "same", ""])
         self.assertEqual(whole["sum_to: own span"], ["396371", "396371", "same", ""])
         changed = self.js("[...document.querySelectorAll('.difference .added, .difference .removed')].map(e => e.textContent)")
@@ -363,7 +366,7 @@ class Pages(unittest.TestCase):
 
     # Limits
 
-    def test_great_tables(self):
+    def test_large_tables(self):
         count = 65_000
         sites = [b"%d,call,%d,f%d,%d,%d,%d,%d,%d\n" % (i, i % 50_000 + 1, i % 1000, i + 7, i * 37 % count, i % 10, i, i) for i in range(count)]
         source = b"".join(b"void f%d(int n) { } //%s\n" % (i, b"x" * 2) for i in range(50_000))[:1 << 20]
@@ -383,14 +386,14 @@ class Pages(unittest.TestCase):
         self.assertEqual(self.js("document.activeElement.id"), "L30123")
         self.assertLess(self.since(start), TIME_LIMIT)
 
-    def test_great_lines(self):
+    def test_large_lines(self):
         for source in (b"//" + b"x" * ((1 << 20) - 2), b"\n" * (1 << 20), b"int main(){return 0;}" + b"{" * 1_000_000, b"; " * (1 << 19)):
             start = self.seconds()
             self.open(SOURCE=source)
             self.assertEqual(self.table("#speedup"), rows_of(SPEEDUP))
             self.assertLess(self.since(start), TIME_LIMIT)
 
-    def test_great_comparison(self):
+    def test_large_comparison(self):
         lines = [b"// %d\n" % i for i in range(60_000)]
         self.open(SOURCE=b"".join(lines))
         start = self.seconds()
@@ -403,7 +406,7 @@ class Pages(unittest.TestCase):
     # Looks
 
     def test_no_sideways_scroll(self):
-        for width in (400, 800, 1280):
+        for width in (360, 400, 800, 1280):
             self.width(width)
             self.open()
             self.compare_with(assemble.page(TEXTS))
@@ -472,6 +475,10 @@ class Pages(unittest.TestCase):
         self.assertNotRegex(parts[1], rb"innerHTML|outerHTML|insertAdjacentHTML|document\.write|eval\(|fetch\(|XMLHttpRequest|import\(")
         self.assertEqual(len(re.findall(rb"https?://", b"".join(parts))), 1)  # the name space of SVG
         self.assertNotIn(b"url(http", parts[0])
+        with open(os.path.join(assemble.TOP, "docs", "LANGUAGE.md"), encoding="utf-8") as file:
+            keywords = re.search(r"The keywords are\n\n(.*?)\n\n", file.read(), re.S)[1].split()
+        highlighted = re.search(r"KEYWORD = /\^\((.*?)\)", parts[1].decode())[1].split("|")
+        self.assertEqual(highlighted, [word for word in keywords if not word.startswith("cilk_")])
 
 
 if __name__ == "__main__":

@@ -5,7 +5,7 @@
 
 For NAME.cilk with NAME.args (one argument on each line) the reports are NAME.out (the output of `cilkwork run`), NAME.scale.csv,
 NAME.sites.csv, NAME.gain.csv, NAME.greedy.csv (of `cilkwork greedy 8`) and NAME.speedup.csv (up to 64 processors). It also writes all
-of them as constants of tests into crates/cw_tests/src/examples. For PAGES, bench/page/assemble.py makes NAME.page.html of them.
+of them as constants of tests into crates/cw_tests/src/examples.
 """
 import glob
 import os
@@ -13,16 +13,16 @@ import sys
 
 sys.dont_write_bytecode = True
 sys.path.insert(1, os.path.join(os.path.dirname(os.path.abspath(__file__)), "..", "page"))
-import assemble
-import ref
-from ref import Program, Run, report
-from rules import broken
-from trees import Burden
+import assemble  # noqa: E402
+import ref  # noqa: E402
+from ref import Program, Run, report  # noqa: E402
+from rules import broken  # noqa: E402
+from trees import Burden  # noqa: E402
 
+PAGES = ["mergesort"]  # with NAME.page.html, made of the reports
 TOP = os.path.normpath(os.path.join(os.path.dirname(os.path.abspath(__file__)), "..", ".."))
 MODES = [("run", ".out"), ("scale", ".scale.csv"), ("sites", ".sites.csv"), ("gain", ".gain.csv"), ("greedy", ".greedy.csv"), ("speedup", ".speedup.csv")]
 PROCESSORS = {"greedy": 8, "speedup": 64}
-PAGES = ["mergesort"]
 TEST = [
     "",
     "#[test]",

@@ -7,7 +7,7 @@ const BEFORE_TITLE: &[u8] = br##"<!DOCTYPE html>
 <head>
 <meta charset="utf-8">
 <meta name="viewport" content="width=device-width, initial-scale=1">
-<meta http-equiv="Content-Security-Policy" content="default-src 'none'; script-src 'sha256-fffRYGxnqUcWcFDWhDf3RnCZV0b467S9qtRwqbWeTlU='; style-src 'sha256-UN1h8qDLqwu/lR0smuuH2MG/hE/iRf4o3PPc1yzlA5o='; img-src data:; base-uri 'none'; form-action 'none'">
+<meta http-equiv="Content-Security-Policy" content="default-src 'none'; script-src 'sha256-Nzt5cKjqvzKT2AfMpBIsh89K0HGUJVYUwHLFms9yQRw='; style-src 'sha256-UN1h8qDLqwu/lR0smuuH2MG/hE/iRf4o3PPc1yzlA5o='; img-src data:; base-uri 'none'; form-action 'none'">
 <meta name="color-scheme" content="light dark">
 <link rel="icon" href="data:,">
 <title>"##;

@@ -124,6 +124,8 @@ function verdict(run) {
   const last = run.speedup.at(-1) ?? { processors: 64 }, many = plural(last.processors, "processor");
   const busy = run.speedup.filter(row => row.processors > 1 && row.speedup >= 0.8 * row.processors).at(-1);
   const busyWords = busy && ` A greedy schedule keeps ${plural(busy.processors, "processor")} at least 80% busy.`;
+  const charged = chargedWords(run), [from, to] = [parallelism, burdened_parallelism].map(group);
+  const left = burdened < most / 2 && ` With ${charged}, ${to} is left.`;
   if (work === span) {
     return [["Nothing runs in parallel: the span equals the work, so more processors do not make this run faster."],
       run.lines.some(text => /\bcilk_(spawn|for)\b/.test(text.replace(/\/\/.*/, "")))
@@ -131,31 +133,30 @@ function verdict(run) {
         : ["Spawn calls that do not need each other's results, or make loops parallel: begin with the function that has the most own span."]];
   }
   if (burdened < 1) {
-    return [["This run may be slower on many processors than on one: with " + burdenOf(run) +
-      ` instructions for each continuation on a path, the parallelism of ${group(parallelism)} falls below 1.`], spawnAdvice(run)];
+    return [[`This run may be slower on many processors than on one: with ${charged}, the parallelism of ${from} falls below 1.`],
+      spawnAdvice(run)];
   }
   if (burdened < most / 2 && burdened < last.processors) {
-    return [[`Steals may cost much of the parallelism: with ${burdenOf(run)} instructions for each continuation on a path, it falls from ` +
-      `${group(parallelism)} to ${group(burdened_parallelism)}.`], spawnAdvice(run)];
+    return [[`Steals may cost much of the parallelism: with ${charged}, it falls from ${from} to ${to}.`], spawnAdvice(run)];
   }
   if (most < last.processors) {
     const first = limiting(run) ?? run.functions[0];
-    return [[`The span limits this run to ${group(parallelism)} times the speed of one processor`,
-      ...(first ? [`, and ${percent(share(first.own_span, span))} of the span is in `, code(first.name)] : []), "."],
-      [...spanAdvice(run), busyWords]];
+    return [[`The span limits this run to ${from} times the speed of one processor`,
+      first && [`, and ${percent(share(first.own_span, span))} of the span is in `, code(first.name)], "."], [spanAdvice(run), busyWords]];
   }
   if (burdened < last.processors) {
-    return [[`There is parallelism for ${many} (${group(parallelism)}), but not if each continuation on the path is stolen ` +
-      `(${group(burdened_parallelism)}).`], [...spawnAdvice(run), busyWords]];
+    return [[`There is parallelism for ${many} (${from}), but not with ${charged} (${to}).`], [spawnAdvice(run), busyWords]];
   }
   if (most < 10 * last.processors) {
-    return [[`There is parallelism for ${many}: ${group(parallelism)}.`, last.speedup &&
+    return [[`There is parallelism for ${many}: ${from}.`, left, last.speedup &&
       ` A greedy schedule makes this run ${group(last.speedup)} times as fast as one processor.`], spanAdvice(run)];
   }
   const heavy = [...run.functions].sort((a, b) => Number(b.own_work - a.own_work))[0];
-  return [[`This run has parallelism to spare: ${group(parallelism)}, for ${many}.`],
-    heavy ? ["To make it faster, reduce its work: ", code(heavy.name), ` has ${percent(share(heavy.own_work, work))} of it.`] : []];
+  return [[`This run has parallelism to spare: ${from}, for ${many}.`, left],
+    heavy && ["To make it faster, reduce its work: ", code(heavy.name), ` has ${percent(share(heavy.own_work, work))} of it.`]];
 }
+
+const chargedWords = run => `${burdenOf(run)} instructions for each continuation ${run.about.edges === "both" ? "and return " : ""}on a path`;
 
 // The function without whose instructions the span would be least, if it would be 5% less.
 function limiting(run) {
@@ -166,17 +167,18 @@ function limiting(run) {
 
 // What to do about the span.
 function spanAdvice(run) {
-  const first = limiting(run), { span } = run.program;
+  const { span } = run.program, first = limiting(run), top = run.functions.find(f => f.gain);
+  if (!top) return [];
   if (!first) {
-    return run.functions.some(f => f.gain) ? ["No function shortens the span by 5%: many paths are about equally long. Take a smaller grain, " +
-      "or make a change that reaches all of them."] : [];
+    return share(top.own_span, span) > 0.5 ? [code(top.name), " has most of the span, but another path is about equally long: change both."]
+      : ["No function shortens the span by 5%: many paths are about equally long. Take a smaller grain, or make a change that reaches all of them."];
   }
   const free = Number(first.gain.span_if_free), ratio = share(first.own_work, first.own_span);
   if (free === 0) return ["All of the span is in ", code(first.name), ": put a region around each of its loops to see which one limits it."];
   return ["Look at ", code(first.name), ` first: if its own instructions took no time, the parallelism would be ` +
     `${group(first.gain.parallelism_if_free)}. `,
-    ratio >= 1.5 ? ratio > 10 ? "Its calls already run in parallel: take a smaller grain, or shorten its longest call."
-      : "Its small calls run in parallel, but the longest ones do not: make it parallel inside."
+    ratio > 10 ? "Its calls already run in parallel: take a smaller grain, or shorten its longest call."
+    : ratio >= 1.5 ? "Its small calls run in parallel, but the longest ones do not: make it parallel inside."
     : first.name === "main" ? "Its own loops are serial: divide them, or move them into calls that run in parallel."
     : ["Everything waits for it: make it parallel inside or, if it is spawned, move the ", code("cilk_sync"), " down."],
     span - free < 0.9 * Number(first.own_span) && " Then another path limits the run, so change both."];
@@ -207,7 +209,7 @@ function numbers(run, before) {
     item("span", "Span", r => r.program.span, "instructions that must run one after another: the steps on unlimited processors"),
     item("span", "Parallelism", r => r.program.parallelism, "work / span: no number of processors makes the run faster than this"),
     item("burdened", "Burdened parallelism", r => r.program.burdened_parallelism,
-      `the same, with ${burdenOf(run)} instructions for each continuation on a path, as if it were stolen`),
+      `the same, with ${chargedWords(run)}, as if it were stolen`),
     item("value", "Value", r => r.about.value, "what main returned"));
 }
 
@@ -592,9 +594,11 @@ function changes(name, rows) {
     if (from === "" || to === "") return to === "" ? "gone" : "new";
     if (String(from) === String(to)) return "same";
     if (ratio >= 10) return "\u00d7" + group(ratio.toFixed(0));
-    return Number(from) === 0 ? "" : (ratio < 1 ? "\u2212" : "+") + percent(Math.abs(ratio - 1));
+    if (Number(from) === 0) return "";
+    return Math.abs(ratio - 1) < 0.0005 ? "less than 0.1%" : (ratio < 1 ? "\u2212" : "+") + percent(Math.abs(ratio - 1));
   };
-  const tone = ([, from, to, less]) => !less || Number(from) === Number(to) ? "" : Number(to) < Number(from) ? "better" : "worse";
+  const tone = ([, from, to, less]) => !less || from === "" || to === "" || Number(from) === Number(to) ? ""
+    : Number(to) < Number(from) ? "better" : "worse";
   return h("div", {}, h("h3", {}, name), sortable(name, rows, [
     column("Count", 0, words), column("Before", 1), column("After", 2), column("Change", by, { tone }), column("", tone, { ...words, tone }),
   ]).element);
