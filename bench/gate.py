@@ -61,7 +61,7 @@ BEFORE = [
 SEEDS = ["1", "40", "consts"]
 WRONG = ["bench/wrong/wrong.py", "--turn", NUMBER, "--jobs", str(min(LANES, 2))]
 # seconds of processor time of everything except `rt ci`
-SAMPLES = 1200
+SAMPLES = 1100
 INSTALLED = ["bin/cilkwork"] + ["share/doc/cilkwork/" + it for it in ("GUIDE.md", "LANGUAGE.md", "examples/fib.cilk")]
 WORDED = ["man/man1/cilkwork.1", "bash-completion/completions/cilkwork", "zsh/site-functions/_cilkwork", "fish/vendor_completions.d/cilkwork.fish"]
 
