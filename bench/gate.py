@@ -10,8 +10,9 @@
    folder. If one of them fails, nothing else is run.
 2. `rt ci` proves and tests all crates.
 3. The program that `rt ci` built must be, byte for byte, the one of ./build, and have its SHA-256 in building/PROVED;
-   otherwise the functions that differ are listed. It runs examples/ and random programs, and some programs whose memory with
-   several workers is compared with one worker; programs from C must be accepted after two rounds of --explain. Then some mutants are tried, with the libraries that `rt ci` left.
+   otherwise the functions that differ are listed. It runs examples/ and random programs, its pages are compared with assembled
+   ones, and its memory with several workers with that of one worker; programs from C must be accepted after two rounds of
+   --explain. Then some mutants are tried, with the libraries that `rt ci` left.
 
 The mutated clauses and the mutants of 1 and 3 are a sample that depends on the number of the commit (commit.py).
 
@@ -155,8 +156,8 @@ def program_passes():
         copy = os.path.join(folder, "cilkwork")
         shutil.copyfile(PROGRAM, copy)
         os.chmod(copy, 0o755)
-        tried = [["building/answers.py", copy], ["bench/reference/fuzz.py", copy] + SEEDS, ["bench/cost/bar.py", copy, "--sample"],
-                 ["bench/pasted/rounds.py", copy]]
+        tried = [["building/answers.py", copy], ["bench/page/pages.py", copy], ["bench/reference/fuzz.py", copy] + SEEDS,
+                 ["bench/cost/bar.py", copy, "--sample"], ["bench/pasted/rounds.py", copy]]
         return all([is_proved_program(), *(passes(words) for words in tried)])
 
 

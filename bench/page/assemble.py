@@ -90,8 +90,8 @@ def texts_of(name, arguments, reports, source, burden=15000, edges="spawn"):
     return {**texts, **{report.upper(): reports[report] for report in REPORTS}, "OUTPUT": output, "SOURCE": source}
 
 
-def page_by(program, path, arguments=(), **options):
-    """Returns the status of `run` and, if it is 0, the page that the commands of a program make."""
+def page_by(program, path, arguments=(), name=None, **options):
+    """Returns the status of `run` and, if it is 0, the page that the commands of a program make; `name` is by default the file's."""
     reports = {}
     for command in ["run", *REPORTS]:
         given = [word for name in OPTIONS.get(command, []) if name in options for word in ("--" + name, str(options[name]))]
@@ -102,7 +102,8 @@ def page_by(program, path, arguments=(), **options):
     with open(path, "rb") as file:
         source = file.read()
     given = {name: options[name] for name in ("burden", "edges") if name in options}
-    return 0, page(texts_of(os.path.basename(os.fsencode(path)), arguments, reports, source, **given))
+    name = os.path.basename(os.fsencode(path)) if name is None else name
+    return 0, page(texts_of(name, arguments, reports, source, **given))
 
 
 def main():

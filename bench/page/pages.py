@@ -52,7 +52,7 @@ int main(int n) {
 DIVIDES = b"int main(int n) {\n  print(1);\n  return 1 / n;\n}\n"
 ENDLESS = b"int main() {\n  print(1);\n  while (1) {\n  }\n  return 0;\n}\n"
 LONGEST = b"\nint main() { return 0; }"  # after a comment, in the longest source
-STDIN = "<stdin>"  # the name of standard input
+STDIN = b""  # the name of standard input
 OPTIONS = [{"processors": 48}, {"processors": 1}, {"processors": 1000000}, {"top": 1}, {"burden": 0}, {"burden": 1000, "edges": "both"}]
 WHOLE = 131072  # lines of LINES that fill 1 MiB
 
@@ -118,7 +118,7 @@ def try_hostile(cases):
     for lines in (WHOLE - 1, WHOLE, WHOLE + 1, 2 * WHOLE):
         cases.page(cases.write("lines.cilk", LINES), [str(lines)])
     cases.page(cases.write("spawns.cilk", SPAWNS), ["27"], processors=4, top=1)
-    status, expected = assemble.page_by(cases.program, cases.write(STDIN, LINES), ["3"])
+    status, expected = assemble.page_by(cases.program, cases.write("lines.cilk", LINES), ["3"], STDIN)
     cases.note("page - 3", status == 0 and ran(cases.program, "page", "-", "3", stdin=None, input=LINES) == (0, expected, b""))
 
 

@@ -68,7 +68,7 @@ is_asked code a =
     nat_le 1 a.top && (nat_le a.top MOST_TOP && speeds.is_asked code a.args a.limit a.burden a.most)
 
 module _ (code : Code) (heads : List Head) (a : Asked) where
-  -- all results are those of the run that is asked for
+  -- all results belong to the requested run
   pub record Draws (d : Drawn) : Type 0 where
     pub asked : is_asked code a ≡ true
     pub runs : Runs code a.args a.limit a.burden d.ended
@@ -84,6 +84,6 @@ module _ (code : Code) (heads : List Head) (a : Asked) where
   IsUndrawn fault.Memory = Unit {0}
   IsUndrawn _ = ⊥
 
-  -- the results are those of the code's meaning, or it is said why there are none
+  -- the results that the code's meaning gives, or the fault that explains why it gives no result
   abbrev pub DrawsAsCode : Result Drawn Fault → Type 0
   DrawsAsCode r = MatchResult r Draws IsUndrawn

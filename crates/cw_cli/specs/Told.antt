@@ -15,7 +15,7 @@ HasTables mode.Scale = Unit {0}
 HasTables mode.Sites = Unit {0}
 HasTables _ = ⊥
 
--- the tables of a run; a check has none, nor a run of values alone, gains, a schedule, speedups or a page
+-- the tables of a run: work and span by region, or call sites; other modes have no such table
 abbrev pub told_of : Mode → Code → Result Ended Fault → List ℕ
 told_of mode.Check code ended = []
 told_of mode.Run code ended = []

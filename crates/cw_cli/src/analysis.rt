@@ -100,11 +100,11 @@ pub fn analyse_named_alone<W: Sink>(
 ///
 /// The errors and what is written are those of `analyse_alone`, which it calls where the crew is empty: no byte depends
 /// on the crew, on what its bodies and the gate do, or on the order in which workers come to steal. A check and a run of
-/// code that spawns nothing are made by the caller's thread alone. In mode `Gain` the crew does the first run, and behind it
-/// as many threads as there are workers the further ones, side by side; in modes `Greedy` and `Speedup` the crew does
-/// the run, and the caller's thread the schedules. Of a run with more than 1,000,000 strands mode `Speedup` takes the
-/// measures from a second run, by the caller's thread. In mode `Page` the crew does the run, as many threads as there are
-/// workers the further ones of the gain table, and the caller's thread a run for the strands and their schedules.
+/// code that spawns nothing are made by the caller's thread only. In mode `Gain` the crew executes the first run, and then one
+/// thread for each worker executes the further runs in parallel; in modes `Greedy` and `Speedup` the crew executes the run,
+/// and the caller's thread computes the schedules. If a run has more than 1,000,000 strands, mode `Speedup` takes the
+/// measures from a second run, by the caller's thread. In mode `Page` the crew executes the first run, one thread for each
+/// worker the further runs of the gain table, and the caller's thread a run whose strands it schedules.
 ///
 /// Before all that, a crew of more than 63 bodies is `Arguments` in each mode, with nothing written.
 ///

@@ -133,8 +133,8 @@ fn drawn_alone(
     })
 }
 
-// Returns the same of a run by a crew. As many threads as the crew has workers make the further runs of the gain table,
-// and the caller's thread those of the speedups.
+// Returns everything that a page shows of a run by a crew. One thread for each worker executes the further runs of the gain
+// table, and the caller's thread the run whose strands are scheduled.
 fn drawn_with<
     G: Gate + Drop + Send + Sync + 'static,
     B: Body<G> + Send + Drop + 'static,

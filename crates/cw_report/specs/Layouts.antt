@@ -9,7 +9,7 @@ abbrev pub scale_columns : List Column
 scale_columns = Word 0 ∷ Number 1 ∷ Number 2 ∷ Number 3 ∷ Number 4 ∷ Number 5 ∷ []
 
 -- the columns of `sites`: the fields of its CSV, with the shares of own work and own span after them; the first row is
--- that of the whole run
+-- the whole run
 abbrev pub sites_columns : List Column
 sites_columns =
     Label 0 ∷ Word 1 ∷ Label 2 ∷ Word 3 ∷ Number 4 ∷ Number 5 ∷ OfWork 5 7 ∷ Number 6 ∷ OfSpan 6 8 ∷ Number 7 ∷ Number 8

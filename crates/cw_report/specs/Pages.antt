@@ -83,7 +83,7 @@ about_of version args burden value lines = settings_of version (spaced args) bur
 abbrev pub lines_in : List ℕ → ℕ
 lines_in text = length (filter (λ b. b == 10) text)
 
--- the longest beginning of at most so many bytes that ends with LF
+-- the longest prefix of at most `most` bytes that ends with LF
 unfoldable pub lines_within : (most : ℕ) → List ℕ → List ℕ
 lines_within zero text = []
 lines_within (suc most) text = if get_or text most 0 == 10 then take (suc most) text else lines_within most text

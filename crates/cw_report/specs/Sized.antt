@@ -22,7 +22,7 @@ sized_cell titled first line s = padded s.column s.width (shown titled first s.c
 abbrev pub further_cell : (titled : Bool) → (first line : List ℕ) → SizedColumn → List ℕ
 further_cell titled first line s = codes "  " ++ sized_cell titled first line s
 
--- those of several
+-- the cells of several further columns
 abbrev pub further_cells : (titled : Bool) → (first line : List ℕ) → List SizedColumn → List ℕ
 further_cells titled first line columns = flat_map (further_cell titled first line) columns
 

@@ -12,6 +12,7 @@ mod escaping;
 mod fields;
 mod gain_table;
 mod input;
+pub mod laws;
 mod page_frame;
 mod page_script;
 mod page_style;
