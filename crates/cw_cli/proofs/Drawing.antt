@@ -42,7 +42,7 @@ use Rattle.cw_cli.specs.Pages.{Asked, Draws, IsUndrawn, asked_for}
 use Rattle.cw_cli.specs.Schedules.{AreBounded, IsScheduledIn}
 use Rattle.cw_cli.specs.Speedups.{speedup_text}
 use Rattle.cw_cli.proofs.Ordered.{are_bounded}
-use Rattle.cw_cli.proofs.Rows.{scale_is, sites_are, gains_are}
+use Rattle.cw_cli.proofs.ReportRows.{scale_is, sites_are, gains_are}
 use Rattle.cw_cli.proofs.Runs.{IsUnrun, May, Tells, answer_is, may, must, readings_are, values_are}
 
 -- a page of the same texts

@@ -52,10 +52,10 @@ use Rattle.cw_cli.specs.Speedups.{readings_of}
 use Rattle.cw_report.specs.Speedups.{speedup_report}
 use Rattle.cw_report.specs.Speedups as texts
 use Rattle.cw_cli.specs.Forms.{in_form}
-use Rattle.cw_cli.specs.Told.{HasTables, shown_of, told_of}
+use Rattle.cw_cli.specs.ModeTexts.{HasTables, shown_of, told_of}
 use Rattle.cw_report.specs.Layouts.{gain_columns, shown, speedup_columns}
 use Rattle.cw_cli.proofs.Ordered.{are_bounded}
-use Rattle.cw_cli.proofs.Rows.{scale_is, sites_are, gains_are}
+use Rattle.cw_cli.proofs.ReportRows.{scale_is, sites_are, gains_are}
 use Rattle.cw_code.specs.Heads.{head_view}
 use Rattle.cw_gains.specs.Gains.{Gains, HasNumberedSites}
 use Rattle.cw_code.specs.declared.head.Head as counted

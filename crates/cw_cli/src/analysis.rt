@@ -7,7 +7,7 @@ ghost use Rattle.cw_words.specs.declared.asked.Mode.TheVariants as mode;
 ghost use Rattle.cw_compile.specs.Compiled.{IsCompiled, IsMade};
 ghost use Rattle.cw_cli.specs.Analyses.{IsModeInRange};
 ghost use Rattle.cw_cli.specs.Analyses.{IsAnalysed, IsAnalysedBy, IsRun};
-ghost use Rattle.cw_cli.specs.Told.{HasTables};
+ghost use Rattle.cw_cli.specs.ModeTexts.{HasTables};
 ghost use Rattle.cw_gains.specs.Gains.{HasNumberedSites};
 ghost use Rattle.cw_schedule.specs.Schedules.{SchedulesAsCode};
 ghost use Rattle.cw_speedup.specs.Speedups.{SpeedsUpAsCode};

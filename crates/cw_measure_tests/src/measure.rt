@@ -1,7 +1,7 @@
 //! Work, span and burdened span of small runs, whole and joined from pieces, worked out by hand.
 
 use crate::burdens::burden_of;
-use Told::{Call, Child, Sync, Tick};
+use MeasureCall::{Call, Child, Sync, Tick};
 use cw_measure::{BurdenedPath, Measure};
 use cw_model::burden::{Burden, Edges};
 use cw_model::monoid::Monoid;
@@ -9,7 +9,7 @@ use std::alloc::{AllocError, Global};
 
 /// A call of a method of a measure.
 #[derive(Clone, Copy)]
-enum Told {
+enum MeasureCall {
     /// Adds instructions.
     Tick(u64),
     /// Adds a spawned child with this number of instructions.
@@ -24,9 +24,9 @@ enum Told {
 struct Run {
     name: &'static str,
     /// A part in series that the pieces call.
-    part: &'static [Told],
-    first: &'static [Told],
-    more: &'static [&'static [Told]],
+    part: &'static [MeasureCall],
+    first: &'static [MeasureCall],
+    more: &'static [&'static [MeasureCall]],
     work: u64,
     span: u64,
     /// The charged edges, the charge, and the burdened span with it.
@@ -40,7 +40,7 @@ fn strand(n: u64) -> Measure {
     measure
 }
 
-fn tell(measure: &mut Measure, burden: Burden, part: &Measure, told: Told) {
+fn tell(measure: &mut Measure, burden: Burden, part: &Measure, told: MeasureCall) {
     match told {
         Tick(n) => measure.tick(n),
         Child(n) => measure.spawned(burden, &strand(n)),
@@ -49,7 +49,7 @@ fn tell(measure: &mut Measure, burden: Burden, part: &Measure, told: Told) {
     }
 }
 
-fn tell_all(measure: &mut Measure, burden: Burden, part: &Measure, all: &[Told]) {
+fn tell_all(measure: &mut Measure, burden: Burden, part: &Measure, all: &[MeasureCall]) {
     for told in all {
         tell(measure, burden, part, *told);
     }
@@ -63,7 +63,7 @@ fn first_of(run: &Run, burden: Burden, part: &Measure) -> Measure {
 }
 
 /// Returns the measure of a later piece.
-fn piece_of(alloc: Global, burden: Burden, part: &Measure, told: &[Told]) -> Measure {
+fn piece_of(alloc: Global, burden: Burden, part: &Measure, told: &[MeasureCall]) -> Measure {
     let mut measure = Measure::unit(alloc);
     tell_all(&mut measure, burden, part, told);
     measure

@@ -3,7 +3,7 @@
 
 use crate::burdens::burden_of;
 use Stage::{HandOut, InRest, On, TakeIn};
-use Told::{Begin, BeginRegion, Call, End, GiveBack, Spawn, SpawnHalf, Sync};
+use MeterCall::{Begin, BeginRegion, Call, End, GiveBack, Spawn, SpawnHalf, Sync};
 use cw_meter::{Detail, Measures, Meter};
 use cw_model::burden::{Burden, Edges};
 use cw_regions::RegionRow;
@@ -12,7 +12,7 @@ use std::alloc::{AllocError, Global};
 
 /// A call of a method of a meter, after this number of instructions.
 #[derive(Clone, Copy)]
-enum Told {
+enum MeterCall {
     /// A plain call of a site begins.
     Call(u64, u32),
     /// A spawned call of a site begins.
@@ -36,11 +36,11 @@ enum Told {
 #[derive(Clone, Copy)]
 enum Stage {
     /// The run's meter receives these calls.
-    On(&'static [Told]),
+    On(&'static [MeterCall]),
     /// A continuation is handed out in the current invocation.
     HandOut,
     /// The meter of the continuation that was handed out last receives these calls.
-    InRest(&'static [Told]),
+    InRest(&'static [MeterCall]),
     /// The run's meter appends that continuation, after this number of instructions; the continuation has this many
     /// instructions.
     TakeIn(u64, u64),
@@ -53,7 +53,7 @@ struct Meters {
     rests: Vec<Meter>,
 }
 
-fn tell(meter: &mut Meter, told: Told) -> Result<(), AllocError> {
+fn tell(meter: &mut Meter, told: MeterCall) -> Result<(), AllocError> {
     match told {
         Call(count, site) => meter.call(count, site),
         Spawn(count, site) => meter.spawn(count, site),
@@ -66,7 +66,7 @@ fn tell(meter: &mut Meter, told: Told) -> Result<(), AllocError> {
     }
 }
 
-fn tell_all(meter: &mut Meter, all: &[Told]) -> Result<(), AllocError> {
+fn tell_all(meter: &mut Meter, all: &[MeterCall]) -> Result<(), AllocError> {
     for told in all {
         tell(meter, *told)?;
     }
@@ -79,7 +79,7 @@ fn hand_out(alloc: Global, meters: &mut Meters, detail: Detail) -> Result<(), Al
     Ok(())
 }
 
-fn tell_rest(meters: &mut Meters, all: &[Told]) -> Result<(), AllocError> {
+fn tell_rest(meters: &mut Meters, all: &[MeterCall]) -> Result<(), AllocError> {
     match meters.rests.last_mut() {
         Some(rest) => tell_all(rest, all),
         None => Ok(()),

@@ -82,7 +82,7 @@ fn joined(alloc: Global, parts: &[Small]) -> Result<Part, AllocError> {
 }
 
 /// The results of parts that finished.
-struct Shown {
+struct JoinedResult {
     lines: &'static [i64],
     /// The totals of both reducers.
     sum: i128,
@@ -95,20 +95,20 @@ struct Shown {
 /// The outcome of joined parts.
 enum Came {
     /// They finished.
-    Completed(Shown),
+    Completed(JoinedResult),
     /// They trapped in line 12, after these lines.
     Trapped(&'static [i64]),
     Over,
     Refused,
 }
 
-fn are_shown(views: &Views, shown: &Shown) -> bool {
+fn are_shown(views: &Views, shown: &JoinedResult) -> bool {
     views.lines() == shown.lines
         && views.total(0, Reduction::Sum) == Total::Sum(shown.sum)
         && views.total(1, Reduction::Max) == Total::Max(Some(shown.greatest))
 }
 
-fn is_counted(measure: &Measure, shown: &Shown) -> bool {
+fn is_counted(measure: &Measure, shown: &JoinedResult) -> bool {
     measure.work() == shown.work
         && measure.span() == shown.span
         && measure.burdened() == shown.burdened
@@ -184,7 +184,7 @@ static SERIES: [Row; 2] = [
             },
         ],
         limit: 90,
-        came: Came::Completed(Shown {
+        came: Came::Completed(JoinedResult {
             lines: &[1, 2],
             sum: -2,
             greatest: 5,
@@ -213,7 +213,7 @@ static SERIES: [Row; 2] = [
             },
         ],
         limit: 50,
-        came: Came::Completed(Shown {
+        came: Came::Completed(JoinedResult {
             lines: &[1, 2],
             sum: 0,
             greatest: 0,
@@ -247,7 +247,7 @@ static CHILDREN: [Row; 2] = [
             },
         ],
         limit: 50,
-        came: Came::Completed(Shown {
+        came: Came::Completed(JoinedResult {
             lines: &[1, 2],
             sum: 0,
             greatest: 0,
@@ -276,7 +276,7 @@ static CHILDREN: [Row; 2] = [
             },
         ],
         limit: 50,
-        came: Came::Completed(Shown {
+        came: Came::Completed(JoinedResult {
             lines: &[1, 2],
             sum: 0,
             greatest: 0,
@@ -360,7 +360,7 @@ static STOPS: [Row; 4] = [
             },
         ],
         limit: 7,
-        came: Came::Completed(Shown {
+        came: Came::Completed(JoinedResult {
             lines: &[1, 2],
             sum: 0,
             greatest: 0,

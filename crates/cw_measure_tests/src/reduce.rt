@@ -147,7 +147,7 @@ fn lines_in_order(rt: HostRuntime) -> Result<(), AllocError> {
 
 /// A call of a method of views.
 #[derive(Clone, Copy)]
-enum Told {
+enum ViewsCall {
     /// A line is printed.
     Print(i64),
     /// A sum reducer is updated with a value.
@@ -156,34 +156,34 @@ enum Told {
     Raise(u32, i64),
 }
 
-fn tell(views: &mut Views, told: Told) -> Result<(), AllocError> {
+fn tell(views: &mut Views, told: ViewsCall) -> Result<(), AllocError> {
     match told {
-        Told::Print(line) => views.print(line),
-        Told::Add(reducer, value) => views.tell(reducer, Reduction::Sum, value),
-        Told::Raise(reducer, value) => views.tell(reducer, Reduction::Max, value),
+        ViewsCall::Print(line) => views.print(line),
+        ViewsCall::Add(reducer, value) => views.tell(reducer, Reduction::Sum, value),
+        ViewsCall::Raise(reducer, value) => views.tell(reducer, Reduction::Max, value),
     }
 }
 
-fn tell_all(views: &mut Views, all: &[Told]) -> Result<(), AllocError> {
+fn tell_all(views: &mut Views, all: &[ViewsCall]) -> Result<(), AllocError> {
     for told in all {
         tell(views, *told)?;
     }
     Ok(())
 }
 
-static LEFT: [Told; 3] = [Told::Add(0, 5), Told::Raise(4, -8), Told::Print(1)];
+static LEFT: [ViewsCall; 3] = [ViewsCall::Add(0, 5), ViewsCall::Raise(4, -8), ViewsCall::Print(1)];
 
-static RIGHT: [Told; 5] = [
-    Told::Print(2),
-    Told::Add(2, -7),
-    Told::Add(0, 4),
-    Told::Raise(3, -2),
-    Told::Raise(3, -6),
+static RIGHT: [ViewsCall; 5] = [
+    ViewsCall::Print(2),
+    ViewsCall::Add(2, -7),
+    ViewsCall::Add(0, 4),
+    ViewsCall::Raise(3, -2),
+    ViewsCall::Raise(3, -6),
 ];
 
-static LAST: [Told; 2] = [Told::Add(1, 3), Told::Raise(4, -7)];
+static LAST: [ViewsCall; 2] = [ViewsCall::Add(1, 3), ViewsCall::Raise(4, -7)];
 
-fn views_of(alloc: Global, all: &[Told]) -> Result<Views, AllocError> {
+fn views_of(alloc: Global, all: &[ViewsCall]) -> Result<Views, AllocError> {
     let mut views = Views::new(alloc);
     tell_all(&mut views, all)?;
     Ok(views)

@@ -2,28 +2,28 @@
 //! hand.
 
 use crate::burdens::on_spawns;
-use Told::{Begin, End};
+use RegionCall::{Begin, End};
 use cw_measure::BurdenedPath;
 use cw_regions::RegionTable;
 use std::alloc::{AllocError, Global};
 
 /// A call of a method of a table: a tag, and the instructions, the path and the burdened path so far.
 #[derive(Clone, Copy)]
-enum Told {
+enum RegionCall {
     /// An execution begins.
     Begin(u32, u64, u64, u128),
     /// An execution ends.
     End(u32, u64, u64, u128),
 }
 
-fn tell(table: &mut RegionTable, told: Told) -> Result<(), AllocError> {
+fn tell(table: &mut RegionTable, told: RegionCall) -> Result<(), AllocError> {
     match told {
         Begin(tag, count, path, burdened) => table.begin(tag, count, path, burdened),
         End(tag, count, path, burdened) => table.end(tag, count, path, burdened),
     }
 }
 
-fn tell_all(table: &mut RegionTable, all: &[Told]) -> Result<(), AllocError> {
+fn tell_all(table: &mut RegionTable, all: &[RegionCall]) -> Result<(), AllocError> {
     for told in all {
         tell(table, *told)?;
     }
@@ -50,10 +50,10 @@ fn wrong_row(table: &RegionTable, rows: &[(u32, (u64, u64, u128))]) -> Option<u3
 struct Run {
     name: &'static str,
     /// The calls of the run's table before the piece is joined.
-    before: &'static [Told],
-    piece: &'static [Told],
+    before: &'static [RegionCall],
+    piece: &'static [RegionCall],
     /// The calls of the run's table after the piece was joined.
-    after: &'static [Told],
+    after: &'static [RegionCall],
     /// Rows of tags at the end: work, span and burdened span.
     rows: &'static [(u32, (u64, u64, u128))],
 }
@@ -91,7 +91,7 @@ static RUNS: [Run; 2] = [
     },
 ];
 
-fn join_piece(alloc: Global, table: &mut RegionTable, told: &[Told]) -> Result<(), AllocError> {
+fn join_piece(alloc: Global, table: &mut RegionTable, told: &[RegionCall]) -> Result<(), AllocError> {
     let mut piece = RegionTable::new(alloc);
     tell_all(&mut piece, told)?;
     table.join(piece);

@@ -1,12 +1,12 @@
 //! The rows of call sites of small runs, whole and joined from pieces, and the chosen paths, worked out by hand.
 
-use Told::{EndChild, EndHalf, Enter, Join, Leave, Note, Spawn, SpawnHalf};
+use SiteCall::{EndChild, EndHalf, Enter, Join, Leave, Note, Spawn, SpawnHalf};
 use cw_sites::table::SiteTable;
 use std::alloc::{AllocError, Global};
 
 /// A call of a method of a table, at a number of instructions.
 #[derive(Clone, Copy)]
-enum Told {
+enum SiteCall {
     /// A plain call of a site begins.
     Enter(u64, u32),
     /// A plain call ends, inside an invocation of a site.
@@ -25,7 +25,7 @@ enum Told {
     Note(u64),
 }
 
-fn tell(table: &mut SiteTable, told: Told) -> Result<(), AllocError> {
+fn tell(table: &mut SiteTable, told: SiteCall) -> Result<(), AllocError> {
     match told {
         Enter(count, site) => table.enter(count, site),
         Leave(count, outer) => table.leave(count, outer),
@@ -38,7 +38,7 @@ fn tell(table: &mut SiteTable, told: Told) -> Result<(), AllocError> {
     }
 }
 
-fn tell_all(table: &mut SiteTable, all: &[Told]) -> Result<(), AllocError> {
+fn tell_all(table: &mut SiteTable, all: &[SiteCall]) -> Result<(), AllocError> {
     for told in all {
         tell(table, *told)?;
     }
@@ -66,7 +66,7 @@ struct Piece {
     /// The site of the invocation in which it begins.
     here: u32,
     /// The calls of its table.
-    told: &'static [Told],
+    told: &'static [SiteCall],
     /// Whether its block has not spawned before it since the last join.
     first: bool,
 }
@@ -75,10 +75,10 @@ struct Piece {
 struct Run {
     name: &'static str,
     /// The calls of the run's table before the piece is joined.
-    before: &'static [Told],
+    before: &'static [SiteCall],
     piece: Option<Piece>,
     /// The calls of the run's table after the piece was joined.
-    after: &'static [Told],
+    after: &'static [SiteCall],
     /// Rows of sites at the end: calls, own work, own span, work and span.
     rows: &'static [(u32, [u64; 5])],
 }
@@ -239,7 +239,7 @@ static WHOLE_RUNS: [Run; 6] = [
 
 /// A child of 6 with calls of its own, a continuation of 5 with a call, and a child of 4 with a call: with the
 /// continuation the later child is longer, and the steps of the earlier one are dropped from between.
-const A_LONG_CHILD_REPLACED: [Told; 13] = [
+const A_LONG_CHILD_REPLACED: [SiteCall; 13] = [
     Enter(0, 0),
     Spawn(1, 1, true),
     Enter(2, 2),

@@ -33,7 +33,7 @@ use Rattle.cw_meter_laws.specs.Strands.{site_at, StartsFrom, Metered, Started, R
 use Rattle.cw_meter_laws.specs.Strands.{CallsKeepMeters, StrandsTell, MetersTellStrands, IsMeasured, RootsAreMeasured, RestsHaveNoJoins}
 use Rattle.cw_meter_laws.proofs.Joinless.{Joinless, stays_joinless}
 use Rattle.cw_meter_laws.proofs.Joinless as joinless
-use Rattle.cw_meter_laws.specs.lemmas.Told.{After}
+use Rattle.cw_meter_laws.specs.lemmas.StepEvents.{After}
 use Rattle.cw_meter_laws.specs.lemmas.Spawns.{HasSpawnedWhere, waiters_have_spawned}
 use Rattle.cw_meter_laws.proofs.Telling.{Telling, acts_told, round_open}
 

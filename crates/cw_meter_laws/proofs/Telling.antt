@@ -15,7 +15,7 @@ use Rattle.cw_meter.specs.Origins.{Origin, Main, Rest}
 use Rattle.cw_recorded.specs.Recording.{IsOpen}
 use Rattle.cw_meter.specs.Meters.{Meters, Ends, Returns, InstructionsNeedNoCall, begun, ticked}
 use Rattle.cw_meter_laws.specs.Opens.{opens_round, Gauge, BeginsBlock, IsTold, IsToldOf}
-use Rattle.cw_meter_laws.specs.lemmas.Told.{After, BlockEnds, CallEnds, BlockBegins, Tells, told}
+use Rattle.cw_meter_laws.specs.lemmas.StepEvents.{After, BlockEnds, CallEnds, BlockBegins, Tells, told}
 
 -- a state of a run is before the end of the run
 pub round_open : (from : Origin) (around : List Around) → IsOpen from (opens_round from around)

@@ -1,4 +1,4 @@
 pub mod Rising
-pub mod Told
+pub mod RecordedReasons
 pub mod Laws
 pub mod lemmas

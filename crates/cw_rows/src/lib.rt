@@ -17,5 +17,5 @@
 mod rows;
 mod written;
 
-pub use rows::{Asked, Rows};
+pub use rows::{Asked, RowReader};
 pub use written::Unread;

@@ -46,7 +46,7 @@ impl Asked {
 
 /// Holds the state of reading a file of rows, with the results so far.
 #[derive(Drop)]
-pub struct Rows {
+pub struct RowReader {
     alloc: Global,
     file: &'static str,
     line: u32,
@@ -61,10 +61,10 @@ pub struct Rows {
     told: String,
 }
 
-impl Rows {
+impl RowReader {
     /// Returns the state before the first line of this file.
-    pub fn new(alloc: Global, file: &'static str) -> Rows {
-        Rows {
+    pub fn new(alloc: Global, file: &'static str) -> RowReader {
+        RowReader {
             alloc,
             file,
             line: 0,
@@ -124,7 +124,7 @@ impl Rows {
     }
 }
 
-impl Rows {
+impl RowReader {
     // Adds a line to the report.
     fn tell(&mut self, what: &str, why: &str) -> Result<(), AllocError> {
         self.differing = self.differing.saturating_add(1);

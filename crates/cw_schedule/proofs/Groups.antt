@@ -7,7 +7,7 @@ use Rattle.std.proofs.lemmas.Option.{same_Some}
 use Rattle.cw_greedy.specs.Slots.{Slots, nones, ready_slots}
 use Rattle.cw_greedy.specs.lemmas.Slots.{ready_nones, ready-append}
 use Rattle.cw_schedule.specs.Boards.{left_at, lesser, least_slot, NoneFrom}
-use Rattle.cw_schedule.specs.Rows.{group, Leasts, HasFrom, IsRows, numbers_of}
+use Rattle.cw_schedule.specs.MinTrees.{group, Leasts, HasFrom, IsRows, numbers_of}
 use Rattle.cw_schedule.specs.declared.rows.Row.{Row}
 use Rattle.cw_schedule.proofs.Slots.{least-append, least_of_none, length-nones, lesser-regroup, lesser-swap, nones_at}
 use Rattle.cw_schedule.proofs.Over.{none_ready}

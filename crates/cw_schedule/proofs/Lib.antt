@@ -11,6 +11,6 @@ pub mod Over
 pub mod Boards
 pub mod Groups
 pub mod Lines
-pub mod Told
+pub mod RunSchedule
 pub mod Within
 mod Charges

@@ -5,7 +5,7 @@ use Rattle.std.proofs.lemmas.List.{set_at, get_or_at, same_from_push}
 use Rattle.std.proofs.lemmas.Option.{none-some, same_Some}
 use Rattle.cw_greedy.specs.declared.code.Code.{Code}
 use Rattle.cw_greedy.specs.declared.code.Code.TheVariants.{Instructions, Ended, Joined}
-use Rattle.cw_greedy.specs.Jumping.{Block, Last, Fork, size}
+use Rattle.cw_greedy.specs.Jumping.{StrandBlock, Last, Fork, size}
 use Rattle.cw_schedule.specs.declared.plan.Begins.{Begins}
 use Rattle.cw_schedule.specs.declared.plan.Begins.TheVariants.{Start, Child, Continuation, Sync}
 use Rattle.cw_schedule.specs.declared.plan.Strand.{Strand}
@@ -28,7 +28,7 @@ last-append n [] y ys = refl
 last-append n (x ∷ []) y ys = refl
 last-append n (x ∷ (z ∷ xs)) y ys = ap (λ (l : List Strand). x ∷ l) (last-append n (z ∷ xs) y ys)
 
-last_of_block : (n : ℕ) (begins : Begins) (b : Block) → last_more n (strands_of begins b) ≡ strands_of begins (add_at_end b n)
+last_of_block : (n : ℕ) (begins : Begins) (b : StrandBlock) → last_more n (strands_of begins b) ≡ strands_of begins (add_at_end b n)
 last_of_block n begins (Last k) = refl
 last_of_block n begins (Fork k c r a) =
     let s = strand (first_weight c) (Child (size c)) in
@@ -38,7 +38,7 @@ last_of_block n begins (Fork k c r a) =
     let g = last-append n (s ∷ behind_first c) t (behind_first r ++ strands_of Sync a) in
     ap (λ (l : List Strand). strand k begins ∷ l) (g ∙ ap (λ l. (s ∷ behind_first c) ++ l) (f ∙ ap (λ l. (t ∷ behind_first r) ++ l) e))
 
-pub length-strands : (begins : Begins) (b : Block) → length (strands_of begins b) ≡ size b
+pub length-strands : (begins : Begins) (b : StrandBlock) → length (strands_of begins b) ≡ size b
 length-strands begins (Last k) = refl
 length-strands begins (Fork k c r a) =
     let s = strands_of (Child (size c)) c in
@@ -52,7 +52,7 @@ length-strands begins (Fork k c r a) =
       length-strands Sync a,
     )
 
-fork_strands : (begins : Begins) (b c r : Block) → strands_of begins (fork_at_end b c r) ≡
+fork_strands : (begins : Begins) (b c r : StrandBlock) → strands_of begins (fork_at_end b c r) ≡
     strands_of begins b ++ (strands_of (Child (size c)) c ++ (strands_of (Continuation (size r)) r ++ strand 0 Sync ∷ []))
 fork_strands begins (Last k) c r = refl
 fork_strands begins (Fork k d q a) c r =
@@ -65,7 +65,7 @@ fork_strands begins (Fork k d q a) c r =
     ∙ ap (λ (l : List Strand). strand k begins ∷ l) (sym (append_assoc s (t ++ strands_of Sync a) z))
 
 -- the strand at the end of a list begins in another way
-patched_at : (pre : List Strand) (begins begins' : Begins) (b : Block) (at : ℕ) → at ≡ length pre →
+patched_at : (pre : List Strand) (begins begins' : Begins) (b : StrandBlock) (at : ℕ) → at ≡ length pre →
     patched (pre ++ strands_of begins b) at begins' ≡ pre ++ strands_of begins' b
 patched_at pre begins begins' b at e =
     let s = strand (first_weight b) begins in
@@ -75,7 +75,7 @@ patched_at pre begins begins' b at e =
     patched_to : Strand → List Strand
     patched_to x = set (pre ++ strands_of begins b) at (strand x.weight begins')
 
-pub worked : (frames : List Frame) (b : Block) (n : ℕ) (p p' : Planning) → Plans frames b p → p'.strands.items ≡ p.strands.items →
+pub worked : (frames : List Frame) (b : StrandBlock) (n : ℕ) (p p' : Planning) → Plans frames b p → p'.strands.items ≡ p.strands.items →
     p'.last ≡ strand (p.last.weight + n) p.last.begins → p'.spawns.items ≡ p.spawns.items → Plans frames (add_at_end b n) p'
 worked frames b n p p' h e f g = record {
   strands = ap (λ x. x ++ p'.last ∷ []) e ∙ ap (λ (s : Strand). p.strands.items ++ s ∷ []) f
@@ -86,7 +86,7 @@ worked frames b n p p' h e f g = record {
   spawns = g ∙ h.spawns;
 }
 
-length_begun : (frames : List Frame) (b : Block) (p : Planning) → Plans frames b p → length p.strands.items + 1 ≡ length (strands_before frames) + size b
+length_begun : (frames : List Frame) (b : StrandBlock) (p : Planning) → Plans frames b p → length p.strands.items + 1 ≡ length (strands_before frames) + size b
 length_begun frames b p h =
     omega (
       arith,
@@ -96,7 +96,7 @@ length_begun frames b p h =
       length-strands (begins_of frames) b,
     )
 
-pub ended : (frames : List Frame) (first : Bool) (b block : Block) (p p' : Planning) → Plans (InChild first b ∷ frames) block p →
+pub ended : (frames : List Frame) (first : Bool) (b block : StrandBlock) (p p' : Planning) → Plans (InChild first b ∷ frames) block p →
     Continues p p' (opens_of frames) (length (strands_before (InChild first b ∷ frames))) first → Plans (InRest first b block ∷ frames) (Last 0) p'
 ended frames first b block p p' h c =
     let pre = strands_before (InChild first b ∷ frames) in
@@ -115,7 +115,7 @@ ended frames first b block p p' h c =
       spawns = c.spawns ∙ ap (λ k. opens_of frames ++ open_at k first ∷ []) m;
     }
 
-pub one_joined : (frames : List Frame) (first : Bool) (b child block : Block) (p p' : Planning) (at : ℕ) → at ≡ length (strands_before (InRest first b child ∷ frames)) →
+pub one_joined : (frames : List Frame) (first : Bool) (b child block : StrandBlock) (p p' : Planning) (at : ℕ) → at ≡ length (strands_before (InRest first b child ∷ frames)) →
     Plans (InRest first b child ∷ frames) block p →
     p'.strands.items ≡ patched (p.strands.items ++ p.last ∷ []) at (Continuation (length p.strands.items + 1 - at)) →
     p'.last ≡ strand 0 Sync → p'.spawns.items ≡ opens_of frames → Plans frames (fork_at_end b child block) p'
@@ -141,7 +141,7 @@ one_joined frames first b child block p p' at is h e f g =
     }
 
 -- a planning that makes a block still makes it after more instructions
-pub makes_work : (block : Block) (n : ℕ) (codes : List Code) (p p' : Planning) → Makes block (Instructions n ∷ codes) p → p'.strands.items ≡ p.strands.items →
+pub makes_work : (block : StrandBlock) (n : ℕ) (codes : List Code) (p p' : Planning) → Makes block (Instructions n ∷ codes) p → p'.strands.items ≡ p.strands.items →
     p'.last ≡ strand (p.last.weight + n) p.last.begins → p'.spawns.items ≡ p.spawns.items → Makes block codes p'
 makes_work block n codes p p' h e f g = record {
   frames = h.frames;
@@ -150,7 +150,7 @@ makes_work block n codes p p' h e f g = record {
   reads = h.reads;
 }
 
-end_of : (codes : List Code) (block : Block) (p p' : Planning) (frames : List Frame) (begun : Block) → Plans frames begun p → read (Ended ∷ codes) frames begun ≡ Some block →
+end_of : (codes : List Code) (block : StrandBlock) (p p' : Planning) (frames : List Frame) (begun : StrandBlock) → Plans frames begun p → read (Ended ∷ codes) frames begun ≡ Some block →
     ((outer : List Open) (at : ℕ) (first : Bool) → p.spawns.items ≡ outer ++ open_at at first ∷ [] → Continues p p' outer at first) → Makes block codes p'
 end_of codes block p p' [] begun h e f = absurd (none-some block e)
 end_of codes block p p' (InRest first before child ∷ frames) begun h e f = absurd (none-some block e)
@@ -161,25 +161,25 @@ end_of codes block p p' (InChild first before ∷ frames) begun h e f = record {
   reads = e;
 }
 
-pub makes_end : (block : Block) (codes : List Code) (p p' : Planning) → Makes block (Ended ∷ codes) p →
+pub makes_end : (block : StrandBlock) (codes : List Code) (p p' : Planning) → Makes block (Ended ∷ codes) p →
     ((outer : List Open) (at : ℕ) (first : Bool) → p.spawns.items ≡ outer ++ open_at at first ∷ [] → Continues p p' outer at first) → Makes block codes p'
 makes_end block codes p p' h f = end_of codes block p p' h.frames h.begun h.plans h.reads f
 
 -- a planning with all codes read has the strands of its block
-made : (block : Block) (p : Planning) (frames : List Frame) (begun : Block) → Plans frames begun p → read [] frames begun ≡ Some block →
+made : (block : StrandBlock) (p : Planning) (frames : List Frame) (begun : StrandBlock) → Plans frames begun p → read [] frames begun ≡ Some block →
     p.strands.items ++ p.last ∷ [] ≡ strands_of Start block
 made block p [] begun h e = h.strands ∙ ap (strands_of Start) (same_Some begun block e)
 made block p (frame ∷ frames) begun h e = absurd (none-some block e)
 
-pub makes_all : (block : Block) (p : Planning) → Makes block [] p → p.strands.items ++ p.last ∷ [] ≡ strands_of Start block
+pub makes_all : (block : StrandBlock) (p : Planning) → Makes block [] p → p.strands.items ++ p.last ∷ [] ≡ strands_of Start block
 makes_all block p h = made block p h.frames h.begun h.plans h.reads
 
 -- one join of several: it is the last one, or others are left
-abbrev pub Left : (first : Bool) → (end : List Frame × Block) → Planning → Type 0
+abbrev pub Left : (first : Bool) → (end : List Frame × StrandBlock) → Planning → Type 0
 Left true end p = Plans end.0 end.1 p
 Left false end p = Joins end p
 
-step : (end : List Frame × Block) (p p' : Planning) (outer : List Open) (top : Open) (frames : List Frame) (begun : Block) → Plans frames begun p → joined frames begun ≡ Some end →
+step : (end : List Frame × StrandBlock) (p p' : Planning) (outer : List Open) (top : Open) (frames : List Frame) (begun : StrandBlock) → Plans frames begun p → joined frames begun ≡ Some end →
     p.spawns.items ≡ outer ++ top ∷ [] → p'.strands.items ≡ patched (p.strands.items ++ p.last ∷ []) top.at (Continuation (length p.strands.items + 1 - top.at)) →
     p'.last ≡ strand 0 Sync → p'.spawns.items ≡ outer → Left top.first end p'
 step end p p' outer top [] begun h e s a b d = absurd (none-some end e)
@@ -187,42 +187,42 @@ step end p p' outer top (InChild first c ∷ frames) begun h e s a b d = absurd 
 step end p p' outer top (InRest true c child ∷ frames) begun h e s a b d =
     let q = same_from_push outer (opens_of frames) top (open_at (length (strands_before (InRest true c child ∷ frames))) true) (sym s ∙ h.spawns) in
     let plans = one_joined frames true c child begun p p' top.at (ap (λ (x : Open). x.at) q.1) h a b (d ∙ q.0) in
-    let same : (frames, fork_at_end c child begun) ≡ end = same_Some {A = List Frame × Block} (frames, fork_at_end c child begun) end e in
-    subst (λ f. Left f end p') (sym (ap (λ (x : Open). x.first) q.1)) (subst (λ (x : List Frame × Block). Plans x.0 x.1 p') same plans)
+    let same : (frames, fork_at_end c child begun) ≡ end = same_Some {A = List Frame × StrandBlock} (frames, fork_at_end c child begun) end e in
+    subst (λ f. Left f end p') (sym (ap (λ (x : Open). x.first) q.1)) (subst (λ (x : List Frame × StrandBlock). Plans x.0 x.1 p') same plans)
 step end p p' outer top (InRest false c child ∷ frames) begun h e s a b d =
     let q = same_from_push outer (opens_of frames) top (open_at (length (strands_before (InRest false c child ∷ frames))) false) (sym s ∙ h.spawns) in
     let plans = one_joined frames false c child begun p p' top.at (ap (λ (x : Open). x.at) q.1) h a b (d ∙ q.0) in
     let left : Joins end p' = record { frames = frames; begun = fork_at_end c child begun; plans = plans; joins = e } in
     subst (λ f. Left f end p') (sym (ap (λ (x : Open). x.first) q.1)) left
 
-pub joins_step : (end : List Frame × Block) (p p' : Planning) (outer : List Open) (top : Open) → Joins end p → p.spawns.items ≡ outer ++ top ∷ [] →
+pub joins_step : (end : List Frame × StrandBlock) (p p' : Planning) (outer : List Open) (top : Open) → Joins end p → p.spawns.items ≡ outer ++ top ∷ [] →
     p'.strands.items ≡ patched (p.strands.items ++ p.last ∷ []) top.at (Continuation (length p.strands.items + 1 - top.at)) →
     p'.last ≡ strand 0 Sync → p'.spawns.items ≡ outer → Left top.first end p'
 joins_step end p p' outer top h s a b d = step end p p' outer top h.frames h.begun h.plans h.joins s a b d
 
 -- a planning that joins has an open spawn
-open_spawn : (end : List Frame × Block) (p : Planning) (frames : List Frame) (begun : Block) → Plans frames begun p → joined frames begun ≡ Some end → length p.spawns.items ≡ 0 → ⊥
+open_spawn : (end : List Frame × StrandBlock) (p : Planning) (frames : List Frame) (begun : StrandBlock) → Plans frames begun p → joined frames begun ≡ Some end → length p.spawns.items ≡ 0 → ⊥
 open_spawn end p [] begun h e s = none-some end e
 open_spawn end p (frame ∷ frames) begun h e s =
     let f = ap length h.spawns in
     omega (arith, s, f, length-append (opens_of frames) (open_at (length (strands_before (frame ∷ frames))) (is_first frame) ∷ []))
 
-pub joins_some : (end : List Frame × Block) (p : Planning) → Joins end p → length p.spawns.items ≡ 0 → ⊥
+pub joins_some : (end : List Frame × StrandBlock) (p : Planning) → Joins end p → length p.spawns.items ≡ 0 → ⊥
 joins_some end p h s = open_spawn end p h.frames h.begun h.plans h.joins s
 
 -- after a join the remaining codes are read
-pub read_joined : (block : Block) (codes : List Code) (o : Option (List Frame × Block)) → after_join (λ more later. read codes more later) o ≡ Some block →
-    (end : List Frame × Block) × ((o ≡ Some end) × (read codes end.0 end.1 ≡ Some block))
+pub read_joined : (block : StrandBlock) (codes : List Code) (o : Option (List Frame × StrandBlock)) → after_join (λ more later. read codes more later) o ≡ Some block →
+    (end : List Frame × StrandBlock) × ((o ≡ Some end) × (read codes end.0 end.1 ≡ Some block))
 read_joined block codes None e = absurd (none-some block e)
 read_joined block codes (Some end) e = (end, (refl, e))
 
-pub makes_joins : (block : Block) (codes : List Code) (p : Planning) → Makes block (Joined ∷ codes) p → (end : List Frame × Block) × Joins end p
+pub makes_joins : (block : StrandBlock) (codes : List Code) (p : Planning) → Makes block (Joined ∷ codes) p → (end : List Frame × StrandBlock) × Joins end p
 makes_joins block codes p h =
     let r = read_joined block codes (joined h.frames h.begun) h.reads in
     (r.0, record { frames = h.frames; begun = h.begun; plans = h.plans; joins = r.1.0 })
 
-pub makes_join : (block : Block) (codes : List Code) (p p' : Planning) → Makes block (Joined ∷ codes) p →
-    ((end : List Frame × Block) → Joins end p → Plans end.0 end.1 p') → Makes block codes p'
+pub makes_join : (block : StrandBlock) (codes : List Code) (p p' : Planning) → Makes block (Joined ∷ codes) p →
+    ((end : List Frame × StrandBlock) → Joins end p → Plans end.0 end.1 p') → Makes block codes p'
 makes_join block codes p p' h f =
     let r = read_joined block codes (joined h.frames h.begun) h.reads in
     record {

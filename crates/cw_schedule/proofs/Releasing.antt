@@ -3,14 +3,14 @@ use Rattle.std.proofs.Common.{◌≡◌, ◌≢◌, ℕ, ◌+◌, ◌≤◌, ◌
 use Rattle.std.specs.Prelude.{nat_lt}
 use Rattle.std.proofs.lemmas.Bool.{ltb-false, ltb-true}
 use Rattle.std.proofs.lemmas.Option.{none-some, same_Some}
-use Rattle.cw_greedy.specs.Jumping.{Block, Last, Fork, size, Going, Ready, Before, Both, Child, Rest, After, start, IsOver, Released}
+use Rattle.cw_greedy.specs.Jumping.{StrandBlock, Last, Fork, size, Going, Ready, Before, Both, Child, Rest, After, start, IsOver, Released}
 use Rattle.cw_greedy.specs.Jumping as j
 use Rattle.cw_schedule.specs.declared.plan.Begins.{Begins}
 use Rattle.cw_schedule.specs.declared.plan.Begins.TheVariants as w
 use Rattle.cw_schedule.specs.declared.plan.Strand.{Strand}
 use Rattle.cw_schedule.specs.Planned.{strand, first_weight}
-use Rattle.cw_schedule.specs.Shown.{Quiet, Half, Shows, PlanAt, join_of, Forks, Arrives, Joins, Releases}
-use Rattle.cw_schedule.specs.Shown as v
+use Rattle.cw_schedule.specs.BoardState.{Quiet, Half, Shows, PlanAt, join_of, Forks, Arrives, Joins, Releases}
+use Rattle.cw_schedule.specs.BoardState as v
 use Rattle.cw_facts.specs.Tests.{never}
 
 abbrev S : Type 0
@@ -33,7 +33,7 @@ no_slot {A} {x} e f = absurd (differ x e f)
     differ : (x : Option ℕ) → x ≡ None → x ≡ Some 0 → ⊥
     differ x e f = cc
 
-pub some_size : (b : Block) → 1 ≤ size b
+pub some_size : (b : StrandBlock) → 1 ≤ size b
 some_size (Last k) = omega arith
 some_size (Fork k c r a) = omega arith
 
@@ -54,7 +54,7 @@ half_same s f s' f' o n p h q = record {
   others = λ k l m. (h k (omega (arith, l)) m).1 ∙ q.others k l m;
 }
 
-shows_same : (s : S) (f : F) (s' : S) (f' : F) {o : ℕ} {b : Block} {g : Going} → Shows s f o b g → Same s f s' f' o (size b) → Shows s' f' o b g
+shows_same : (s : S) (f : F) (s' : S) (f' : F) {o : ℕ} {b : StrandBlock} {g : Going} → Shows s f o b g → Same s f s' f' o (size b) → Shows s' f' o b g
 shows_same s f s' f' (v.ready o n k e d) h =
     let u = h o (omega arith) (omega arith) in v.ready o n k (u.0 ∙ e) (u.1 ∙ d)
 shows_same s f s' f' (v.before o n k c r a e d q) h =
@@ -89,12 +89,12 @@ shows_same s f s' f' (v.after o n c r a x q sx) h =
     (shows_same s f s' f' sx (part (o + 1 + size c + size r) (size a) (omega arith) (omega arith)))
 
 -- a block begins with its first strand
-pub shows_start : (s : S) (f : F) (o : ℕ) (b : Block) → s o ≡ Some (first_weight b) → f o ≡ false →
+pub shows_start : (s : S) (f : F) (o : ℕ) (b : StrandBlock) → s o ≡ Some (first_weight b) → f o ≡ false →
     ((k : ℕ) → o < k → k < o + size b → (s k ≡ None) × (f k ≡ false)) → Shows s f o b (start b)
 shows_start s f o (Last k) e d q = v.ready o k k e d
 shows_start s f o (Fork k c r a) e d q = v.before o k k c r a e d (λ i l m. q i (omega (arith, l)) (omega (arith, m)))
 
-pub plan_first : (p : ℕ → Strand) (o : ℕ) (begins : Begins) (b : Block) → PlanAt p o begins b → p o ≡ strand (first_weight b) begins
+pub plan_first : (p : ℕ → Strand) (o : ℕ) (begins : Begins) (b : StrandBlock) → PlanAt p o begins b → p o ≡ strand (first_weight b) begins
 plan_first p o begins (Last k) h = h
 plan_first p o begins (Fork k c r a) h = h.0
 
@@ -124,7 +124,7 @@ at_second p s f s' f' i join (v.arrives n e h) d g = never _ g (subst (λ m. f m
 at_second p s f s' f' i join (v.joins n e h) d g = subst (λ m. Joins p s f s' f' i m) (same_Some n join (sym e ∙ d)) h
 
 -- the result of removing a strand from a state: its end, or the next state
-pub data Outcome (s : S) (f : F) (s' : S) (f' : F) (o : ℕ) (b : Block) (g : Going) (i : ℕ) : Type 0 where
+pub data Outcome (s : S) (f : F) (s' : S) (f' : F) (o : ℕ) (b : StrandBlock) (g : Going) (i : ℕ) : Type 0 where
   over : IsOver g → i + 1 ≡ o + size b → ((k : ℕ) → o ≤ k → k < o + size b → k ≢ i → s k ≡ None)
       → ((k : ℕ) → o ≤ k → k < o + size b → f k ≡ false) → Outcome s f s' f' o b g i
   on : (g' : Going) → Released g g' → i + 1 < o + size b → Shows s' f' o b g'
@@ -136,7 +136,7 @@ take_ready s f s' f' o n k i e d y z =
     (λ m l h ne. absurd (ne (omega (arith, l, h, y))))
     (λ m l h. let q : o ≡ m = omega (arith, l, h) in subst (λ x. f x ≡ false) q d)
 
-take_before : (p : ℕ → Strand) (s : S) (f : F) (s' : S) (f' : F) (o n k : ℕ) (c r a : Block) → s o ≡ Some k → f o ≡ false →
+take_before : (p : ℕ → Strand) (s : S) (f : F) (s' : S) (f' : F) (o n k : ℕ) (c r a : StrandBlock) → s o ≡ Some k → f o ≡ false →
     Quiet s f (o + 1) (size c + (size r + size a)) → PlanAt p (o + 1) (w.Child (size c)) c → PlanAt p (o + 1 + size c) (w.Continuation (size r)) r →
     s o ≡ Some 0 → Releases p s f s' f' o → Outcome s f s' f' o (Fork n c r a) (Before k c r a) o
 take_before p s f s' f' o n k c r a e d q pc pr z rel =
@@ -216,7 +216,7 @@ arrived_half s f s' f' i o n h below q = record {
 }
 
 -- the part after a join begins
-joined_start : (p : ℕ → Strand) (s : S) (f : F) (s' : S) (f' : F) (i o : ℕ) (a : Block) → Joins p s f s' f' i o → i < o → PlanAt p o w.Sync a →
+joined_start : (p : ℕ → Strand) (s : S) (f : F) (s' : S) (f' : F) (i o : ℕ) (a : StrandBlock) → Joins p s f s' f' i o → i < o → PlanAt p o w.Sync a →
     Half s f o (size a) → Shows s' f' o a (start a)
 joined_start p s f s' f' i o a h below pa q =
     shows_start s' f' o a (h.joined ∙ ap (λ x. Some x.weight) (plan_first p o w.Sync a pa)) h.flag
@@ -226,17 +226,17 @@ joined_start p s f s' f' i o a h below pa q =
     ))
 
 -- the join that waits after a child, and after a continuation
-join_of_rest : (p : ℕ → Strand) (i o n join : ℕ) (b : Block) → PlanAt p o (w.Continuation n) b → i + 1 ≡ o → o + n ≡ join →
+join_of_rest : (p : ℕ → Strand) (i o n join : ℕ) (b : StrandBlock) → PlanAt p o (w.Continuation n) b → i + 1 ≡ o → o + n ≡ join →
     join_of (p (i + 1)).begins (i + 1) ≡ Some join
 join_of_rest p i o n join b h e d =
     let first = ap (λ x. x.begins) (ap p e ∙ plan_first p o (w.Continuation n) b h) in
     let q : (i + 1) + n ≡ join = omega (arith, e, d) in
     ap (λ x. join_of x (i + 1)) first ∙ ap Some q
 
-join_of_after : (p : ℕ → Strand) (i o : ℕ) (b : Block) → PlanAt p o w.Sync b → i + 1 ≡ o → join_of (p (i + 1)).begins (i + 1) ≡ Some o
+join_of_after : (p : ℕ → Strand) (i o : ℕ) (b : StrandBlock) → PlanAt p o w.Sync b → i + 1 ≡ o → join_of (p (i + 1)).begins (i + 1) ≡ Some o
 join_of_after p i o b h e = let first = ap (λ x. x.begins) (ap p e ∙ plan_first p o w.Sync b h) in ap (λ x. join_of x (i + 1)) first ∙ ap Some e
 
-take_of_child : (p : ℕ → Strand) (s : S) (f : F) (s' : S) (f' : F) (o n i : ℕ) (c r a : Block) (x y : Going) → Quiet s f o 1 → Shows s f (o + 1 + size c) r y →
+take_of_child : (p : ℕ → Strand) (s : S) (f : F) (s' : S) (f' : F) (o n i : ℕ) (c r a : StrandBlock) (x y : Going) → Quiet s f o 1 → Shows s f (o + 1 + size c) r y →
     Quiet s f (o + 1 + size c + size r) (size a) → PlanAt p (o + 1 + size c) (w.Continuation (size r)) r → o < i → Releases p s f s' f' i →
     Outcome s f s' f' (o + 1) c x i → Outcome s f s' f' o (Fork n c r a) (Both x y a) i
 take_of_child p s f s' f' o n i c r a x y q sy qa pr low rel (on x' m lt sx' below above) =
@@ -261,7 +261,7 @@ take_of_child p s f s' f' o n i c r a x y q sy qa pr low rel (over h e idle unse
     (λ k l. ended_outside s f s' f' i jn k ended (λ u. omega (arith, u, l, low)) (λ u. omega (arith, u, l)))
     (λ k l. ended_outside s f s' f' i jn k ended (λ u. omega (arith, u, l, e)) (λ u. omega (arith, u, l, one)))
 
-take_of_rest : (p : ℕ → Strand) (s : S) (f : F) (s' : S) (f' : F) (o n i : ℕ) (c r a : Block) (x y : Going) → Quiet s f o 1 → Shows s f (o + 1) c x →
+take_of_rest : (p : ℕ → Strand) (s : S) (f : F) (s' : S) (f' : F) (o n i : ℕ) (c r a : StrandBlock) (x y : Going) → Quiet s f o 1 → Shows s f (o + 1) c x →
     Quiet s f (o + 1 + size c + size r) (size a) → PlanAt p (o + 1 + size c + size r) w.Sync a → o + 1 + size c ≤ i → Releases p s f s' f' i →
     Outcome s f s' f' (o + 1 + size c) r y i → Outcome s f s' f' o (Fork n c r a) (Both x y a) i
 take_of_rest p s f s' f' o n i c r a x y q sx qa pa low rel (on y' m lt sy' below above) =
@@ -286,7 +286,7 @@ take_of_rest p s f s' f' o n i c r a x y q sx qa pa low rel (over h e idle unset
     (λ k l. ended_outside s f s' f' i jn k ended (λ u. omega (arith, u, l, low)) (λ u. omega (arith, u, l)))
     (λ k l. ended_outside s f s' f' i jn k ended (λ u. omega (arith, u, l, e)) (λ u. omega (arith, u, l, one)))
 
-take_of_last_child : (p : ℕ → Strand) (s : S) (f : F) (s' : S) (f' : F) (o n i : ℕ) (c r a : Block) (x : Going) → Quiet s f o 1 →
+take_of_last_child : (p : ℕ → Strand) (s : S) (f : F) (s' : S) (f' : F) (o n i : ℕ) (c r a : StrandBlock) (x : Going) → Quiet s f o 1 →
     Quiet s f (o + 1 + size c) (size r) → Half s f (o + 1 + size c + size r) (size a) → PlanAt p (o + 1 + size c) (w.Continuation (size r)) r →
     PlanAt p (o + 1 + size c + size r) w.Sync a → o < i → Releases p s f s' f' i →
     Outcome s f s' f' (o + 1) c x i → Outcome s f s' f' o (Fork n c r a) (Child x (size r) a) i
@@ -314,7 +314,7 @@ take_of_last_child p s f s' f' o n i c r a x q qr ha pr pa low rel (over h e idl
     (λ k l. ended_outside s f s' f' i jn k ended (λ u. omega (arith, u, l, low)) (λ u. omega (arith, u, l)))
     (λ k l. ended_outside s f s' f' i jn k ended (λ u. omega (arith, u, l, e)) (λ u. omega (arith, u, l, one)))
 
-take_of_last_rest : (p : ℕ → Strand) (s : S) (f : F) (s' : S) (f' : F) (o n i : ℕ) (c r a : Block) (y : Going) → Quiet s f o (1 + size c) →
+take_of_last_rest : (p : ℕ → Strand) (s : S) (f : F) (s' : S) (f' : F) (o n i : ℕ) (c r a : StrandBlock) (y : Going) → Quiet s f o (1 + size c) →
     Half s f (o + 1 + size c + size r) (size a) → PlanAt p (o + 1 + size c + size r) w.Sync a → o + 1 + size c ≤ i → Releases p s f s' f' i →
     Outcome s f s' f' (o + 1 + size c) r y i → Outcome s f s' f' o (Fork n c r a) (Rest (size c) y a) i
 take_of_last_rest p s f s' f' o n i c r a y q ha pa low rel (on y' m lt sy' below above) =
@@ -339,7 +339,7 @@ take_of_last_rest p s f s' f' o n i c r a y q ha pa low rel (over h e idle unset
     (λ k l. ended_outside s f s' f' i jn k ended (λ u. omega (arith, u, l, low)) (λ u. omega (arith, u, l)))
     (λ k l. ended_outside s f s' f' i jn k ended (λ u. omega (arith, u, l, e)) (λ u. omega (arith, u, l, one)))
 
-take_behind : (s : S) (f : F) (s' : S) (f' : F) (o n i : ℕ) (c r a : Block) (x : Going) → Quiet s f o (1 + (size c + size r)) →
+take_behind : (s : S) (f : F) (s' : S) (f' : F) (o n i : ℕ) (c r a : StrandBlock) (x : Going) → Quiet s f o (1 + (size c + size r)) →
     Outcome s f s' f' (o + 1 + size c + size r) a x i → Outcome s f s' f' o (Fork n c r a) (After (1 + (size c + size r)) x) i
 take_behind s f s' f' o n i c r a x q (on x' m lt sx' below above) =
     on (After (1 + (size c + size r)) x') (j.behind (1 + (size c + size r)) m) (omega (arith, lt))
@@ -350,7 +350,7 @@ take_behind s f s' f' o n i c r a x q (over h e idle unset) =
     (λ k l m ne. by_less k (o + 1 + size c + size r) (λ u. (q k l (omega (arith, u))).0) (λ u. idle k u (omega (arith, m)) ne))
     (λ k l m. by_less k (o + 1 + size c + size r) (λ u. (q k l (omega (arith, u))).1) (λ u. unset k u (omega (arith, m))))
 
-pub taken : (p : ℕ → Strand) (s : S) (f : F) (s' : S) (f' : F) (i : ℕ) {o : ℕ} (begins : Begins) {b : Block} {g : Going} → Shows s f o b g → PlanAt p o begins b →
+pub taken : (p : ℕ → Strand) (s : S) (f : F) (s' : S) (f' : F) (i : ℕ) {o : ℕ} (begins : Begins) {b : StrandBlock} {g : Going} → Shows s f o b g → PlanAt p o begins b →
     o ≤ i → i < o + size b → s i ≡ Some 0 → (i + 1 < o + size b → Releases p s f s' f' i) → Outcome s f s' f' o b g i
 taken p s f s' f' i begins (v.ready o n k e d) h l m z rel = take_ready s f s' f' o n k i e d (omega (arith, l, m)) z
 taken p s f s' f' i begins (v.before o n k c r a e d q) h l m z rel =

@@ -12,7 +12,7 @@ use Rattle.cw_greedy.specs.Blocks.{block_of}
 use Rattle.cw_greedy.specs.Recorded.{Recorded}
 use Rattle.cw_greedy.specs.declared.code.Code.{Code}
 use Rattle.cw_greedy.specs.Records.{IsRecordOf}
-use Rattle.cw_greedy.specs.Jumping.{Block, Last, Fork, size, Going, Ready, Before, Both, Child, Rest, After, start, to_do, run, on_board, IsOver, Released}
+use Rattle.cw_greedy.specs.Jumping.{StrandBlock, Last, Fork, size, Going, Ready, Before, Both, Child, Rest, After, start, to_do, run, on_board, IsOver, Released}
 use Rattle.cw_greedy.specs.Jumping as j
 use Rattle.cw_greedy.specs.Rounds.{IsAfter, RoundsKeep}
 use Rattle.cw_greedy.specs.Slots.{Slots, nones, slots, ready_slots, run_slots, EachLeft, RoomFor, ShowsBoard}
@@ -21,8 +21,8 @@ use Rattle.cw_schedule.specs.declared.plan.Begins.{Begins}
 use Rattle.cw_schedule.specs.declared.plan.Begins.TheVariants as w
 use Rattle.cw_schedule.specs.declared.plan.Strand.{Strand}
 use Rattle.cw_schedule.specs.Planned.{strand, strands_of}
-use Rattle.cw_schedule.specs.Shown.{Shows, PlanAt, join_of, Releases}
-use Rattle.cw_schedule.specs.Shown as v
+use Rattle.cw_schedule.specs.BoardState.{Shows, PlanAt, join_of, Releases}
+use Rattle.cw_schedule.specs.BoardState as v
 use Rattle.cw_schedule.specs.State.{strand_at, flag_at, Reaches, Puts, waiting, Stands, Takes, Counts, Begun, IsWithin}
 use Rattle.cw_schedule.specs.State as s
 use Rattle.cw_schedule.proofs.Plans.{length-strands}
@@ -80,7 +80,7 @@ nones_fit f o (suc n) h k l m =
     by_same k o (λ e. ap f e ∙ h.0) (λ e. nones_fit f (o + 1) n h.1 k (by_less o k (λ g. omega (arith, g)) (λ g. absurd (e (omega (arith, g, l))))) (omega (arith, m)))
 
 -- the length of the list of a state, also after steps
-run_size : (l : ℕ → Option ℕ) (f : ℕ → Bool) {o : ℕ} {b : Block} {g : Going} (p n : ℕ) → Shows l f o b g → length (slots (run p n g)) ≡ size b
+run_size : (l : ℕ → Option ℕ) (f : ℕ → Bool) {o : ℕ} {b : StrandBlock} {g : Going} (p n : ℕ) → Shows l f o b g → length (slots (run p n g)) ≡ size b
 run_size l f p n (v.ready o i k e d) = refl
 run_size l f p n (v.before o i k c r a e d q) = omega (arith, length-nones (size c + (size r + size a)))
 run_size l f p n (v.both o i c r a x y q sx sy qa) =
@@ -109,7 +109,7 @@ run_size l f p n (v.rest o i c r a y q sy ha) =
 run_size l f p n (v.after o i c r a x q sx) =
     omega (arith, length-append (nones (1 + (size c + size r))) (slots (run p n x)), length-nones (1 + (size c + size r)), run_size l f p n sx)
 
-shown_size : (l : ℕ → Option ℕ) (f : ℕ → Bool) {o : ℕ} {b : Block} {g : Going} → Shows l f o b g → length (slots g) ≡ size b
+shown_size : (l : ℕ → Option ℕ) (f : ℕ → Bool) {o : ℕ} {b : StrandBlock} {g : Going} → Shows l f o b g → length (slots g) ≡ size b
 shown_size l f (v.ready o i k e d) = refl
 shown_size l f (v.before o i k c r a e d q) = omega (arith, length-nones (size c + (size r + size a)))
 shown_size l f (v.both o i c r a x y q sx sy qa) =
@@ -129,7 +129,7 @@ shown_size l f (v.after o i c r a x q sx) =
     omega (arith, length-append (nones (1 + (size c + size r))) (slots x), length-nones (1 + (size c + size r)), shown_size l f sx)
 
 -- the board represents the list of the state
-shown_fits : (l : ℕ → Option ℕ) (f : ℕ → Bool) {o : ℕ} {b : Block} {g : Going} → Shows l f o b g → Fits l o (slots g)
+shown_fits : (l : ℕ → Option ℕ) (f : ℕ → Bool) {o : ℕ} {b : StrandBlock} {g : Going} → Shows l f o b g → Fits l o (slots g)
 shown_fits l f (v.ready o i k e d) = (e, tt)
 shown_fits l f (v.before o i k c r a e d q) = (e, fits_nones l (o + 1) (size c + (size r + size a)) (λ m h g. (q m h g).0))
 shown_fits l f (v.both o i c r a x y q sx sy qa) =
@@ -170,7 +170,7 @@ shown_fits l f (v.after o i c r a x q sx) =
     fits_both l o (nones t) (slots x) (fits_nones l o t (λ k h g. (q k h g).0)) (fits_at l (o + 1 + size c + size r) (o + length (nones t)) (slots x) at (shown_fits l f sx))
 
 -- after steps the board represents the state that its list represents
-ran : (l l' : ℕ → Option ℕ) (f : ℕ → Bool) {o : ℕ} {b : Block} {g : Going} (p n : ℕ) → Shows l f o b g → Fits l' o (slots (run p n g)) → Shows l' f o b (run p n g)
+ran : (l l' : ℕ → Option ℕ) (f : ℕ → Bool) {o : ℕ} {b : StrandBlock} {g : Going} (p n : ℕ) → Shows l f o b g → Fits l' o (slots (run p n g)) → Shows l' f o b (run p n g)
 ran l l' f p n (v.ready o i k e d) h = v.ready o i _ h.0 d
 ran l l' f p n (v.before o i k c r a e d q) h =
     v.before o i _ c r a h.0 d (λ m u t. (nones_fit l' (o + 1) (size c + (size r + size a)) h.1 m u t, (q m u t).1))
@@ -213,7 +213,7 @@ ran l l' f p n (v.after o i c r a x q sx) h =
     (ran l l' f p n sx later)
 
 -- the board's slots are the list of the state
-stands_list : (block : Block) (g : Going) (strands : List Strand) (flags : List Bool) (xs : Slots) → Stands block g strands flags xs → xs ≡ slots g
+stands_list : (block : StrandBlock) (g : Going) (strands : List Strand) (flags : List Bool) (xs : Slots) → Stands block g strands flags xs → xs ≡ slots g
 stands_list block g strands flags xs h =
     let n = shown_size (left_at xs) (flag_at flags) h.shows in
     let f = shown_fits (left_at xs) (flag_at flags) h.shows in
@@ -222,7 +222,7 @@ stands_list block g strands flags xs h =
     ap (left_at xs) e ∙ fits_get (left_at xs) 0 (slots g) k None f (omega (arith, l, h.places, n)))
 
 -- several steps at once
-pub stands_run : (block : Block) (g : Going) (strands : List Strand) (flags : List Bool) (xs xs' : Slots) (p n : ℕ) → ((g : Going) → ShowsBoard g) →
+pub stands_run : (block : StrandBlock) (g : Going) (strands : List Strand) (flags : List Bool) (xs xs' : Slots) (p n : ℕ) → ((g : Going) → ShowsBoard g) →
     Stands block g strands flags xs → xs' ≡ run_slots p n xs → Stands block (run p n g) strands flags xs'
 stands_run block g strands flags xs xs' p n shows h e =
     let list : xs' ≡ slots (run p n g) = e ∙ ap (run_slots p n) (stands_list block g strands flags xs h) ∙ (shows g).runs p n in
@@ -236,7 +236,7 @@ stands_run block g strands flags xs xs' p n shows h e =
     }
 
 -- a function represents the strands of a block as they are planned
-plan_fits : (f : ℕ → Strand) (o : ℕ) (begins : Begins) (b : Block) → Fits f o (strands_of begins b) → PlanAt f o begins b
+plan_fits : (f : ℕ → Strand) (o : ℕ) (begins : Begins) (b : StrandBlock) → Fits f o (strands_of begins b) → PlanAt f o begins b
 plan_fits f o begins (Last k) h = h.0
 plan_fits f o begins (Fork k c r a) h =
     let sc = strands_of (w.Child (size c)) c in
@@ -256,17 +256,17 @@ plan_fits f o begins (Fork k c r a) h =
       ),
     )
 
-plan_of : (block : Block) (strands : List Strand) → strands ≡ strands_of w.Start block → PlanAt (strand_at strands) 0 w.Start block
+plan_of : (block : StrandBlock) (strands : List Strand) → strands ≡ strands_of w.Start block → PlanAt (strand_at strands) 0 w.Start block
 plan_of block strands e =
     subst (λ xs. PlanAt (strand_at xs) 0 w.Start block) (sym e)
     (plan_fits (strand_at (strands_of w.Start block)) 0 w.Start block (fits_self (strands_of w.Start block) (strand 0 w.Start)))
 
-reaches_at : (f : ℕ → Strand) (o count k : ℕ) (begins : Begins) (b : Block) → PlanAt f o begins b → k ≡ o → Reaches begins o count → Reaches (f k).begins k count
+reaches_at : (f : ℕ → Strand) (o count k : ℕ) (begins : Begins) (b : StrandBlock) → PlanAt f o begins b → k ≡ o → Reaches begins o count → Reaches (f k).begins k count
 reaches_at f o count k begins b h e r =
     let d = ap (λ (x : Strand). x.begins) (plan_first f o begins b h) in
     subst (λ n. Reaches (f n).begins n count) (sym e) (subst (λ x. Reaches x o count) (sym d) r)
 
-reaches : (f : ℕ → Strand) (o count : ℕ) (begins : Begins) (b : Block) → PlanAt f o begins b → o + size b ≤ count → (k : ℕ) → o < k → k < o + size b → Reaches (f k).begins k count
+reaches : (f : ℕ → Strand) (o count : ℕ) (begins : Begins) (b : StrandBlock) → PlanAt f o begins b → o + size b ≤ count → (k : ℕ) → o < k → k < o + size b → Reaches (f k).begins k count
 reaches f o count begins (Last n) h l k u t = absurd (omega (arith, u, t))
 reaches f o count begins (Fork n c r a) h l k u t =
     let rc = some_size c in
@@ -286,16 +286,16 @@ reaches f o count begins (Fork n c r a) h l k u t =
     (λ e. reaches f (o + 1 + size c + size r) count w.Sync a h.1.1.1 (omega (arith, l)) k
     (by_less (o + 1 + size c + size r) k (λ g. g) (λ g. absurd (e (omega (arith, g, u2))))) (omega (arith, t)))))
 
-length_planned : (block : Block) (strands : List Strand) → strands ≡ strands_of w.Start block → length strands ≡ size block
+length_planned : (block : StrandBlock) (strands : List Strand) → strands ≡ strands_of w.Start block → length strands ≡ size block
 length_planned block strands e = ap length e ∙ length-strands w.Start block
 
-pub stands_reaches : (block : Block) (g : Going) (strands : List Strand) (flags : List Bool) (xs : Slots) (next : ℕ) → Stands block g strands flags xs →
+pub stands_reaches : (block : StrandBlock) (g : Going) (strands : List Strand) (flags : List Bool) (xs : Slots) (next : ℕ) → Stands block g strands flags xs →
     1 ≤ next → next < length strands → Reaches (strand_at strands next).begins next (length strands)
 stands_reaches block g strands flags xs next h low high =
     let n = length_planned block strands h.planned in
     reaches (strand_at strands) 0 (length strands) w.Start block (plan_of block strands h.planned) (omega (arith, n)) next (omega (arith, low)) (omega (arith, high, n))
 
-pub stands_lengths : (block : Block) (g : Going) (strands : List Strand) (flags : List Bool) (xs : Slots) → Stands block g strands flags xs →
+pub stands_lengths : (block : StrandBlock) (g : Going) (strands : List Strand) (flags : List Bool) (xs : Slots) → Stands block g strands flags xs →
     (length strands ≡ size block) × ((length flags ≡ length strands) × (length xs ≡ length strands))
 stands_lengths block g strands flags xs h =
     let n = length_planned block strands h.planned in (n, (omega (arith, n, h.flags_are), omega (arith, n, h.places)))
@@ -379,7 +379,7 @@ some_waits (Child child ended after) = omega (arith, some_waits child)
 some_waits (Rest ended rest after) = omega (arith, some_waits rest)
 some_waits (After ended g) = some_waits g
 
-start_waits : (b : Block) → waiting (start b) ≡ size b
+start_waits : (b : StrandBlock) → waiting (start b) ≡ size b
 start_waits (Last k) = refl
 start_waits (Fork k child rest after) = omega arith
 
@@ -436,14 +436,14 @@ done_at [] i e = cc
 done_at (x ∷ xs) zero e = same_Some x (Some 0) e
 done_at (x ∷ xs) (suc i) e = done_at xs i e
 
-after_taking : (block : Block) (g : Going) (strands : List Strand) (flags flags' : List Bool) (xs ys' : Slots) (i : ℕ) → Stands block g strands flags xs →
+after_taking : (block : StrandBlock) (g : Going) (strands : List Strand) (flags flags' : List Bool) (xs ys' : Slots) (i : ℕ) → Stands block g strands flags xs →
     length ys' ≡ length xs → length flags' ≡ length flags →
     Outcome (left_at xs) (flag_at flags) (left_at ys') (flag_at flags') 0 block g i → Takes block g strands flags' ys'
 after_taking block g strands flags flags' xs ys' i h n m (over o e idle unset) = s.over o
 after_taking block g strands flags flags' xs ys' i h n m (on g' r lt sx below above) =
     s.on g' r (record { planned = h.planned; flags_are = m ∙ h.flags_are; places = n ∙ h.places; shows = sx })
 
-pub takes_on : (block : Block) (g : Going) (strands : List Strand) (flags flags' : List Bool) (xs ys ys' : Slots) (i : ℕ) → Stands block g strands flags xs →
+pub takes_on : (block : StrandBlock) (g : Going) (strands : List Strand) (flags flags' : List Bool) (xs ys ys' : Slots) (i : ℕ) → Stands block g strands flags xs →
     slice_get xs i ≡ Some (Some 0) → ys ≡ set xs i None → i + 1 < length strands → Puts strands (i + 1) flags ys flags' ys' → Takes block g strands flags' ys'
 takes_on block g strands flags flags' xs ys ys' i h z e l put =
     let n = stands_lengths block g strands flags xs h in
@@ -458,12 +458,12 @@ takes_on block g strands flags flags' xs ys ys' i h z e l put =
     (omega (arith, within, h.places)) (done_at xs i z) (λ u. rel))
 
 -- removal of the last strand
-last_outcome : (block : Block) (g : Going) (strands : List Strand) (flags flags' : List Bool) (xs ys' : Slots) (i : ℕ) → size block ≤ i + 1 →
+last_outcome : (block : StrandBlock) (g : Going) (strands : List Strand) (flags flags' : List Bool) (xs ys' : Slots) (i : ℕ) → size block ≤ i + 1 →
     Outcome (left_at xs) (flag_at flags) (left_at ys') (flag_at flags') 0 block g i → Takes block g strands flags' ys'
 last_outcome block g strands flags flags' xs ys' i l (over o e idle unset) = s.over o
 last_outcome block g strands flags flags' xs ys' i l (on g' r lt sx below above) = absurd (omega (arith, l, lt))
 
-pub takes_last : (block : Block) (g : Going) (strands : List Strand) (flags : List Bool) (xs ys : Slots) (i : ℕ) → Stands block g strands flags xs →
+pub takes_last : (block : StrandBlock) (g : Going) (strands : List Strand) (flags : List Bool) (xs ys : Slots) (i : ℕ) → Stands block g strands flags xs →
     slice_get xs i ≡ Some (Some 0) → length strands ≤ i + 1 → Takes block g strands flags ys
 takes_last block g strands flags xs ys i h z l =
     let n = stands_lengths block g strands flags xs h in
@@ -473,28 +473,28 @@ takes_last block g strands flags xs ys i h z l =
     (omega (arith, within, h.places)) (done_at xs i z) (λ u. absurd (omega (arith, u, l, n.0))))
 
 -- a strand is ready
-pub some_ready : (block : Block) (g : Going) (strands : List Strand) (flags : List Bool) (xs : Slots) → ((g : Going) → ShowsBoard g) →
+pub some_ready : (block : StrandBlock) (g : Going) (strands : List Strand) (flags : List Bool) (xs : Slots) → ((g : Going) → ShowsBoard g) →
     Stands block g strands flags xs → 1 ≤ ready_slots xs
 some_ready block g strands flags xs shows h =
     let e = ap ready_slots (stands_list block g strands flags xs h) in
     omega (arith, e, (shows g).counts, some_on_board g)
 
 -- the state of the loop
-pub data Advanced (p : ℕ) (block : Block) (taken steps : ℕ) (strands : List Strand) (flags : List Bool) (xs : Slots) : Type 0 where
+pub data Advanced (p : ℕ) (block : StrandBlock) (taken steps : ℕ) (strands : List Strand) (flags : List Bool) (xs : Slots) : Type 0 where
   advanced : (g : Going) → Stands block g strands flags xs → waiting g + taken ≡ size block → IsAfter p steps (start block) g
       → Advanced p block taken steps strands flags xs
 
-pub begins_counting : (p : ℕ) (block : Block) (strands : List Strand) (flags : List Bool) (xs : Slots) → Begun p block strands flags xs → Counts p block 0 0 strands flags xs
+pub begins_counting : (p : ℕ) (block : StrandBlock) (strands : List Strand) (flags : List Bool) (xs : Slots) → Begun p block strands flags xs → Counts p block 0 0 strands flags xs
 begins_counting p block strands flags xs h =
     s.going (start block) h.stands (omega (arith, start_waits block)) (omega arith)
 
 -- a state that is not the end
-pub still_going : (p : ℕ) (block : Block) (taken steps : ℕ) (strands : List Strand) (flags : List Bool) (xs : Slots) → taken < size block →
+pub still_going : (p : ℕ) (block : StrandBlock) (taken steps : ℕ) (strands : List Strand) (flags : List Bool) (xs : Slots) → taken < size block →
     Counts p block taken steps strands flags xs → Advanced p block taken steps strands flags xs
 still_going p block taken steps strands flags xs l (s.going g h n a) = advanced g h n a
 still_going p block taken steps strands flags xs l (s.ended e d) = absurd (omega (arith, l, e))
 
-pub advances_on : (p : ℕ) (block : Block) (taken steps more : ℕ) (strands : List Strand) (flags : List Bool) (xs ys : Slots) → ((g : Going) → ShowsBoard g) → RoundsKeep p →
+pub advances_on : (p : ℕ) (block : StrandBlock) (taken steps more : ℕ) (strands : List Strand) (flags : List Bool) (xs ys : Slots) → ((g : Going) → ShowsBoard g) → RoundsKeep p →
     Advanced p block taken steps strands flags xs → Advances p more xs ys → Advanced p block taken (steps + more) strands flags ys
 advances_on p block taken steps more strands flags xs ys shows keep (advanced g h n a) (stays e d) =
     advanced g (subst (λ zs. Stands block g strands flags zs) (sym d) h) n (omega (arith, a, e))
@@ -503,7 +503,7 @@ advances_on p block taken steps more strands flags xs ys shows keep (advanced g 
     let jump = keep.jumps g more (subst EachLeft list left) (subst (RoomFor p more) list room) in
     advanced (run p more g) (stands_run block g strands flags xs ys p more shows h e) (omega (arith, n, run_waits p more g)) (omega (arith, a, jump))
 
-pub takes_off : (p : ℕ) (block : Block) (taken steps : ℕ) (strands : List Strand) (flags flags' : List Bool) (xs ys : Slots) → RoundsKeep p →
+pub takes_off : (p : ℕ) (block : StrandBlock) (taken steps : ℕ) (strands : List Strand) (flags flags' : List Bool) (xs ys : Slots) → RoundsKeep p →
     Advanced p block taken steps strands flags xs → ((g : Going) → Stands block g strands flags xs → Takes block g strands flags' ys) →
     Counts p block (taken + 1) steps strands flags' ys
 takes_off p block taken steps strands flags flags' xs ys keep (advanced g h n a) f = by_taking (f g h)
@@ -512,18 +512,18 @@ takes_off p block taken steps strands flags flags' xs ys keep (advanced g h n a)
     by_taking (s.over o) = s.ended (omega (arith, n, over_waits g o)) (omega (arith, a, keep.ends g o))
     by_taking (s.on g' r h') = s.going g' h' (omega (arith, n, one_waits_less r)) (omega (arith, a, keep.takes g g' r))
 
-pub counts_all : (p : ℕ) (block : Block) (taken steps : ℕ) (strands : List Strand) (flags : List Bool) (xs : Slots) → size block ≤ taken →
+pub counts_all : (p : ℕ) (block : StrandBlock) (taken steps : ℕ) (strands : List Strand) (flags : List Bool) (xs : Slots) → size block ≤ taken →
     Counts p block taken steps strands flags xs → steps ≡ greedy_length p (to_do (start block))
 counts_all p block taken steps strands flags xs l (s.going g h n a) = absurd (let k = some_waits g in omega (arith, l, n, k))
 counts_all p block taken steps strands flags xs l (s.ended e d) = sym d
 
 -- the steps so far are at most all steps
-pub steps_fit : (p : ℕ) (block : Block) (taken steps : ℕ) (strands : List Strand) (flags : List Bool) (xs : Slots) →
+pub steps_fit : (p : ℕ) (block : StrandBlock) (taken steps : ℕ) (strands : List Strand) (flags : List Bool) (xs : Slots) →
     Advanced p block taken steps strands flags xs → steps ≤ greedy_length p (to_do (start block))
 steps_fit p block taken steps strands flags xs (advanced g h n a) = omega (arith, a)
 
 -- the first strand is added to an empty board
-pub starts : (block : Block) (strands : List Strand) (flags : List Bool) (xs : Slots) → strands ≡ strands_of w.Start block → flags ≡ replicate (length strands) false →
+pub starts : (block : StrandBlock) (strands : List Strand) (flags : List Bool) (xs : Slots) → strands ≡ strands_of w.Start block → flags ≡ replicate (length strands) false →
     xs ≡ set (nones (length strands)) 0 (Some (strand_at strands 0).weight) → Stands block (start block) strands flags xs
 starts block strands flags xs planned e d =
     let n = length_planned block strands planned in
@@ -560,11 +560,11 @@ puts_arrive strands next join flags flags' xs xs' e first second = by_flag (flag
     by_flag false d = s.arrives join e d (first d).0 (first d).1
     by_flag true d = s.joins join e d (second d).0 (second d).1
 
-pub advanced_ready : (p : ℕ) (block : Block) (taken steps : ℕ) (strands : List Strand) (flags : List Bool) (xs : Slots) → ((g : Going) → ShowsBoard g) →
+pub advanced_ready : (p : ℕ) (block : StrandBlock) (taken steps : ℕ) (strands : List Strand) (flags : List Bool) (xs : Slots) → ((g : Going) → ShowsBoard g) →
     Advanced p block taken steps strands flags xs → 1 ≤ ready_slots xs
 advanced_ready p block taken steps strands flags xs shows (advanced g h n a) = some_ready block g strands flags xs shows h
 
-pub advanced_state : (p : ℕ) (block : Block) (taken steps : ℕ) (strands : List Strand) (flags : List Bool) (xs : Slots) →
+pub advanced_state : (p : ℕ) (block : StrandBlock) (taken steps : ℕ) (strands : List Strand) (flags : List Bool) (xs : Slots) →
     Advanced p block taken steps strands flags xs → (g : Going) × Stands block g strands flags xs
 advanced_state p block taken steps strands flags xs (advanced g h n a) = (g, h)
 
@@ -603,5 +603,5 @@ on_one t p steps e h w =
 pub record_of : (t : Tree) (r : Recorded) (codes : List Code) → Ok codes ≡ r → IsRecordOf t r → IsRecordOf t (Ok codes)
 record_of t r codes e h = subst (IsRecordOf t) (sym e) h
 
-pub some_planned : (block : Block) (strands : List Strand) → strands ≡ strands_of w.Start block → 1 ≤ length strands
+pub some_planned : (block : StrandBlock) (strands : List Strand) → strands ≡ strands_of w.Start block → 1 ≤ length strands
 some_planned block strands e = let n = length_planned block strands e in omega (arith, n, some_size block)

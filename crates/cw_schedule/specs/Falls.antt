@@ -3,8 +3,8 @@ use Rattle.std.specs.Prelude.{◌≤◌, max, length}
 use Rattle.std.proofs.Common.{arith}
 use Rattle.cw_schedule.specs.declared.rows.Row.{Row}
 use Rattle.cw_schedule.specs.declared.rows.Row.TheVariants.{Few, Many}
-use Rattle.cw_schedule.specs.declared.rows.Rows.TheDeep.{deep-Row}
-use Rattle.cw_schedule.specs.Rows.{numbers_of, IsRows}
+use Rattle.cw_schedule.specs.declared.rows.MinTree.TheDeep.{deep-Row}
+use Rattle.cw_schedule.specs.MinTrees.{numbers_of, IsRows}
 
 pub depth_le-length-numbers : (r : Row) → IsRows r → max (deep-Row r) 0 ≤ length (numbers_of r)
 depth_le-length-numbers (Few row) h = omega arith

@@ -1,7 +1,7 @@
 pub mod Planned
 pub mod Reading
-pub mod Rows
-pub mod Shown
+pub mod MinTrees
+pub mod BoardState
 pub mod State
 pub mod Weighed
 pub mod Boards

@@ -1,7 +1,7 @@
 -- The strands of a block, each with what waits for it, and the state of a planning while codes are read.
 use Rattle.std.specs.Prelude.{ℕ, ◌+◌, ◌-◌, ◌≡◌, ◌≤◌, Bool, List, [], ◌∷◌, ◌++◌, length, Some, slice_index_or, slice_set}
 use Rattle.cw_greedy.specs.declared.code.Code.{Code}
-use Rattle.cw_greedy.specs.Jumping.{Block, Last, Fork, size}
+use Rattle.cw_greedy.specs.Jumping.{StrandBlock, Last, Fork, size}
 use Rattle.cw_schedule.specs.declared.plan.Begins.{Begins}
 use Rattle.cw_schedule.specs.declared.plan.Begins.TheVariants.{Start, Child, Continuation, Sync}
 use Rattle.cw_schedule.specs.declared.plan.Strand.{Strand}
@@ -14,12 +14,12 @@ abbrev pub strand : (weight : ℕ) → Begins → Strand
 strand k begins = record { weight = k; begins = begins }
 
 -- the number of instructions of a block's first strand
-abbrev pub first_weight : Block → ℕ
+abbrev pub first_weight : StrandBlock → ℕ
 first_weight (Last k) = k
 first_weight (Fork k child rest after) = k
 
 -- the strands of a block after its first
-abbrev pub behind_first : Block → List Strand
+abbrev pub behind_first : StrandBlock → List Strand
 behind_first (Last k) = []
 behind_first (Fork k child rest after) =
     strand (first_weight child) (Child (size child)) ∷ (behind_first child
@@ -27,7 +27,7 @@ behind_first (Fork k child rest after) =
     ++ strand (first_weight after) Sync ∷ behind_first after))
 
 -- the strands of a block whose first strand begins in this way
-abbrev pub strands_of : Begins → Block → List Strand
+abbrev pub strands_of : Begins → StrandBlock → List Strand
 strands_of begins block = strand (first_weight block) begins ∷ behind_first block
 
 -- the start of the block that is read after open spawns; the distance to its end is not known yet
@@ -77,21 +77,21 @@ pub record Continues (plan plan' : Planning) (outer : List Open) (at : ℕ) (fir
   pub spawns : plan'.spawns.items ≡ outer ++ open_at (length plan.strands.items + 1) first ∷ []
 
 -- a planning represents these open spawns and a block that has begun
-pub record Plans (frames : List Frame) (block : Block) (plan : Planning) : Type 0 where
+pub record Plans (frames : List Frame) (block : StrandBlock) (plan : Planning) : Type 0 where
   pub strands : plan.strands.items ++ plan.last ∷ [] ≡ strands_before frames ++ strands_of (begins_of frames) block
   pub spawns : plan.spawns.items ≡ opens_of frames
 
 -- a planning, with the remaining codes, makes this block
-pub record Makes (block : Block) (codes : List Code) (plan : Planning) : Type 0 where
+pub record Makes (block : StrandBlock) (codes : List Code) (plan : Planning) : Type 0 where
   pub frames : List Frame
-  pub begun : Block
+  pub begun : StrandBlock
   pub plans : Plans frames begun plan
   pub reads : read codes frames begun ≡ Some block
 
 -- the last sync block is joined, which leaves these open spawns and this block
-pub record Joins (end : List Frame × Block) (plan : Planning) : Type 0 where
+pub record Joins (end : List Frame × StrandBlock) (plan : Planning) : Type 0 where
   pub frames : List Frame
-  pub begun : Block
+  pub begun : StrandBlock
   pub plans : Plans frames begun plan
   pub joins : joined frames begun ≡ Some end
 

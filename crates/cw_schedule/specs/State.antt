@@ -3,7 +3,7 @@ use Rattle.std.specs.Prelude.{ℕ, ◌+◌, ◌-◌, ◌*◌, ◌≡◌, ◌<◌
 use Rattle.std.specs.Prelude.{slice_index_or, slice_set}
 use Rattle.cw_model.specs.Trees.{Tree, work, span}
 use Rattle.cw_greedy.specs.Greedy.{greedy_length}
-use Rattle.cw_greedy.specs.Jumping.{Block, size, Going, Ready, Before, Both, Child, Rest, After, start, to_do, IsOver}
+use Rattle.cw_greedy.specs.Jumping.{StrandBlock, size, Going, Ready, Before, Both, Child, Rest, After, start, to_do, IsOver}
 use Rattle.cw_greedy.specs.Jumping.{Released}
 use Rattle.cw_greedy.specs.Rounds.{IsAfter}
 use Rattle.cw_greedy.specs.Slots.{Slots}
@@ -12,7 +12,7 @@ use Rattle.cw_schedule.specs.declared.plan.Begins.TheVariants as w
 use Rattle.cw_schedule.specs.declared.plan.Strand.{Strand}
 use Rattle.cw_schedule.specs.Boards.{left_at}
 use Rattle.cw_schedule.specs.Planned.{strand, strands_of}
-use Rattle.cw_schedule.specs.Shown.{Shows, join_of}
+use Rattle.cw_schedule.specs.BoardState.{Shows, join_of}
 
 -- the strand at an index
 abbrev pub strand_at : List Strand → ℕ → Strand
@@ -53,19 +53,19 @@ waiting (Rest ended rest after) = waiting rest + size after
 waiting (After ended g) = waiting g
 
 -- strands, flags of joins and slots represent a state of a block
-pub record Stands (block : Block) (g : Going) (strands : List Strand) (flags : List Bool) (slots : Slots) : Type 0 where
+pub record Stands (block : StrandBlock) (g : Going) (strands : List Strand) (flags : List Bool) (slots : Slots) : Type 0 where
   pub planned : strands ≡ strands_of w.Start block
   pub flags_are : length flags ≡ size block
   pub places : length slots ≡ size block
   pub shows : Shows (left_at slots) (flag_at flags) 0 block g
 
 -- a strand is removed: it is the last one, or the next state is represented
-pub data Takes (block : Block) (g : Going) (strands : List Strand) (flags : List Bool) (slots : Slots) : Type 0 where
+pub data Takes (block : StrandBlock) (g : Going) (strands : List Strand) (flags : List Bool) (slots : Slots) : Type 0 where
   over : IsOver g → Takes block g strands flags slots
   on : (g' : Going) → Released g g' → Stands block g' strands flags slots → Takes block g strands flags slots
 
 -- after some strands and steps: a state is represented, or all strands are done
-pub data Counts (processors : ℕ) (block : Block) (taken steps : ℕ) (strands : List Strand) (flags : List Bool)
+pub data Counts (processors : ℕ) (block : StrandBlock) (taken steps : ℕ) (strands : List Strand) (flags : List Bool)
     (slots : Slots) : Type 0 where
   going : (g : Going) → Stands block g strands flags slots → waiting g + taken ≡ size block →
       IsAfter processors steps (start block) g
@@ -74,7 +74,7 @@ pub data Counts (processors : ℕ) (block : Block) (taken steps : ℕ) (strands 
       Counts processors block taken steps strands flags slots
 
 -- the first state of a block, whose schedule length fits in 64 bits
-pub record Begun (processors : ℕ) (block : Block) (strands : List Strand) (flags : List Bool) (slots : Slots) : Type 0
+pub record Begun (processors : ℕ) (block : StrandBlock) (strands : List Strand) (flags : List Bool) (slots : Slots) : Type 0
   where
     pub stands : Stands block (start block) strands flags slots
     pub fits : greedy_length processors (to_do (start block)) < 18446744073709551616

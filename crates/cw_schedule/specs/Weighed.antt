@@ -3,13 +3,13 @@ use Rattle.std.specs.Prelude.{ℕ, ◌+◌, ◌-◌, ◌^◌, ◌≡◌, max, mi
 use Rattle.cw_model.specs.declared.burden.Burden.{Burden}
 use Rattle.cw_model.specs.Burdens.{at_child, at_rest}
 use Rattle.cw_greedy.specs.declared.code.Code.{Code}
-use Rattle.cw_greedy.specs.Jumping.{Block, Last, Fork}
+use Rattle.cw_greedy.specs.Jumping.{StrandBlock, Last, Fork}
 use Rattle.cw_schedule.specs.declared.weights.Spawn.{Spawn}
 use Rattle.cw_schedule.specs.declared.weights.Ways.{Ways}
 use Rattle.cw_schedule.specs.Reading.{Frame, InChild, InRest, joined, read}
 
 -- the weight of the heaviest path through a block, with the charge at each fork that it goes through
-abbrev pub path_of : (burden : Burden) → Block → ℕ
+abbrev pub path_of : (burden : Burden) → StrandBlock → ℕ
 path_of burden (Last k) = k
 path_of burden (Fork k child rest after) =
     k + (max (at_child burden + path_of burden child) (at_rest burden + path_of burden rest) + path_of burden after)
@@ -38,20 +38,20 @@ spawns_of burden [] = []
 spawns_of burden (frame ∷ frames) = spawns_of burden frames ++ spawn_of burden frame ∷ []
 
 -- the record of the paths through open spawns and through a block that has begun
-pub record Weighs (burden : Burden) (frames : List Frame) (block : Block) (w : Ways) : Type 0 where
+pub record Weighs (burden : Burden) (frames : List Frame) (block : StrandBlock) (w : Ways) : Type 0 where
   pub path : w.path ≡ counted (path_of burden block)
   pub spawns : w.spawns.items ≡ spawns_of burden frames
 
 -- after the remaining codes, the paths will be the paths of this block
-pub record WillWeigh (burden : Burden) (block : Block) (codes : List Code) (w : Ways) : Type 0 where
+pub record WillWeigh (burden : Burden) (block : StrandBlock) (codes : List Code) (w : Ways) : Type 0 where
   pub frames : List Frame
-  pub begun : Block
+  pub begun : StrandBlock
   pub weighs : Weighs burden frames begun w
   pub reads : read codes frames begun ≡ Some block
 
 -- the last sync block is joined, which leaves these open spawns and this block
-pub record WillJoin (burden : Burden) (end : List Frame × Block) (w : Ways) : Type 0 where
+pub record WillJoin (burden : Burden) (end : List Frame × StrandBlock) (w : Ways) : Type 0 where
   pub frames : List Frame
-  pub begun : Block
+  pub begun : StrandBlock
   pub weighs : Weighs burden frames begun w
   pub joins : joined frames begun ≡ Some end

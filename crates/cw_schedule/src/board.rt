@@ -5,8 +5,8 @@ ghost use Rattle.cw_greedy.specs.Slots.{nones, ready_slots, run_slots};
 ghost use Rattle.cw_schedule.specs.Boards.{least_first, least_slot, left_at, lowered, minus, shown, Advances, EndFrom, Full, HasRoom, Keeps, Moves};
 ghost use Rattle.cw_schedule.specs.Boards as boards;
 
-use crate::line::Line;
-use crate::rows::{Rows, is_equal};
+use crate::line::ReadyList;
+use crate::rows::{MinTree, is_equal};
 use std::alloc::{AllocError, Global};
 
 /// A place for each strand of a schedule. A place holds the number of instructions that its strand has left, or
@@ -14,13 +14,13 @@ use std::alloc::{AllocError, Global};
 #[derive(Drop)]
 pub(crate) struct Board {
     // The time at which each running strand ends.
-    running: Rows,
+    running: MinTree,
     // The number of running strands.
     count: u64,
     // The steps so far, counted from an arbitrary start.
     time: u64,
     // The number of instructions that each waiting strand has left.
-    waiting: Line,
+    waiting: ReadyList,
     // Running strands are before this place, and waiting strands are not.
     border: usize,
     // The number of places.
@@ -33,8 +33,8 @@ impl Board {
         ensures keeps { IfOk result (λ b. Keeps b) }
         ensures shown { IfOk result (λ b. shown b ≡ nones places) }
     {
-        let running = Rows::new(alloc, places)?;
-        let waiting = Line::new(alloc, places)?;
+        let running = MinTree::new(alloc, places)?;
+        let waiting = ReadyList::new(alloc, places)?;
         Ok(Board {
             running,
             count: 0,
@@ -211,7 +211,7 @@ fn one_if_none(left: Option<u64>) -> u64
 
 // Returns the time, or an earlier time (with the ends lowered) if the end of a strand with `left` instructions left
 // would exceed 64 bits.
-fn time_for(running: &mut Rows, places: usize, time: u64, left: u64) -> u64
+fn time_for(running: &mut MinTree, places: usize, time: u64, left: u64) -> u64
     requires places { places ≡ length running.old }
     requires ends { EndFrom time running.old }
     ensures ends { EndFrom result running.new }
@@ -226,7 +226,7 @@ fn time_for(running: &mut Rows, places: usize, time: u64, left: u64) -> u64
 }
 
 // Decreases each number by `by`.
-fn lower_all(running: &mut Rows, places: usize, by: u64)
+fn lower_all(running: &mut MinTree, places: usize, by: u64)
     requires places { places ≡ length running.old }
     requires ends { EndFrom by running.old }
     ensures { running.new ≡ lowered by running.old }

@@ -3,7 +3,7 @@
 ghost use Rattle.std.specs.Prelude.{◌≡◌, ℕ, ◌+◌, ◌-◌, ◌<◌, ◌≤◌, ◌^◌, ◌++◌, ◌∷◌, [], Bool, Some, List, length, IfOk, OnOk};
 ghost use Rattle.cw_greedy.specs.declared.code.Code.{Code};
 ghost use Rattle.cw_greedy.specs.Entries.{code_of_cut, codes_of_chunks, codes_of_entries, codes_of_entry};
-ghost use Rattle.cw_greedy.specs.Jumping.{Block, Last};
+ghost use Rattle.cw_greedy.specs.Jumping.{StrandBlock, Last};
 ghost use Rattle.cw_model.specs.declared.limits.TheConstants.{MOST_LIMIT};
 ghost use Rattle.cw_schedule.specs.declared.plan.Begins.TheVariants.{Child, Continuation, Start, Sync};
 ghost use Rattle.cw_schedule.specs.declared.plan.Open.{Open};
@@ -120,8 +120,8 @@ impl Planning {
 
     // Joins the spawns of a sync block, the last one first.
     fn joined(&mut self) -> Result<(), AllocError>
-        requires { (end : List Frame × Block) × Joins end self.old }
-        ensures joined { (end : List Frame × Block) → Joins end self.old
+        requires { (end : List Frame × StrandBlock) × Joins end self.old }
+        ensures joined { (end : List Frame × StrandBlock) → Joins end self.old
             → OnOk result (Plans end.0 end.1 self.new) }
         ensures weight { OnOk result (self.new.last.weight ≡ 0) }
     {
@@ -136,9 +136,9 @@ impl Planning {
 
     // Follows a cut.
     fn cut(&mut self, cut: Cut) -> Result<(), AllocError>
-        requires { (block : Block)
+        requires { (block : StrandBlock)
             × ((later : List Code) × Makes block (code_of_cut cut ++ later) self.old) }
-        ensures makes { (block : Block) (later : List Code)
+        ensures makes { (block : StrandBlock) (later : List Code)
             → Makes block (code_of_cut cut ++ later) self.old
             → OnOk result (Makes block later self.new) }
         ensures weight { OnOk result (self.new.last.weight ≤ self.old.last.weight) }
@@ -164,9 +164,9 @@ impl Planning {
     // Follows an entry.
     fn follow(&mut self, entry: Entry) -> Result<(), AllocError>
         requires fits { self.old.last.weight + entry.before < 2 ^ 64 }
-        requires makes { (block : Block)
+        requires makes { (block : StrandBlock)
             × ((later : List Code) × Makes block (codes_of_entry entry ++ later) self.old) }
-        ensures makes { (block : Block) (later : List Code)
+        ensures makes { (block : StrandBlock) (later : List Code)
             → Makes block (codes_of_entry entry ++ later) self.old
             → OnOk result (Makes block later self.new) }
         ensures weight { OnOk result (self.new.last.weight ≤ self.old.last.weight + entry.before) }
@@ -180,9 +180,9 @@ impl Planning {
     fn follow_all(&mut self, entries: &[Entry]) -> Result<(), AllocError>
         requires fits { self.old.last.weight + instructions (codes_of_entries entries.now)
             ≤ MOST_LIMIT }
-        requires makes { (block : Block) × ((later : List Code)
+        requires makes { (block : StrandBlock) × ((later : List Code)
             × Makes block (codes_of_entries entries.now ++ later) self.old) }
-        ensures makes { (block : Block) (later : List Code)
+        ensures makes { (block : StrandBlock) (later : List Code)
             → Makes block (codes_of_entries entries.now ++ later) self.old
             → OnOk result (Makes block later self.new) }
         ensures weight { OnOk result (self.new.last.weight
@@ -202,9 +202,9 @@ impl Planning {
 /// `AllocError` if memory runs out.
 pub fn plan(alloc: Global, chunks: &[Vec<Entry>]) -> Result<Vec<Strand>, AllocError>
     requires fits { instructions (codes_of_chunks chunks.now) ≤ MOST_LIMIT }
-    requires block { (block : Block)
+    requires block { (block : StrandBlock)
         × (read (codes_of_chunks chunks.now) [] (Last 0) ≡ Some block) }
-    ensures { (block : Block) → read (codes_of_chunks chunks.now) [] (Last 0) ≡ Some block
+    ensures { (block : StrandBlock) → read (codes_of_chunks chunks.now) [] (Last 0) ≡ Some block
         → IfOk result (λ strands. strands.items ≡ strands_of Start block) }
 {
     let mut plan = Planning {

@@ -5,7 +5,7 @@ ghost use Rattle.cw_greedy.specs.Slots.{nones, ready_slots};
 ghost use Rattle.cw_schedule.specs.Boards.{least_slot, Advances};
 
 use crate::board::Board;
-use crate::line::Line;
+use crate::line::ReadyList;
 use std::alloc::{AllocError, Global};
 use std::marker::Model;
 
@@ -23,7 +23,7 @@ pub struct Ready {
 #[derive(Drop)]
 enum Kept {
     // For few processors.
-    InLine(Line),
+    InLine(ReadyList),
     OnBoard(Board),
 }
 
@@ -50,7 +50,7 @@ impl Ready {
         ensures { IfOk result (λ r. r ≡ nones places) }
     {
         if processors <= FEW {
-            let kept = Kept::InLine(Line::new(alloc, places)?);
+            let kept = Kept::InLine(ReadyList::new(alloc, places)?);
             return Ok(Ready { kept });
         }
         let kept = Kept::OnBoard(Board::new(alloc, places)?);

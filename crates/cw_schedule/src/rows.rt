@@ -3,7 +3,7 @@
 ghost use Rattle.std.specs.Prelude.{◌≡◌, ◌↔◌, ◌<◌, ◌≤◌, ◌/◌, ℕ, length, Some, None, IfOk, IsTrue, slice_set};
 ghost use Rattle.cw_greedy.specs.Slots.{nones, ready_slots};
 ghost use Rattle.cw_schedule.specs.Boards.{least_slot, left_at, lesser, NoneFrom};
-ghost use Rattle.cw_schedule.specs.Rows.{group, HasFrom, IsLast, Leasts};
+ghost use Rattle.cw_schedule.specs.MinTrees.{group, HasFrom, IsLast, Leasts};
 
 use std::alloc::{AllocError, Global};
 use std::marker::Model;
@@ -14,7 +14,7 @@ const GROUP: usize = 8;
 /// An optional number for each place. The minimum and the last number are found in a few steps.
 #[cycle(rows)]
 #[derive(Drop)]
-pub(crate) struct Rows {
+pub(crate) struct MinTree {
     row: Row,
 }
 
@@ -24,16 +24,16 @@ enum Row {
     // At most one group.
     Few(Vec<Option<u64>>),
     // More than one group, with the minimum of each group.
-    Many(Vec<Option<u64>>, Box<Rows>),
+    Many(Vec<Option<u64>>, Box<MinTree>),
 }
 
-impl Model for Rows {
+impl Model for MinTree {
     ghost use Rattle.cw_greedy.specs.Slots.{Slots};
     ghost use Rattle.std.specs.Prelude.{length};
 
     ghost Value = { Slots };
 
-    ghost use Rattle.cw_schedule.specs.Rows.{numbers_of, IsRows};
+    ghost use Rattle.cw_schedule.specs.MinTrees.{numbers_of, IsRows};
 
     ghost view = { λ r. numbers_of r.row };
 
@@ -46,18 +46,18 @@ impl Model for Rows {
     ghost size_decreases = { λ r h. depth_le-length-numbers r.row h };
 }
 
-impl Rows {
+impl MinTree {
     // Creates this number of places, without numbers.
-    pub(crate) fn new(alloc: Global, places: usize) -> Result<Rows, AllocError>
+    pub(crate) fn new(alloc: Global, places: usize) -> Result<MinTree, AllocError>
         ensures { IfOk result (λ r. r ≡ nones places) }
     {
         let mut row = Vec::with_capacity(alloc, places)?;
         row.resize(places, None)?;
         if places <= GROUP {
-            return Ok(Rows { row: Row::Few(row) });
+            return Ok(MinTree { row: Row::Few(row) });
         }
-        let above = Box::new(alloc, Rows::new(alloc, places / GROUP + 1)?)?;
-        Ok(Rows {
+        let above = Box::new(alloc, MinTree::new(alloc, places / GROUP + 1)?)?;
+        Ok(MinTree {
             row: Row::Many(row, above),
         })
     }
@@ -120,7 +120,7 @@ impl Rows {
 
 // Most numbers are not the minimum of their group, so that usually no row above changes.
 #[cycle(set)]
-fn set_in_rows(row: &mut [Option<u64>], above: &mut Rows, place: usize, number: Option<u64>)
+fn set_in_rows(row: &mut [Option<u64>], above: &mut MinTree, place: usize, number: Option<u64>)
     requires rows { Leasts row.old above.old }
     requires place { place < length row.old }
     ensures rows { Leasts row.new above.new }

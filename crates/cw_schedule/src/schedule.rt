@@ -5,7 +5,7 @@ ghost use Rattle.cw_model.specs.Trees.{Tree, work};
 ghost use Rattle.cw_model.specs.declared.limits.TheConstants.{MOST_LIMIT};
 ghost use Rattle.cw_greedy.specs.Greedy.{greedy_length};
 ghost use Rattle.cw_greedy.specs.Blocks.{block_of};
-ghost use Rattle.cw_greedy.specs.Jumping.{Block, Going, start, to_do};
+ghost use Rattle.cw_greedy.specs.Jumping.{StrandBlock, Going, start, to_do};
 ghost use Rattle.cw_greedy.specs.Slots.{nones};
 ghost use Rattle.cw_schedule.specs.declared.plan.Begins.TheVariants.{Start};
 ghost use Rattle.cw_schedule.specs.Planned.{strands_of};
@@ -60,10 +60,10 @@ fn release(strands: &[Strand], flags: &mut [bool], board: &mut Ready, next: usiz
 
 // Removes a ready strand that has no instruction left.
 fn take(strands: &[Strand], flags: &mut [bool], board: &mut Ready)
-    requires state { (block : Block)
+    requires state { (block : StrandBlock)
         × ((g : Going) × Stands block g strands.now flags.old board.old) }
     requires done { least_slot board.old ≡ Some 0 }
-    ensures { (block : Block) (g : Going) → Stands block g strands.now flags.old board.old
+    ensures { (block : StrandBlock) (g : Going) → Stands block g strands.now flags.old board.old
         → Takes block g strands.now flags.new board.new }
 {
     let count = strands.len();
@@ -77,8 +77,8 @@ fn take(strands: &[Strand], flags: &mut [bool], board: &mut Ready)
 // on the board.
 fn count_steps(strands: &[Strand], flags: &mut [bool], board: &mut Ready, processors: u64) -> u64
     requires processors { 1 ≤ processors }
-    requires begun { (block : Block) × Begun processors block strands.now flags.old board.old }
-    ensures { (block : Block) → Begun processors block strands.now flags.old board.old
+    requires begun { (block : StrandBlock) × Begun processors block strands.now flags.old board.old }
+    ensures { (block : StrandBlock) → Begun processors block strands.now flags.old board.old
         → result ≡ greedy_length processors (to_do (start block)) }
 {
     lists_show_boards();

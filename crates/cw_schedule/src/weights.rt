@@ -6,7 +6,7 @@ ghost use Rattle.cw_model.specs.declared.limits.TheConstants.{MOST_BURDEN, MOST_
 ghost use Rattle.cw_greedy.specs.declared.code.Code.{Code};
 ghost use Rattle.cw_greedy.specs.Entries.{code_of_cut, codes_of_chunks, codes_of_entries, codes_of_entry};
 ghost use Rattle.cw_greedy.specs.Recorded.{cuts};
-ghost use Rattle.cw_greedy.specs.Jumping.{Block, Last};
+ghost use Rattle.cw_greedy.specs.Jumping.{StrandBlock, Last};
 ghost use Rattle.cw_greedy.specs.Counts.{spawns_in};
 ghost use Rattle.cw_greedy.specs.Records.{IsRecordOf};
 ghost use Rattle.cw_schedule.specs.declared.weights.Spawn.{Spawn};
@@ -114,7 +114,7 @@ impl Ways {
     // Joins the spawns of a sync block, the last one first.
     fn joined(&mut self, burden: Burden)
         ensures work { self.new.work ≡ self.old.work }
-        ensures joined { (end : List Frame × Block) → WillJoin burden end self.old
+        ensures joined { (end : List Frame × StrandBlock) → WillJoin burden end self.old
             → Weighs burden end.0 end.1 self.new }
     {
         while let Some(top) = self.spawns.pop() {
@@ -128,7 +128,7 @@ impl Ways {
     // Follows a cut.
     fn cut(&mut self, burden: Burden, cut: Cut) -> Result<(), AllocError>
         ensures work { OnOk result (self.new.work ≡ self.old.work) }
-        ensures weighs { (block : Block) (later : List Code)
+        ensures weighs { (block : StrandBlock) (later : List Code)
             → WillWeigh burden block (code_of_cut cut ++ later) self.old
             → OnOk result (WillWeigh burden block later self.new) }
     {
@@ -154,7 +154,7 @@ impl Ways {
     fn follow(&mut self, burden: Burden, entry: Entry) -> Result<(), AllocError>
         ensures work { OnOk result
             (counted self.new.work ≡ counted (self.old.work + entry.before)) }
-        ensures weighs { (block : Block) (later : List Code)
+        ensures weighs { (block : StrandBlock) (later : List Code)
             → WillWeigh burden block (codes_of_entry entry ++ later) self.old
             → OnOk result (WillWeigh burden block later self.new) }
     {
@@ -167,7 +167,7 @@ impl Ways {
     fn follow_all(&mut self, burden: Burden, entries: &[Entry]) -> Result<(), AllocError>
         ensures work { OnOk result (counted self.new.work
             ≡ counted (self.old.work + instructions (codes_of_entries entries.now))) }
-        ensures weighs { (block : Block) (later : List Code)
+        ensures weighs { (block : StrandBlock) (later : List Code)
             → WillWeigh burden block (codes_of_entries entries.now ++ later) self.old
             → OnOk result (WillWeigh burden block later self.new) }
     {
@@ -182,7 +182,7 @@ impl Ways {
 fn weighed(alloc: Global, burden: Burden, chunks: &[Vec<Entry>]) -> Result<Weights, AllocError>
     ensures work { IfOk result
         (λ w. counted w.work ≡ counted (instructions (codes_of_chunks chunks.now))) }
-    ensures span { (block : Block) → read (codes_of_chunks chunks.now) [] (Last 0) ≡ Some block
+    ensures span { (block : StrandBlock) → read (codes_of_chunks chunks.now) [] (Last 0) ≡ Some block
         → IfOk result (λ w. w.span ≡ counted (path_of burden block)) }
 {
     let mut ways = Ways {

@@ -4,7 +4,7 @@ ghost use Rattle.std.specs.Prelude.{◌≡◌, ◌<◌, ◌∷◌, [], ℤ, leng
 ghost use Rattle.cw_slices.specs.Placed.{IsOwn};
 ghost use Rattle.cw_slices.specs.Blocks.{IsIn, IsWhole};
 
-use cw_slices::{Block, Slice};
+use cw_slices::{ArrayBlock, Slice};
 use std::test::Fail;
 use std::thread;
 
@@ -102,7 +102,7 @@ fn shared_on(part: Slice) -> (Slice, i64)
     ensures items { result.0.items ≡ part.items }
     ensures spot { result.0.spot ≡ part.spot }
 {
-    let mut block = Block::of(part);
+    let mut block = ArrayBlock::of(part);
     let n = block.len();
     let share = block.share(0, n);
     let (share, sum) = both_ends(share);
@@ -110,7 +110,7 @@ fn shared_on(part: Slice) -> (Slice, i64)
     (block.whole(), sum)
 }
 
-fn read_first(block: Block) -> (Block, i64)
+fn read_first(block: ArrayBlock) -> (ArrayBlock, i64)
     requires { IsIn block.cells 0 }
     ensures { result.0 ≡ block }
 {
@@ -125,11 +125,11 @@ fn two_threads_read(rt: HostRuntime) -> Result<(), Fail> {
     let mut slice = Slice::zeros(rt.alloc(), 4)?;
     slice.set(0, 6);
     slice.set(3, 8);
-    let mut block = Block::of(slice);
+    let mut block = ArrayBlock::of(slice);
     let yours = block.share(0, 4);
     let ((block, here), (yours, there)) = thread::join(
         &rt,
-        || -> (Block, i64)
+        || -> (ArrayBlock, i64)
             requires { IsIn block.cells 0 }
             ensures { result.0 ≡ block }
         { read_first(block) },
@@ -148,7 +148,7 @@ fn two_threads_read(rt: HostRuntime) -> Result<(), Fail> {
     Ok(())
 }
 
-fn write_last(mut block: Block, number: i64) -> Block
+fn write_last(mut block: ArrayBlock, number: i64) -> ArrayBlock
     requires there { IsIn block.cells 3 }
     requires own { slice_get block.rights 3 ≡ Some 0 }
     ensures cells { result.cells ≡ slice_set block.cells 3 (Some number) }
@@ -163,7 +163,7 @@ fn write_last(mut block: Block, number: i64) -> Block
 #[test]
 #[tactic(auto, using(cw_slices::specs::lemmas::Sent::slice_send, cw_slices::specs::lemmas::Sent::block_send))]
 fn a_part_is_lent(rt: HostRuntime) -> Result<(), Fail> {
-    let mut block = Block::zeros(rt.alloc(), 4)?;
+    let mut block = ArrayBlock::zeros(rt.alloc(), 4)?;
     let part = block.lend(1, 2);
     let (part, mut block) = thread::join(
         &rt,
@@ -173,7 +173,7 @@ fn a_part_is_lent(rt: HostRuntime) -> Result<(), Fail> {
             ensures spot { result.spot ≡ part.spot }
             ensures len { length result.items ≡ length part.items }
         { write_first(part, 7) },
-        || -> Block
+        || -> ArrayBlock
             requires there { IsIn block.cells 3 }
             requires own { slice_get block.rights 3 ≡ Some 0 }
             ensures cells { result.cells ≡ slice_set block.cells 3 (Some (pos 9)) }
@@ -191,7 +191,7 @@ fn a_part_is_lent(rt: HostRuntime) -> Result<(), Fail> {
 
 // Returns whether an empty part at the end and the last of three numbers can be lent and given back, while the first
 // number is out.
-fn are_lent_at_the_end(block: &mut Block) -> bool
+fn are_lent_at_the_end(block: &mut ArrayBlock) -> bool
     requires cells { (x y : ℤ) × (block.old.cells ≡ None ∷ Some x ∷ Some y ∷ []) }
     requires whole { IsWhole block.old }
     ensures cells { (x y : ℤ) × (block.new.cells ≡ None ∷ Some x ∷ Some y ∷ []) }
@@ -208,7 +208,7 @@ fn are_lent_at_the_end(block: &mut Block) -> bool
 
 // Returns whether the first number, which is 4, and an empty part at the beginning can be lent and given back, while
 // the others are lent too.
-fn are_lent_at_both_ends(block: &mut Block) -> bool
+fn are_lent_at_both_ends(block: &mut ArrayBlock) -> bool
     requires cells { (x y z : ℤ) × (block.old.cells ≡ Some x ∷ Some y ∷ Some z ∷ []) }
     requires whole { IsWhole block.old }
     ensures cells { (x y z : ℤ) × (block.new.cells ≡ Some x ∷ Some y ∷ Some z ∷ []) }
@@ -230,7 +230,7 @@ fn is_taken_whole(mut slice: Slice) -> bool
     requires items { slice.items ≡ replicate 3 (pos 0) }
 {
     slice.set(0, 4);
-    let mut block = Block::of(slice);
+    let mut block = ArrayBlock::of(slice);
     let are_lent = are_lent_at_both_ends(&mut block);
     let whole = block.take();
     let first = whole.get(0);
@@ -250,7 +250,7 @@ fn parts_are_lent_at_the_ends(rt: HostRuntime) -> Result<(), Fail> {
 fn dropped_with_a_share_out(rt: HostRuntime) -> Result<(), Fail> {
     let mut slice = Slice::zeros(rt.alloc(), 2)?;
     slice.set(1, 5);
-    let mut block = Block::of(slice);
+    let mut block = ArrayBlock::of(slice);
     let share = block.share(1, 1);
     let again = block.share(1, 1);
     drop(block);
@@ -262,12 +262,12 @@ fn dropped_with_a_share_out(rt: HostRuntime) -> Result<(), Fail> {
 // The memory is not freed, so the part can still be used.
 #[test]
 fn dropped_with_a_part_out(rt: HostRuntime) -> Result<(), Fail> {
-    let mut block = Block::zeros(rt.alloc(), 2)?;
+    let mut block = ArrayBlock::zeros(rt.alloc(), 2)?;
     let mut part = block.lend(1, 1);
     drop(block);
     part.set(0, 6);
     assert_eq!(rt; part.get(0), 6);
-    let empty = Block::empty(rt.alloc());
+    let empty = ArrayBlock::empty(rt.alloc());
     assert_eq!(rt; empty.whole().len(), 0);
     Ok(())
 }

@@ -1,2 +1,2 @@
 mod Counted
-mod Told
+mod RunFacts

@@ -27,7 +27,7 @@ use Rattle.cw_jobs.specs.declared.call.Extent.TheVariants as extent
 use Rattle.cw_jobs.specs.declared.call.Parts.{Parts}
 use Rattle.cw_jobs.specs.declared.effect.Effect.{Effect}
 use Rattle.cw_jobs.specs.declared.effect.Effect.TheVariants as effect
-use Rattle.cw_jobs.specs.declared.effect.Shown.{Shown}
+use Rattle.cw_jobs.specs.declared.effect.PieceOutput.{PieceOutput}
 use Rattle.cw_jobs.specs.Totals.{HoldsTotals}
 use Rattle.cw_jobs.specs.Jobs.{extent_of, begins_at}
 use Rattle.cw_jobs.specs.Means.{HasShown, MeansIt, IsMeaningOf}
@@ -46,7 +46,7 @@ use Rattle.cw_strand.proofs.Course.{ended, arrived, come_alone, come_joins}
 use Rattle.cw_strand.proofs.Ends.{is_nil, no_lent}
 use Rattle.cw_strand.proofs.RunsOn.{sound_of}
 
-shown_as : (code : Code) (r : Run) (cost count : ℕ) (x : Shown) (t : Trace) → IsShown r cost x → cost ≡ count → r.machine.lines.items ≡ t.lines
+shown_as : (code : Code) (r : Run) (cost count : ℕ) (x : PieceOutput) (t : Trace) → IsShown r cost x → cost ≡ count → r.machine.lines.items ≡ t.lines
     → HoldsTotals code r.machine.totals.items t.updates → HasShown code x t count
 shown_as code r cost count x t is e lines totals = record {
   cost = is.counted ∙ e;

@@ -12,7 +12,7 @@ use Rattle.cw_jobs.specs.declared.call.Parts.{Parts}
 use Rattle.cw_jobs.specs.declared.call.Extent.TheVariants as extent
 use Rattle.cw_jobs.specs.declared.effect.Effect.{Effect}
 use Rattle.cw_jobs.specs.declared.effect.Effect.TheVariants as effect
-use Rattle.cw_jobs.specs.declared.effect.Shown.{Shown}
+use Rattle.cw_jobs.specs.declared.effect.PieceOutput.{PieceOutput}
 use Rattle.cw_jobs.specs.declared.job.Job.{Job}
 use Rattle.cw_jobs.specs.Jobs.{code_of, origin_of, IsJob}
 use Rattle.cw_jobs.specs.Means.{IsMeaningOf}
@@ -239,7 +239,7 @@ LeadsTo (advance.Came (step.Ended e)) old new = KeptBy (step.Ended e) old new ×
 LeadsTo _ old new = ⊥
 
 -- what a run has shown and counted
-pub record IsShown (r : Run) (cost : ℕ) (shown : Shown) : Type 0 where
+pub record IsShown (r : Run) (cost : ℕ) (shown : PieceOutput) : Type 0 where
   pub lines : shown.lines ≡ r.machine.lines
   pub totals : shown.totals ≡ r.machine.totals
   pub meter : shown.meter ≡ r.meter

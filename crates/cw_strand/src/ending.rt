@@ -12,7 +12,7 @@ use crate::lending::empty_rest;
 use crate::strand::{Mode, Strand};
 use cw_code::laws::runs_stay_in_their_functions;
 use cw_jobs::call::Rest;
-use cw_jobs::effect::{Effect, Shown};
+use cw_jobs::effect::{Effect, PieceOutput};
 use cw_machine::laws::machines_that_stop_remain;
 use cw_machine::machine::Machine;
 use cw_machine::run::Run;
@@ -24,11 +24,11 @@ use std::collections::VecDeque;
 use std::mem;
 
 // What a run has shown and counted in so many instructions.
-fn shown(run: &mut Run, cost: u64) -> Shown
+fn shown(run: &mut Run, cost: u64) -> PieceOutput
     ensures { IsShown run.old cost result }
 {
     let alloc = *run.machine.lines.allocator();
-    Shown {
+    PieceOutput {
         lines: mem::replace(&mut run.machine.lines, VecDeque::new(alloc)),
         totals: mem::replace(&mut run.machine.totals, Vec::new(alloc)),
         meter: mem::replace(&mut run.meter, Meter::apart(alloc, 0, Detail::Values)),

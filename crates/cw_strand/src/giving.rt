@@ -14,7 +14,7 @@ use crate::stopping::home_of;
 use crate::strand::{Home, Mode, Strand};
 use cw_code::laws::{results_may_go_back, runs_stay_in_their_functions};
 use cw_jobs::call::Rest;
-use cw_jobs::effect::{Effect, Shown};
+use cw_jobs::effect::{Effect, PieceOutput};
 use cw_jobs::totals::joined;
 use cw_machine::laws::machines_that_stop_remain;
 use cw_machine::machine::Machine;
@@ -92,13 +92,13 @@ fn join_rest(
     frame: &mut Rest,
     replaced: &mut Vec<Option<Slice>>,
     home: Home,
-    shown: Shown,
+    shown: PieceOutput,
 ) -> Result<(), AllocError>
     requires { ∥ giving.MayJoin run.old.machine code.now frame.old replaced.old.items home ∥₁ }
     ensures { OnOk result (HasJoined run.old code.now count frame.old replaced.old.items home shown
         run.new) }
 {
-    let Shown {
+    let PieceOutput {
         lines,
         totals,
         meter,
@@ -147,7 +147,7 @@ impl Strand {
     }
 
     // The effect of a rest that came to its join, given to a strand that waits for it.
-    fn give_joined(&mut self, frame: Rest, replaced: Vec<Option<Slice>>, shown: Shown)
+    fn give_joined(&mut self, frame: Rest, replaced: Vec<Option<Slice>>, shown: PieceOutput)
         requires running { IsRunning self.old }
         requires waiting { IsWaiting self.old }
         requires given { IsGiven self.old (effect.Joined frame replaced shown) }

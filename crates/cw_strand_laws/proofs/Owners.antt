@@ -8,7 +8,7 @@ use Rattle.cw_code.specs.Code.{Code}
 use Rattle.cw_strand_laws.specs.Jobs.{Job, Memory}
 use Rattle.cw_strand_laws.specs.Strands.{Strand}
 use Rattle.cw_strand_laws.specs.Steps.{started, give, skip, take_back, out_of_memory}
-use Rattle.cw_strand_laws.specs.Worlds.{Place, Undecided, Kept, Offered, Runs, Made, Settled, Spent, World, placed, joined_by, Has, Next, Run, Spawn, Offer, Inline, Begin}
+use Rattle.cw_strand_laws.specs.Worlds.{Place, Undecided, Kept, Offered, Runs, Made, Settled, Spent, World, placed, joined_by, Has, WorldStep, Run, Spawn, Offer, Inline, Begin}
 use Rattle.cw_strand_laws.specs.Worlds.{Skip, Resume, End, Settle, Give, Want, GiveUp, After, Now, Later, world_of, IsAmong, Falls, OwnersAreSingle}
 use Rattle.cw_strand_laws.proofs.WorldLaws.{one_there}
 
@@ -235,7 +235,7 @@ spawn_owned world i worker job out strand new numbers owned has = record {
         ))
 
 module _ (code : Code) where
-  next_owned : (world next : World) → Next code world next → Owned world → Owned next
+  next_owned : (world next : World) → WorldStep code world next → Owned world → Owned next
   next_owned world next (Run _ i worker job strand new numbers has same) owned = set_owned world owned i (Runs worker new numbers) (λ e. cc) (owned.listed i worker job strand numbers has)
   next_owned world next (Spawn _ i worker job out strand new numbers has same) owned = spawn_owned world i worker job out strand new numbers owned has
   next_owned world next (Offer _ i worker job has) owned = set_owned world owned i (Offered worker) (λ e. cc) tt

@@ -5,7 +5,7 @@ use Rattle.cw_code.specs.Code.{Code}
 use Rattle.cw_strand_laws.specs.Jobs.{Job, Effect}
 use Rattle.cw_strand_laws.specs.Strands.{Strand, Going, Waits, Halted}
 use Rattle.cw_strand_laws.specs.Steps.{Advanced, Ran, Handed, AtSync, Finished, Unfit, advance}
-use Rattle.cw_strand_laws.specs.Worlds.{Place, Undecided, Kept, Offered, Runs, Made, Settled, Spent, World, effect_in, Has, Next, Run, Spawn, Offer as Offers, Inline as Inlines}
+use Rattle.cw_strand_laws.specs.Worlds.{Place, Undecided, Kept, Offered, Runs, Made, Settled, Spent, World, effect_in, Has, WorldStep, Run, Spawn, Offer as Offers, Inline as Inlines}
 use Rattle.cw_strand_laws.specs.Worlds.{Begin as Begins, Skip as Skips, End, Settle as Settles, Give as Gives, Want as Wants, GiveUp as GivesUp, Resume as Resumes, After, Now, Later}
 use Rattle.cw_strand_laws.specs.Events.{Event, Advance, Offer, Inline, Begin, Skip, Settle, Give, Want, GiveUp, TakeBack, advanced, skips}
 use Rattle.cw_strand_laws.specs.Events.{takes_back, gives, with_job, at, happens, number_of, apply, and_apply, play, PlaysCome}
@@ -27,14 +27,14 @@ with_has {A} world i go next e k = cases (slice_get world.jobs i) (slice_get wor
     cases None p f g h = absurd_none next h
 
 module _ (code : Code) (world next : World) where
-  moved : (next' : World) → next' ≡ next → Next code world next' → Next code world next
-  moved next' e n = subst (λ w. Next code world w) e n
+  moved : (next' : World) → next' ≡ next → WorldStep code world next' → WorldStep code world next
+  moved next' e n = subst (λ w. WorldStep code world w) e n
 
   comes_by : (i worker : ℕ) (job : Job) (strand : Strand) (outs : List ℕ) → Has world i job (Runs worker strand outs)
-      → advanced world i worker outs (advance code job strand) ≡ Some next → Next code world next
+      → advanced world i worker outs (advance code job strand) ≡ Some next → WorldStep code world next
   comes_by i worker job strand outs has e = cases (advance code job strand) refl e
     where
-      cases : (a : Advanced) → advance code job strand ≡ a → advanced world i worker outs a ≡ Some next → Next code world next
+      cases : (a : Advanced) → advance code job strand ≡ a → advanced world i worker outs a ≡ Some next → WorldStep code world next
       cases (Ran new) f h = moved _ (some_world _ next h) (Run world i worker job strand new outs has f)
       cases (Handed out new) f h = moved _ (some_world _ next h) (Spawn world i worker job out strand new outs has f)
       cases AtSync f h = absurd_none next h
@@ -42,7 +42,7 @@ module _ (code : Code) (world next : World) where
       cases Unfit f h = absurd_none next h
 
   comes_skip : (i n worker : ℕ) (job out : Job) (strand : Strand) (outs : List ℕ) (place : Place) → Has world i job (Runs worker strand (n ∷ outs))
-      → Has world n out place → skips world i n worker strand outs place ≡ Some next → Next code world next
+      → Has world n out place → skips world i n worker strand outs place ≡ Some next → WorldStep code world next
   comes_skip i n worker job out (Halted e jobs) outs (Kept w) has has' h = moved _ (some_world _ next h) (Skips world i n worker job out (Halted e jobs) outs (Kept w) has tt has' tt)
   comes_skip i n worker job out (Halted e jobs) outs (Offered w) has has' h = moved _ (some_world _ next h) (Skips world i n worker job out (Halted e jobs) outs (Offered w) has tt has' tt)
   comes_skip i n worker job out (Halted e jobs) outs (Undecided w) has has' h = absurd_none next h
@@ -54,7 +54,7 @@ module _ (code : Code) (world next : World) where
   comes_skip i n worker job out (Waits s count jobs) outs place has has' h = absurd_none next h
 
   comes_back : (i n worker : ℕ) (job out : Job) (strand : Strand) (outs : List ℕ) (place : Place) → Has world i job (Runs worker strand (n ∷ outs))
-      → Has world n out place → takes_back world i n worker strand outs place ≡ Some next → Next code world next
+      → Has world n out place → takes_back world i n worker strand outs place ≡ Some next → WorldStep code world next
   comes_back i n worker job out (Waits s count jobs) outs (Kept w) has has' h = moved _ (some_world _ next h) (Resumes world i n worker job out (Waits s count jobs) outs (Kept w) has tt has' tt)
   comes_back i n worker job out (Waits s count jobs) outs (Offered w) has has' h = moved _ (some_world _ next h) (Resumes world i n worker job out (Waits s count jobs) outs (Offered w) has tt has' tt)
   comes_back i n worker job out (Waits s count jobs) outs (Undecided w) has has' h = absurd_none next h
@@ -67,7 +67,7 @@ module _ (code : Code) (world next : World) where
 
   comes_give : (i n worker : ℕ) (job out : Job) (strand : Strand) (outs : List ℕ) (place : Place) (o : Option Effect)
       → Has world i job (Runs worker strand (n ∷ outs)) → Has world n out place → effect_in place ≡ o
-      → gives world i n worker job strand outs o ≡ Some next → Next code world next
+      → gives world i n worker job strand outs o ≡ Some next → WorldStep code world next
   comes_give i n worker job out (Waits s count jobs) outs place (Some e) has has' is h = moved _ (some_world _ next h) (Gives world i n worker job out (Waits s count jobs) outs place e has tt has' is)
   comes_give i n worker job out (Halted e' jobs) outs place (Some e) has has' is h = moved _ (some_world _ next h) (Gives world i n worker job out (Halted e' jobs) outs place e has tt has' is)
   comes_give i n worker job out (Going s count jobs) outs place (Some e) has has' is h = absurd_none next h
@@ -75,7 +75,7 @@ module _ (code : Code) (world next : World) where
   comes_give i n worker job out (Halted e' jobs) outs place None has has' is h = absurd_none next h
   comes_give i n worker job out (Going s count jobs) outs place None has has' is h = absurd_none next h
 
-  comes : (event : Event) (job : Job) (place : Place) → Has world (number_of event) job place → happens code world event job place ≡ Some next → Next code world next
+  comes : (event : Event) (job : Job) (place : Place) → Has world (number_of event) job place → happens code world event job place ≡ Some next → WorldStep code world next
   comes (Advance i) job (Runs worker strand outs) has h = comes_by i worker job strand outs has h
   comes (Offer i) job (Undecided worker) has h = moved _ (some_world _ next h) (Offers world i worker job has)
   comes (Inline i) job (Undecided worker) has h = moved _ (some_world _ next h) (Inlines world i worker job has)
@@ -90,7 +90,7 @@ module _ (code : Code) (world next : World) where
   comes (TakeBack i) job (Runs worker strand (n ∷ outs)) has h = with_has world n _ next h (λ out place has' k. comes_back i n worker job out strand outs place has has' k)
   comes _ job _ has h = absurd_none next h
 
-  applied : (event : Event) → apply code world event ≡ Some next → Next code world next
+  applied : (event : Event) → apply code world event ≡ Some next → WorldStep code world next
   applied event h = with_has world (number_of event) _ next h (λ job place has k. comes event job place has k)
 
 pub plays_come : PlaysCome

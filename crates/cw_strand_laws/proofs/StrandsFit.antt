@@ -18,7 +18,7 @@ use Rattle.cw_strand_laws.specs.Strands.{Strand, Going, Waits, Halted, outs_of, 
 use Rattle.cw_strand_laws.specs.Promises.{IsOutHere, Outs, OutsHere, IsStrandOf}
 use Rattle.cw_strand_laws.specs.Steps.{started, Advanced, Ran as Instruction, Handed, AtSync, Finished, Unfit, finished, turned}
 use Rattle.cw_strand_laws.specs.Steps.{went_on, advance, given_to, give, skip, take_back, out_of_memory, WaitsFor}
-use Rattle.cw_strand_laws.specs.Worlds.{Place, Undecided, Kept, Offered, Runs, Made, Settled, Spent, World, IsUnrun, IsWaiting, placed, joined_by, Has, Next, Run, Spawn}
+use Rattle.cw_strand_laws.specs.Worlds.{Place, Undecided, Kept, Offered, Runs, Made, Settled, Spent, World, IsUnrun, IsWaiting, placed, joined_by, Has, WorldStep, Run, Spawn}
 use Rattle.cw_strand_laws.specs.Worlds.{Offer, Inline, Begin, Skip, Resume, End, Settle, Give, Want, GiveUp, After, Now, Later, world_of, NoneIsUnfit}
 use Rattle.cw_strand_laws.specs.lemmas.Acts.{acts_by}
 use Rattle.cw_strand_laws.specs.lemmas.Rests.{GoesOn, act_goes}
@@ -250,7 +250,7 @@ module _ (code : Code) (fits : Fits code) (steps_well : FitSteps code fits) (set
         fit = give_fits job h.base strand out' outs e ok (waits_for strand out' outs waits same) (subst (λ j. JobMeaning code j e) (one_there (slice_get jobs n) out out' is k.0) means) h.fit;
       }
 
-  next_fit : (world next : World) → Next code world next → WorldOk code world → WorldFit world → WorldFit next
+  next_fit : (world next : World) → WorldStep code world next → WorldOk code world → WorldFit world → WorldFit next
   next_fit world next (Run _ i worker job strand new numbers has same) ok fit =
       let h = fit i job (Runs worker strand numbers) has in
       set_fit world i job (Runs worker new numbers) fit has.job_is (record { base = h.base; fit = advanced job strand (Instruction new) h (ok.each i job (Runs worker strand numbers) has).0 same })

@@ -5,7 +5,7 @@ use Rattle.cw_code.specs.Code.{Code}
 use Rattle.cw_strand_laws.specs.Jobs.{Job, Effect, Memory}
 use Rattle.cw_strand_laws.specs.Strands.{Strand, Going, Waits, Halted}
 use Rattle.cw_strand_laws.specs.Steps.{started, give, skip, take_back}
-use Rattle.cw_strand_laws.specs.Worlds.{Undecided, Kept, Offered, Runs, Made, Settled, Spent, World, placed, joined_by, Next, Run, Spawn, Offer}
+use Rattle.cw_strand_laws.specs.Worlds.{Undecided, Kept, Offered, Runs, Made, Settled, Spent, World, placed, joined_by, WorldStep, Run, Spawn, Offer}
 use Rattle.cw_strand_laws.specs.Worlds.{Inline, Begin, Skip, Resume, End, Settle, Give, Want, GiveUp, After, Now, Later, world_of}
 use Rattle.cw_strand_laws.specs.Wants.{IsAmple, AreAmple, MemoryWasWanting}
 use Rattle.cw_strand_laws.proofs.WorldLaws.{one_there}
@@ -24,7 +24,7 @@ takes_back (Waits s count (out ∷ outs)) h = h
 takes_back (Halted e outs) h = h
 
 module _ (code : Code) where
-  next_ample : (world next : World) (event : Next code world next) → IsAmple event → AmpleWorld world → AmpleWorld next
+  next_ample : (world next : World) (event : WorldStep code world next) → IsAmple event → AmpleWorld world → AmpleWorld next
   next_ample world next (Run _ i worker job strand new numbers has same) ample all =
       set_ample world i (Runs worker new numbers) all (subst AmpleStep same (advances code job strand (all i (Runs worker strand numbers) has.place_is)))
   next_ample world next (Spawn _ i worker job out strand new numbers has same) ample all =

@@ -9,7 +9,7 @@ use Rattle.cw_strand_laws.specs.Jobs.{Job, root_job, Effect, Memory, JobMeaning,
 use Rattle.cw_strand_laws.specs.Strands.{Strand, Going, Waits, Halted, outs_of}
 use Rattle.cw_strand_laws.specs.Promises.{IsStrandOf}
 use Rattle.cw_strand_laws.specs.Steps.{started, give, skip, take_back, out_of_memory, WaitsFor, AdvanceKeeps}
-use Rattle.cw_strand_laws.specs.Worlds.{Place, Undecided, Kept, Offered, Runs, Made, Settled, Spent, World, IsUnrun, effect_in, HasStopped, HasEnded, IsWaiting, placed, joined_by, Has, Next, Run}
+use Rattle.cw_strand_laws.specs.Worlds.{Place, Undecided, Kept, Offered, Runs, Made, Settled, Spent, World, IsUnrun, effect_in, HasStopped, HasEnded, IsWaiting, placed, joined_by, Has, WorldStep, Run}
 use Rattle.cw_strand_laws.specs.Worlds.{Spawn, Offer, Inline, Begin, Skip, Resume, End, Settle, Give, Want, GiveUp, After, Now, Later, world_of, WorldsAreSerial, EffectsMean}
 use Rattle.cw_strand_laws.proofs.Calls.{calls_keep}
 use Rattle.cw_strand_laws.proofs.Schedules.{root_serial}
@@ -158,7 +158,7 @@ module _ (code : Code) where
           (subst (λ j. JobMeaning code j e) (one_there (slice_get jobs n) out out' is k.0) means) in
           (kept.0, subst (λ l. Named jobs numbers l) (sym kept.1) k.1)
 
-  pub next_ok : (world next : World) → Next code world next → WorldOk code world → WorldOk code next
+  pub next_ok : (world next : World) → WorldStep code world next → WorldOk code world → WorldOk code next
   next_ok world next (Run _ i worker job strand new numbers has same) ok =
       let now = strand_in world i worker job strand numbers ok has in
       let kept = subst (AdvanceKeeps code job strand) same ((calls_keep code).advancing job strand now.0) in
@@ -194,7 +194,7 @@ module _ (code : Code) where
   next_ok world next (GiveUp _ i worker job place has unrun) ok = place_ok world i job place (Made worker Memory) ok has (Short refl)
 
   -- a number keeps its job
-  next_same : (world next : World) (k : ℕ) (job : Job) → Next code world next → slice_get world.jobs k ≡ Some job → slice_get next.jobs k ≡ Some job
+  next_same : (world next : World) (k : ℕ) (job : Job) → WorldStep code world next → slice_get world.jobs k ≡ Some job → slice_get next.jobs k ≡ Some job
   next_same world next k job (Run _ i worker job' strand new numbers has same) h = h
   next_same world next k job (Spawn _ i worker job' out strand new numbers has same) h = get_before world.jobs out k job h
   next_same world next k job (Offer _ i worker job' has) h = h

@@ -2,10 +2,10 @@
 use Rattle.std.specs.Prelude.{◌≡◌, ◌≢◌, ℕ, Some}
 use Rattle.cw_code.specs.Code.{Code}
 use Rattle.cw_strand_laws.specs.Jobs.{Job, Effect, Memory}
-use Rattle.cw_strand_laws.specs.Worlds.{Place, World, effect_in, Has, Next, Want, GiveUp, After, Now, Later, world_of}
+use Rattle.cw_strand_laws.specs.Worlds.{Place, World, effect_in, Has, WorldStep, Want, GiveUp, After, Now, Later, world_of}
 
 -- memory does not run out at this event
-abbrev pub IsAmple : {code : Code} {world next : World} → Next code world next → Type 0
+abbrev pub IsAmple : {code : Code} {world next : World} → WorldStep code world next → Type 0
 IsAmple (Want world i worker job strand outs has) = ⊥
 IsAmple (GiveUp world i worker job place has unrun) = ⊥
 IsAmple _ = Unit {0}

@@ -69,53 +69,53 @@ pub record Has (world : World) (i : ℕ) (job : Job) (place : Place) : Type 0 wh
 
 -- one event. It is left open which strand of a worker moves, and from which end of a deque a job is taken: every rule
 -- for this allows fewer events
-pub data Next (code : Code) : World → World → Type 0 where
+pub data WorldStep (code : Code) : World → World → Type 0 where
   -- an instruction
   Run : (world : World) (i worker : ℕ) (job : Job) (strand new : Strand) (outs : List ℕ)
       → Has world i job (Runs worker strand outs) → advance code job strand ≡ Ran new
-      → Next code world (placed world i (Runs worker new outs))
+      → WorldStep code world (placed world i (Runs worker new outs))
   -- a spawn: the continuation of its block is the next job
   Spawn : (world : World) (i worker : ℕ) (job out : Job) (strand new : Strand) (outs : List ℕ)
       → Has world i job (Runs worker strand outs) → advance code job strand ≡ Handed out new
-      → Next code world (placed (joined_by world out (Undecided worker)) i (Runs worker new (length world.jobs ∷ outs)))
+      → WorldStep code world (placed (joined_by world out (Undecided worker)) i (Runs worker new (length world.jobs ∷ outs)))
   Offer : (world : World) (i worker : ℕ) (job : Job) → Has world i job (Undecided worker) →
-      Next code world (placed world i (Offered worker))
+      WorldStep code world (placed world i (Offered worker))
   Inline : (world : World) (i worker : ℕ) (job : Job) → Has world i job (Undecided worker) →
-      Next code world (placed world i (Kept worker))
+      WorldStep code world (placed world i (Kept worker))
   -- retake or steal: this worker begins the job
   Begin : (world : World) (i worker : ℕ) (job : Job) (place : Place) → Has world i job place → IsUnrun place →
-      Next code world (placed world i (Runs worker (started job) []))
+      WorldStep code world (placed world i (Runs worker (started job) []))
   -- retake after the spawned call stopped: the newest job out is skipped
   Skip : (world : World) (i n worker : ℕ) (job out : Job) (strand : Strand) (outs : List ℕ) (place : Place)
       → Has world i job (Runs worker strand (n ∷ outs)) → HasStopped strand → Has world n out place → IsUnrun place
-      → Next code world (placed (placed world n Spent) i (Runs worker (skip strand) outs))
+      → WorldStep code world (placed (placed world n Spent) i (Runs worker (skip strand) outs))
   -- retake after the spawned call ended: the strand itself continues
   Resume : (world : World) (i n worker : ℕ) (job out : Job) (strand : Strand) (outs : List ℕ) (place : Place)
       → Has world i job (Runs worker strand (n ∷ outs)) → HasEnded strand → Has world n out place → IsUnrun place
-      → Next code world (placed (placed world n Spent) i (Runs worker (take_back strand) outs))
+      → WorldStep code world (placed (placed world n Spent) i (Runs worker (take_back strand) outs))
   -- a strand has ended
   End : (world : World) (i worker : ℕ) (job : Job) (strand : Strand) (outs : List ℕ) (e : Effect)
       → Has world i job (Runs worker strand outs) → advance code job strand ≡ Finished e
-      → Next code world (placed world i (Made worker e))
+      → WorldStep code world (placed world i (Made worker e))
   Settle : (world : World) (i worker : ℕ) (job : Job) (e : Effect) → Has world i job (Made worker e) →
-      Next code world (placed world i (Settled e))
+      WorldStep code world (placed world i (Settled e))
   -- collect, or the worker executed the continuation itself: the effect is given to the strand whose newest job out
   -- it is
   Give : (world : World) (i n worker : ℕ) (job out : Job) (strand : Strand) (outs : List ℕ) (place : Place) (e : Effect)
       → Has world i job (Runs worker strand (n ∷ outs)) → IsWaiting strand → Has world n out place
       → effect_in place ≡ Some e
-      → Next code world (placed (placed world n Spent) i (Runs worker (give job strand e) outs))
+      → WorldStep code world (placed (placed world n Spent) i (Runs worker (give job strand e) outs))
   -- memory ran out, in a strand or before one was made
   Want : (world : World) (i worker : ℕ) (job : Job) (strand : Strand) (outs : List ℕ)
       → Has world i job (Runs worker strand outs)
-      → Next code world (placed world i (Runs worker (out_of_memory strand) outs))
+      → WorldStep code world (placed world i (Runs worker (out_of_memory strand) outs))
   GiveUp : (world : World) (i worker : ℕ) (job : Job) (place : Place) → Has world i job place → IsUnrun place →
-      Next code world (placed world i (Made worker Memory))
+      WorldStep code world (placed world i (Made worker Memory))
 
 -- any list of events
 pub data After (code : Code) (first : World) : World → Type 0 where
   Now : After code first first
-  Later : (world next : World) → After code first world → Next code world next → After code first next
+  Later : (world next : World) → After code first world → WorldStep code world next → After code first next
 
 -- the start of a run: worker 0 has begun the root job, number 0
 abbrev pub world_of : Job → World

@@ -1,7 +1,7 @@
 //! The outcome of a run: worked out by hand, with one worker, and by strands.
 
 use cw_code::code::Code;
-use cw_jobs::effect::{Effect, Shown};
+use cw_jobs::effect::{Effect, PieceOutput};
 use cw_machine::alone::Ended;
 use cw_meter::Readings;
 use cw_model::total::Total;
@@ -19,7 +19,7 @@ pub type Region = (u64, u64, u128);
 
 /// The outcome of a run, worked out by hand. Empty rows were not worked out.
 #[derive(Clone, Copy)]
-pub enum Told<'a> {
+pub enum Expected<'a> {
     /// The run ends.
     Ends {
         value: i64,
@@ -57,9 +57,9 @@ fn are_regions(rows: &[RegionRow], hand: &[Region]) -> bool {
 }
 
 // Returns whether a run that ended with this work is the one that was worked out.
-fn is_end_told(ended: &Ended, told: &Told, cost: u64) -> bool {
+fn is_end_told(ended: &Ended, told: &Expected, cost: u64) -> bool {
     match told {
-        Told::Ends {
+        Expected::Ends {
             value,
             lines,
             totals,
@@ -80,15 +80,15 @@ fn is_end_told(ended: &Ended, told: &Told, cost: u64) -> bool {
                 && are_sites(ended.sites.values().as_slice(), sites)
                 && are_regions(ended.regions.values().as_slice(), regions)
         }
-        Told::Traps { .. } => false,
+        Expected::Traps { .. } => false,
     }
 }
 
 // Returns whether a trap is the one that was worked out.
-fn is_trap_told(code: Trap, line: u32, output: &[i64], told: &Told) -> bool {
+fn is_trap_told(code: Trap, line: u32, output: &[i64], told: &Expected) -> bool {
     match told {
-        Told::Ends { .. } => false,
-        Told::Traps {
+        Expected::Ends { .. } => false,
+        Expected::Traps {
             number,
             line: at,
             lines,
@@ -97,7 +97,7 @@ fn is_trap_told(code: Trap, line: u32, output: &[i64], told: &Told) -> bool {
 }
 
 /// Returns whether a run with one worker has the outcome that was worked out, at this cost.
-pub fn is_told(alone: &Result<Ended, Fault>, told: &Told, cost: u64) -> bool {
+pub fn is_told(alone: &Result<Ended, Fault>, told: &Expected, cost: u64) -> bool {
     match alone {
         Ok(ended) => is_end_told(ended, told, cost),
         Err(fault) => match fault {
@@ -116,9 +116,9 @@ fn is_same_end(
     code: &Code,
     ended: &Ended,
     value: Option<i64>,
-    shown: Shown,
+    shown: PieceOutput,
 ) -> Result<bool, Fault> {
-    let Shown {
+    let PieceOutput {
         lines,
         totals,
         meter,

@@ -1,7 +1,7 @@
 //! Small programs have the outcome that was worked out by hand, independently of what happens to their continuations;
 //! and they have the outcome of a run with one worker within each limit.
 
-use crate::answers::{Told, is_same, is_told};
+use crate::answers::{Expected, is_same, is_told};
 use crate::arrays::{CUT, MADE, SQUARES};
 use crate::calls::{
     DIVIDED, DIVIDED_BESIDE_FOREVER, DIVIDED_TWICE, FIB, GREATEST_IN_TURNS, NESTED, PRINTED, SUMMED,
@@ -32,7 +32,7 @@ struct Row<'a> {
     edges: Edges,
     cost: u64,
     spawns: u64,
-    told: Told<'a>,
+    told: Expected<'a>,
 }
 
 impl Row<'_> {
@@ -252,7 +252,7 @@ const ENDING: [Row<'static>; 12] = [
         edges: Edges::Spawn,
         cost: 152,
         spawns: 4,
-        told: Told::Ends {
+        told: Expected::Ends {
             value: 19,
             lines: &[1, 2, 4, 2],
             totals: &[],
@@ -270,7 +270,7 @@ const ENDING: [Row<'static>; 12] = [
         edges: Edges::Spawn,
         cost: 120,
         spawns: 4,
-        told: Told::Ends {
+        told: Expected::Ends {
             value: 3,
             lines: &[],
             totals: &[],
@@ -293,7 +293,7 @@ const ENDING: [Row<'static>; 12] = [
         edges: Edges::Spawn,
         cost: 12,
         spawns: 0,
-        told: Told::Ends {
+        told: Expected::Ends {
             value: 0,
             lines: &[],
             totals: &[],
@@ -311,7 +311,7 @@ const ENDING: [Row<'static>; 12] = [
         edges: Edges::Both,
         cost: 15,
         spawns: 1,
-        told: Told::Ends {
+        told: Expected::Ends {
             value: 0,
             lines: &[7],
             totals: &[],
@@ -329,7 +329,7 @@ const ENDING: [Row<'static>; 12] = [
         edges: Edges::Spawn,
         cost: 17,
         spawns: 1,
-        told: Told::Ends {
+        told: Expected::Ends {
             value: 0,
             lines: &[4],
             totals: &[],
@@ -347,7 +347,7 @@ const ENDING: [Row<'static>; 12] = [
         edges: Edges::Spawn,
         cost: 15,
         spawns: 2,
-        told: Told::Ends {
+        told: Expected::Ends {
             value: 0,
             lines: &[1, 2, 3],
             totals: &[],
@@ -366,7 +366,7 @@ const ENDING: [Row<'static>; 12] = [
         edges: Edges::Both,
         cost: 11,
         spawns: 2,
-        told: Told::Ends {
+        told: Expected::Ends {
             value: 0,
             lines: &[],
             totals: &[Total::Sum(18_446_744_073_709_551_614), Total::Max(None)],
@@ -386,7 +386,7 @@ const ENDING: [Row<'static>; 12] = [
         edges: Edges::Both,
         cost: 96,
         spawns: 4,
-        told: Told::Ends {
+        told: Expected::Ends {
             value: 9,
             lines: &[0, 1, 2, 3],
             totals: &[
@@ -411,7 +411,7 @@ const ENDING: [Row<'static>; 12] = [
         edges: Edges::Spawn,
         cost: 35,
         spawns: 3,
-        told: Told::Ends {
+        told: Expected::Ends {
             value: 0,
             lines: &[1, 2, 3, 6, 4],
             totals: &[],
@@ -435,7 +435,7 @@ const ENDING: [Row<'static>; 12] = [
         edges: Edges::Spawn,
         cost: 57,
         spawns: 2,
-        told: Told::Ends {
+        told: Expected::Ends {
             value: 17034,
             lines: &[],
             totals: &[],
@@ -453,7 +453,7 @@ const ENDING: [Row<'static>; 12] = [
         edges: Edges::Spawn,
         cost: 25,
         spawns: 1,
-        told: Told::Ends {
+        told: Expected::Ends {
             value: 57,
             lines: &[],
             totals: &[],
@@ -473,7 +473,7 @@ const ENDING: [Row<'static>; 12] = [
         edges: Edges::Spawn,
         cost: 192,
         spawns: 2,
-        told: Told::Ends {
+        told: Expected::Ends {
             value: 16,
             lines: &[],
             totals: &[],
@@ -495,7 +495,7 @@ const TRAPPING: [Row<'static>; 6] = [
         edges: Edges::Spawn,
         cost: 7,
         spawns: 1,
-        told: Told::Traps {
+        told: Expected::Traps {
             number: 2,
             line: 1,
             lines: &[],
@@ -509,7 +509,7 @@ const TRAPPING: [Row<'static>; 6] = [
         edges: Edges::Spawn,
         cost: 7,
         spawns: 1,
-        told: Told::Traps {
+        told: Expected::Traps {
             number: 2,
             line: 1,
             lines: &[],
@@ -523,7 +523,7 @@ const TRAPPING: [Row<'static>; 6] = [
         edges: Edges::Spawn,
         cost: 7,
         spawns: 1,
-        told: Told::Traps {
+        told: Expected::Traps {
             number: 2,
             line: 1,
             lines: &[],
@@ -537,7 +537,7 @@ const TRAPPING: [Row<'static>; 6] = [
         edges: Edges::Spawn,
         cost: 25,
         spawns: 3,
-        told: Told::Traps {
+        told: Expected::Traps {
             number: 2,
             line: 6,
             lines: &[1, 2, 3],
@@ -551,7 +551,7 @@ const TRAPPING: [Row<'static>; 6] = [
         edges: Edges::Spawn,
         cost: 21,
         spawns: 2,
-        told: Told::Traps {
+        told: Expected::Traps {
             number: 3,
             line: 1,
             lines: &[],
@@ -565,7 +565,7 @@ const TRAPPING: [Row<'static>; 6] = [
         edges: Edges::Spawn,
         cost: 7,
         spawns: 1,
-        told: Told::Traps {
+        told: Expected::Traps {
             number: 3,
             line: 1,
             lines: &[],

@@ -8,8 +8,8 @@ use Rattle.cw_types.specs.Reasons.{IsBroken}
 use Rattle.cw_types.specs.Scope.{Declared}
 use Rattle.cw_types.specs.Standing.{Standing, standing_at}
 use Rattle.cw_reasons.specs.declared.reasons.Reasons.{Reasons}
-use Rattle.cw_reasons.specs.Told.{Tells}
-use Rattle.cw_types.specs.Told.{Breaks, Ends, IsNeverReached}
+use Rattle.cw_reasons.specs.RecordedReasons.{Tells}
+use Rattle.cw_types.specs.ReasonMeaning.{Breaks, Ends, IsNeverReached}
 use Rattle.cw_types.specs.Within.{IsAmong, NeverReached, program_in}
 use Rattle.cw_reasons.specs.lemmas.Telling.{weaken}
 

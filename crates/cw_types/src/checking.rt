@@ -8,10 +8,10 @@ ghost use Rattle.cw_model.specs.Sizes.{limit_faults};
 ghost use Rattle.cw_model.specs.Typing.{type_faults};
 ghost use Rattle.cw_tree.specs.SyntaxView.{program_of};
 ghost use Rattle.cw_reasons.specs.Rising.{kept};
-ghost use Rattle.cw_reasons.specs.Told.{AreLeast, AreOf, itself, lines_at, no_place};
+ghost use Rattle.cw_reasons.specs.RecordedReasons.{AreLeast, AreOf, itself, lines_at, no_place};
 ghost use Rattle.cw_types.specs.Faults.{IsIllTyped, IsPassedAt, IsTypedOf, IsWithin, refused_lines};
 ghost use Rattle.cw_types.specs.Names.{function_names};
-ghost use Rattle.cw_types.specs.Told.{IsNoMain, IsTold};
+ghost use Rattle.cw_types.specs.ReasonMeaning.{IsNoMain, IsTold};
 ghost use Rattle.cw_types.specs.Within.{program_in};
 
 use crate::functions::functions_faults;

@@ -9,16 +9,16 @@ use cw_text::LeastLine;
 
 /// Holds the least line so far that exceeds a limit, with the first limit found for it.
 #[derive(Clone, Copy)]
-pub struct Told<R> {
+pub struct LeastReason<R> {
     pub first: Option<At<R>>,
 }
 
-impl<R: Copy> Told<R> {
-    /// Returns a `Told` that holds no line.
-    pub fn new() -> Told<R>
+impl<R: Copy> LeastReason<R> {
+    /// Returns a `LeastReason` that holds no line.
+    pub fn new() -> LeastReason<R>
         ensures { result.first ≡ None }
     {
-        Told { first: None }
+        LeastReason { first: None }
     }
 
     /// Records a line, if there is a reason against it.

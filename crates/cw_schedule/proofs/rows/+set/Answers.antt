@@ -1,7 +1,7 @@
 use Rattle.std.proofs.Common.{◌/◌, sym, ◌∙◌, ap, subst}
 use Rattle.std.specs.Prelude.{slice_set}
 use Rattle.cw_schedule.specs.Boards.{least_slot}
-use Rattle.cw_schedule.specs.Rows.{group, Leasts}
+use Rattle.cw_schedule.specs.MinTrees.{group, Leasts}
 use Rattle.cw_schedule.proofs.Groups.{leasts_set, leasts_same}
 use Rattle.cw_schedule.proofs.rows.+set.Goals as goal
 

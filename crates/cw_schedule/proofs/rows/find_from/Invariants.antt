@@ -1,5 +1,5 @@
 use Rattle.std.proofs.Common.{◌-◌, length}
-use Rattle.cw_schedule.specs.Rows.{HasFrom}
+use Rattle.cw_schedule.specs.MinTrees.{HasFrom}
 use Rattle.cw_schedule.proofs.rows.find_from.Given as goal
 
 abbrev pub invariant-loop-place : goal.invariant-loop-place

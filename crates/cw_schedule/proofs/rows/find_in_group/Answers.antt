@@ -1,5 +1,5 @@
 use Rattle.std.proofs.Common.{◌≡◌, ◌*◌, arith, subst}
-use Rattle.cw_schedule.specs.Rows.{HasFrom}
+use Rattle.cw_schedule.specs.MinTrees.{HasFrom}
 use Rattle.cw_schedule.proofs.Groups.{stands_in_group}
 use Rattle.cw_schedule.proofs.rows.find_in_group.Goals as goal
 

@@ -1,6 +1,6 @@
 use Rattle.std.proofs.Common.{◌+◌, Some, refl, ap, ◌∙◌}
 use Rattle.std.specs.Prelude.{slice_set}
-use Rattle.cw_schedule.specs.Shown.{join_of}
+use Rattle.cw_schedule.specs.BoardState.{join_of}
 use Rattle.cw_schedule.specs.State.{strand_at}
 use Rattle.cw_schedule.specs.State as s
 use Rattle.cw_schedule.proofs.State.{puts_arrive}

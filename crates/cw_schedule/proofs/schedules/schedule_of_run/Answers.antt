@@ -4,7 +4,7 @@ use Rattle.cw_facts.specs.Options.{handed_on}
 use Rattle.cw_model.specs.Trees.{work}
 use Rattle.cw_code.specs.Code.{code_view}
 use Rattle.cw_machine.specs.Recorded.{Records, RecordsAsCode}
-use Rattle.cw_schedule.proofs.Told.{at_most, ends_so, not_scheduled, record_kept, too_many}
+use Rattle.cw_schedule.proofs.RunSchedule.{at_most, ends_so, not_scheduled, record_kept, too_many}
 use Rattle.cw_schedule.proofs.Within.{within}
 use Rattle.cw_schedule.proofs.schedules.schedule_of_run.Goals as goal
 

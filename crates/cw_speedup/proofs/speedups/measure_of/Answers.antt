@@ -1,7 +1,7 @@
 use Rattle.std.proofs.Common.{inr}
 use Rattle.cw_facts.specs.Options.{handed_on}
 use Rattle.cw_code.specs.Code.{code_view}
-use Rattle.cw_speedup.proofs.Told.{measured_tree, record_kept}
+use Rattle.cw_speedup.proofs.RunFacts.{measured_tree, record_kept}
 use Rattle.cw_speedup.proofs.speedups.measure_of.Goals as goal
 
 pub returns-in_err-ended : goal.returns-in_err-ended

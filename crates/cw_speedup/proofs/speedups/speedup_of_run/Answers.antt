@@ -5,7 +5,7 @@ use Rattle.cw_code.specs.Code.{code_view}
 use Rattle.cw_machine.specs.Recorded.{Records, RecordsAsCode}
 use Rattle.cw_speedup.specs.Speedups.{is_asked, row_on}
 use Rattle.cw_speedup.proofs.Counted.{some_processors}
-use Rattle.cw_speedup.proofs.Told.{low_charge, not_measured, not_recorded, small_work, some_processor, sped_up, tree_of_record}
+use Rattle.cw_speedup.proofs.RunFacts.{low_charge, not_measured, not_recorded, small_work, some_processor, sped_up, tree_of_record}
 use Rattle.cw_speedup.proofs.speedups.speedup_of_run.Goals as goal
 
 pub returns-in_err-strands : goal.returns-in_err-strands

@@ -1,6 +1,6 @@
 use Rattle.std.proofs.Common.{sym, ◌∙◌}
 use Rattle.std.proofs.lemmas.Bool.{true≢false}
-use Rattle.cw_speedup.proofs.Told.{few_steps, no_steps, record_kept}
+use Rattle.cw_speedup.proofs.RunFacts.{few_steps, no_steps, record_kept}
 use Rattle.cw_speedup.proofs.speedups.steps_on.Goals as goal
 
 pub returns-then-not-fits : goal.returns-then-not-fits

@@ -12,7 +12,7 @@ use Rattle.cw_tree.specs.SyntaxView.{program_of, block_of, stmt_of, expr_of}
 use Rattle.cw_types.specs.Returned.{returns_of}
 use Rattle.cw_types.specs.Scope.{Declared, after_stmt, kinds, oldest}
 use Rattle.cw_types.specs.Standing.{Standing, in_cut, in_loop, standing_in, standing_inside}
-use Rattle.cw_reasons.specs.Told.{itself, lines_at}
+use Rattle.cw_reasons.specs.RecordedReasons.{itself, lines_at}
 use Rattle.cw_types.specs.Typing.{keeps_rules, faults_inside}
 use Rattle.cw_types.specs.Within.{IsAmong, NeverReached, TellsAmong}
 use Rattle.cw_reasons.specs.lemmas.Kept.{kept-append}

@@ -12,8 +12,8 @@ use Rattle.cw_tree.specs.declared.syntax.Reducer.{Reducer as CodeReducer}
 use Rattle.cw_tree.specs.SyntaxView.{program_of, function_of, reducer_of}
 use Rattle.cw_types.specs.Named.{functions_named, reducers_named}
 use Rattle.cw_types.specs.Names.{function_names}
-use Rattle.cw_reasons.specs.Told.{Tells, itself, lines_at, no_place}
-use Rattle.cw_types.specs.Told.{IsNoMain, IsRepeatedIn, IsTold, OfNames}
+use Rattle.cw_reasons.specs.RecordedReasons.{Tells, itself, lines_at, no_place}
+use Rattle.cw_types.specs.ReasonMeaning.{IsNoMain, IsRepeatedIn, IsTold, OfNames}
 use Rattle.cw_types.specs.Within.{faults_of_all}
 use Rattle.cw_tree.specs.lemmas.Few.{functions_few, reducers_few}
 use Rattle.cw_types.proofs.Among.{denied}

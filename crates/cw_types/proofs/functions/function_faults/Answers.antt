@@ -11,8 +11,8 @@ use Rattle.cw_types.specs.declared.reason.IllTyped.{IllTyped}
 use Rattle.cw_types.specs.Returned.{returns_in}
 use Rattle.cw_types.specs.Scope.{Declared, kinds, with_params}
 use Rattle.cw_types.specs.Standing.{standing_in, standing_of}
-use Rattle.cw_reasons.specs.Told.{itself, lines_at}
-use Rattle.cw_types.specs.Told.{IsWrongFunction, OfHead, OfStatement}
+use Rattle.cw_reasons.specs.RecordedReasons.{itself, lines_at}
+use Rattle.cw_types.specs.ReasonMeaning.{IsWrongFunction, OfHead, OfStatement}
 use Rattle.cw_types.specs.Within.{IsAmong, IsToldIn, TellsAmong}
 use Rattle.cw_types.proofs.Among.{denied}
 use Rattle.cw_reasons.specs.lemmas.Telling.{and_then, found_true, weaken}

@@ -6,8 +6,8 @@ use Rattle.cw_model.specs.Typing.{faults_of}
 use Rattle.cw_reasons.specs.lemmas.Kept.{kept-append}
 use Rattle.cw_tree.specs.declared.syntax.Function.{Function as CodeFunction}
 use Rattle.cw_tree.specs.SyntaxView.{program_of, function_of}
-use Rattle.cw_reasons.specs.Told.{itself, lines_at}
-use Rattle.cw_types.specs.Told.{IsTold, OfFunction}
+use Rattle.cw_reasons.specs.RecordedReasons.{itself, lines_at}
+use Rattle.cw_types.specs.ReasonMeaning.{IsTold, OfFunction}
 use Rattle.cw_types.specs.Within.{IsToldIn}
 use Rattle.cw_types.proofs.Repeating.{in_map}
 use Rattle.cw_reasons.specs.lemmas.Telling.{and_then, weaken}

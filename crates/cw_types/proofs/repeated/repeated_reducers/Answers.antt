@@ -11,8 +11,8 @@ use Rattle.cw_tree.specs.SyntaxView.{reducer_of}
 use Rattle.cw_types.specs.Named.{reducers_named}
 use Rattle.cw_types.specs.Names.{known_names}
 use Rattle.cw_types.specs.Scope.{Declared, kinds, with_local}
-use Rattle.cw_reasons.specs.Told.{itself, lines_at}
-use Rattle.cw_types.specs.Told.{IsRepeatedIn}
+use Rattle.cw_reasons.specs.RecordedReasons.{itself, lines_at}
+use Rattle.cw_types.specs.ReasonMeaning.{IsRepeatedIn}
 use Rattle.cw_types.proofs.Repeating.{both_mapped, more_earlier, repeated_true}
 use Rattle.cw_reasons.specs.lemmas.Telling.{and_then, found_true}
 use Rattle.cw_types.proofs.repeated.repeated_reducers.Goals as goal

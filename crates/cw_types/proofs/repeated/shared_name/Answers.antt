@@ -9,8 +9,8 @@ use Rattle.cw_model.specs.Typing.{of_both_kinds}
 use Rattle.cw_reasons.specs.lemmas.Kept.{kept-append}
 use Rattle.cw_tree.specs.SyntaxView.{function_of}
 use Rattle.cw_types.specs.Named.{functions_named}
-use Rattle.cw_reasons.specs.Told.{itself, lines_at}
-use Rattle.cw_types.specs.Told.{AreBothIn, IsRepeatedIn}
+use Rattle.cw_reasons.specs.RecordedReasons.{itself, lines_at}
+use Rattle.cw_types.specs.ReasonMeaning.{AreBothIn, IsRepeatedIn}
 use Rattle.cw_types.specs.Typing.{earlier_line, later_line}
 use Rattle.cw_types.proofs.Repeating.{in_maps, shared_both, shared_true}
 use Rattle.cw_reasons.specs.lemmas.Telling.{and_then, found_true}
