@@ -22,7 +22,7 @@ use Rattle.cw_pool.specs.declared.run.TheConstants.{MOST_BODIES}
 use Rattle.cw_schedule.specs.State.{IsWithin}
 use Rattle.cw_model.specs.declared.limits.TheConstants.{MOST_PROCESSORS}
 use Rattle.cw_schedule.specs.Schedules.{IsNotScheduled, Schedules, is_asked, is_counted}
-use Rattle.cw_speedup.specs.Speedups as speeds
+use Rattle.cw_schedule.specs.Speedups as speeds
 use Rattle.cw_meter.specs.Whole.{AreReadings}
 use Rattle.cw_meter.specs.declared.meter.Readings.{Readings}
 use Rattle.cw_code.specs.Code.{Code}

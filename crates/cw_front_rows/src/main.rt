@@ -7,10 +7,12 @@ mod answers;
 mod faults;
 mod lowering;
 mod productions;
+mod rows;
 mod shown;
+mod written;
 
 use crate::answers::answer;
-use cw_rows::RowReader;
+use crate::rows::RowReader;
 use std::alloc::{AllocError, Global};
 use std::{fs, io};
 

@@ -6,9 +6,9 @@ use Rattle.cw_runnable.specs.declared.verified.Verified.{Verified}
 use Rattle.cw_meter.specs.declared.detail.Detail.{Detail}
 use Rattle.cw_meter.specs.Origins.{Main}
 use Rattle.cw_meter.specs.Meters.{Meters}
-use Rattle.cw_strand_laws.specs.Jobs as jobs
-use Rattle.cw_meter_laws.specs.Opens.{Gauge, whole}
-use Rattle.cw_meter_laws.specs.Strands.{CountsEffect}
+use Rattle.cw_code.specs.Jobs as jobs
+use Rattle.cw_jobs.specs.Opens.{Gauge, whole}
+use Rattle.cw_jobs.specs.Strands.{CountsEffect}
 use Rattle.cw_jobs.specs.declared.call.Parts.{Parts}
 use Rattle.cw_jobs.specs.declared.effect.PieceOutput.{PieceOutput}
 use Rattle.cw_jobs.specs.declared.call.Rest.{Rest}

@@ -13,9 +13,9 @@ use Rattle.cw_model.specs.Ints.{trap_number}
 use Rattle.cw_code.specs.declared.code.Func.{Func}
 use Rattle.cw_code.specs.Code.{Code, code_view}
 use Rattle.cw_code.specs.Run.{On, first_state, first_transition, reducers_of, code_serial}
-use Rattle.cw_strand_laws.specs.Jobs as jobs
-use Rattle.cw_strand_laws.specs.Jobs.{Came, Arrives, Returns, Falls, Beyond, Lost, IsOf, JobMeaning, Same, Passed, Short, root_job, course}
-use Rattle.cw_strand_laws.specs.RestLaws.{RootsAreSerial}
+use Rattle.cw_code.specs.Jobs as jobs
+use Rattle.cw_code.specs.Jobs.{Came, Arrives, Returns, Falls, Beyond, Lost, IsOf, JobMeaning, Same, Passed, Short, root_job, course}
+use Rattle.cw_code.specs.RestLaws.{RootsAreSerial}
 use Rattle.cw_meter.specs.Whole.{ReadsStrands}
 use Rattle.cw_greedy.specs.Recorded.{Recorded}
 use Rattle.cw_model.specs.Burdens.{no_burden}
@@ -24,7 +24,7 @@ use Rattle.cw_meter.specs.Meters.{Meters}
 use Rattle.cw_meter.specs.declared.detail.Detail.{Detail}
 use Rattle.cw_meter.specs.declared.detail.Detail.TheVariants.{Measures as Measured, Strands as Recording}
 use Rattle.cw_meter.specs.Details.{IsLight}
-use Rattle.cw_meter_laws.specs.Opens.{whole}
+use Rattle.cw_jobs.specs.Opens.{whole}
 use Rattle.cw_runnable.specs.declared.verified.Verified.{Verified}
 use Rattle.cw_jobs.specs.declared.effect.Effect.{Effect}
 use Rattle.cw_jobs.specs.declared.effect.Effect.TheVariants as effect

@@ -4,7 +4,7 @@ use Rattle.std.specs.Prelude.{Result, Ok, Err}
 use Rattle.cw_model.specs.declared.burden.Burden.{Burden}
 use Rattle.cw_model.specs.Answers.{TrappedAt}
 use Rattle.cw_code.specs.Code.{code_view}
-use Rattle.cw_strand_laws.specs.RestLaws.{RootsAreSerial}
+use Rattle.cw_code.specs.RestLaws.{RootsAreSerial}
 use Rattle.cw_meter.specs.declared.detail.Detail.{Detail}
 use Rattle.cw_runnable.specs.declared.verified.Verified.{Verified}
 use Rattle.cw_text.specs.declared.fault.Fault.{Fault}

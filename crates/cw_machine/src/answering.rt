@@ -16,10 +16,10 @@ ghost use Rattle.cw_machine.specs.Runs.{GivesAsCode, RunsAsCode};
 
 use crate::alone::{Ended, end_of, int_given};
 use crate::values::Values;
+use cw_code::crew_laws::the_root_answers_what_the_code_gives;
 use cw_greedy::strands::Strands;
 use cw_jobs::effect::{Effect, PieceOutput};
 use cw_runnable::verified::Verified;
-use cw_strand_laws::laws::the_root_answers_what_the_code_gives;
 use cw_text::Fault;
 use std::alloc::Global;
 

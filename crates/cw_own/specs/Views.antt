@@ -10,10 +10,10 @@ use Rattle.cw_tree.specs.declared.resolved.Cut as code_cut
 use Rattle.cw_tree.specs.declared.resolved.Stmt as code_stmt
 use Rattle.cw_tree.specs.declared.resolved.Line as code_line
 use Rattle.cw_tree.specs.declared.resolved.Function as code_function
-use Rattle.cw_reasons.specs.declared.reasons.At.{At}
-use Rattle.cw_reasons.specs.declared.reasons.Reasons.{Reasons}
-use Rattle.cw_reasons.specs.Rising.{kept}
-use Rattle.cw_reasons.specs.RecordedReasons.{no_place}
+use Rattle.cw_text.specs.declared.reasons.At.{At}
+use Rattle.cw_text.specs.declared.reasons.Reasons.{Reasons}
+use Rattle.cw_text.specs.Rising.{kept}
+use Rattle.cw_text.specs.RecordedReasons.{no_place}
 use Rattle.cw_tree.specs.declared.resolved.Tree.{Tree}
 use Rattle.cw_tree.specs.Resolved.{Use, Expr, Stmt, For, Scope, Cut}
 use Rattle.cw_tree.specs.ResolvedView.{use_of, listed_of, expr_of, argument_of, head_of, parts_of, stmt_of, block_of}

@@ -1,13 +1,13 @@
 //! The lines that break a rule, with the rules.
 
 ghost use Rattle.std.specs.Prelude.{◌≡◌, Some};
-ghost use Rattle.cw_reasons.specs.RecordedReasons.{no_place};
+ghost use Rattle.cw_text.specs.RecordedReasons.{no_place};
 ghost use Rattle.cw_own.specs.Reasons.{reasons_at};
 ghost use Rattle.cw_own.specs.Views.{Noted, places_told, reason_of, told_of};
 
 use crate::reason::{Disowned, Holder, Start};
 use crate::row::Row;
-use cw_reasons::Reasons;
+use cw_text::Reasons;
 
 /// Represents a local whose start of being held is asked for.
 #[derive(Clone, Copy)]

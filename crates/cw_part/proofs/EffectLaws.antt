@@ -27,9 +27,9 @@ use Rattle.cw_reduce.specs.Greatest.{greater}
 use Rattle.cw_reduce.specs.PieceResults.{totals_joined}
 use Rattle.cw_reduce.specs.SumsOfIntegers.{SumsHoldIntegers}
 use Rattle.cw_reduce.specs.ShownLaws.{same_shown}
-use Rattle.cw_strand_laws.specs.Jobs.{Standing, Effect, Ended, Joined, TrapIn, OverLimit}
-use Rattle.cw_strand_laws.specs.Jobs as jobs
-use Rattle.cw_strand_laws.specs.Strands.{HasStopped, resumed, stopped_after, dropped}
+use Rattle.cw_code.specs.Jobs.{Standing, Effect, Ended, Joined, TrapIn, OverLimit}
+use Rattle.cw_code.specs.Jobs as jobs
+use Rattle.cw_code.specs.Strands.{HasStopped, resumed, stopped_after, dropped}
 use Rattle.cw_jobs.specs.Totals.{kept, HoldsTotals}
 use Rattle.cw_jobs.specs.lemmas.Totals.{sum_append}
 use Rattle.cw_part.specs.declared.read.Read.{Read}

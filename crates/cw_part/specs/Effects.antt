@@ -15,9 +15,9 @@ use Rattle.cw_meter.specs.declared.meter.Readings.{Readings}
 use Rattle.cw_meter.specs.Whole.{AreReadings}
 use Rattle.cw_reduce.specs.ReducerState.{ReducerState, held}
 use Rattle.cw_reduce.specs.PieceResults as views
-use Rattle.cw_strand_laws.specs.Jobs.{Standing, Effect, Ended, Joined, TrapIn, OverLimit}
-use Rattle.cw_strand_laws.specs.Jobs as jobs
-use Rattle.cw_strand_laws.specs.Strands.{HasStopped, resumed, stopped_after, dropped}
+use Rattle.cw_code.specs.Jobs.{Standing, Effect, Ended, Joined, TrapIn, OverLimit}
+use Rattle.cw_code.specs.Jobs as jobs
+use Rattle.cw_code.specs.Strands.{HasStopped, resumed, stopped_after, dropped}
 use Rattle.cw_jobs.specs.declared.effect.PieceOutput.{PieceOutput}
 use Rattle.cw_jobs.specs.Means.{HasShown}
 use Rattle.cw_jobs.specs.Totals.{kept}

@@ -25,7 +25,7 @@ use cw_machine::values::Values;
 use cw_model::burden::Burden;
 use cw_runnable::verified::Verified;
 use cw_schedule::schedules::Schedule;
-use cw_speedup::speedups::Speedup;
+use cw_schedule::speedups::Speedup;
 use cw_text::Fault;
 use std::alloc::Global;
 

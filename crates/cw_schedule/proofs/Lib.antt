@@ -14,3 +14,5 @@ pub mod Lines
 pub mod RunSchedule
 pub mod Within
 mod Charges
+mod Counted
+mod RunFacts

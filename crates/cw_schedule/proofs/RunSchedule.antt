@@ -14,7 +14,7 @@ use Rattle.cw_greedy.specs.Blocks.{strand_count}
 use Rattle.cw_code.specs.Code.{Code}
 use Rattle.cw_code.specs.Fits.{main_params}
 use Rattle.cw_machine.specs.Runs.{is_request, IsFailure}
-use Rattle.cw_recorded.specs.Recording.{IsKept}
+use Rattle.cw_greedy.specs.Recording.{IsKept}
 use Rattle.cw_machine.specs.Recorded.{Records}
 use Rattle.cw_schedule.specs.Schedules.{is_counted, is_asked, Ends, HasTooManyStrands, IsNotScheduled}
 

@@ -11,9 +11,9 @@ use Rattle.cw_model.specs.Answers.{Ended, answer_of}
 use Rattle.cw_code.specs.declared.code.Func.{Func}
 use Rattle.cw_code.specs.Code.{Code}
 use Rattle.cw_code.specs.Run.{Slots, State, Transition, On, Ends, Stops, Stuck, step, steps, go_on, RunOutcome, first_state, first_transition, reducers_of, code_serial}
-use Rattle.cw_strand_laws.specs.Jobs.{WholeCall, Came, Returns, moved, travel, root_job, Same, IsOf}
-use Rattle.cw_strand_laws.specs.Jobs as jobs
-use Rattle.cw_strand_laws.specs.Costs.{CostsAreWork}
+use Rattle.cw_code.specs.Jobs.{WholeCall, Came, Returns, moved, travel, root_job, Same, IsOf}
+use Rattle.cw_code.specs.Jobs as jobs
+use Rattle.cw_code.specs.Costs.{CostsAreWork}
 use Rattle.cw_schedule.specs.Schedules as schedules
 
 module _ (code : Code) where

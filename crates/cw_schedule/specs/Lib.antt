@@ -8,3 +8,5 @@ pub mod Boards
 pub mod Falls
 pub mod Lines
 pub mod Schedules
+pub mod Counts
+pub mod Speedups

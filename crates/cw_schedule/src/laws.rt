@@ -5,8 +5,8 @@ ghost use Rattle.cw_model.specs.Trees.{Tree, work};
 ghost use Rattle.cw_code.specs.Code.{Code};
 ghost use Rattle.cw_schedule.specs.Schedules.{Ends};
 
+use cw_code::crew_laws::cost_is_the_work_that_is_shown;
 use cw_model::laws::normal_form_reads_the_same;
-use cw_strand_laws::laws::cost_is_the_work_that_is_shown;
 
 /// States that a run that ends does no more work than its limit.
 pub fn work_is_within_its_limit()

@@ -7,13 +7,13 @@ ghost use Rattle.cw_schedule.specs.Schedules as schedules;
 
 use crate::schedule::greedy;
 use crate::weights::weigh;
+use cw_code::crew_laws::cost_is_the_work_that_is_shown;
 use cw_greedy::strands::Strands;
 use cw_machine::alone::main_takes;
 use cw_machine::recorded::strands_alone;
 use cw_model::laws::normal_form_reads_the_same;
 use cw_model::limits::{MOST_LIMIT, MOST_PROCESSORS};
 use cw_runnable::verified::Verified;
-use cw_strand_laws::laws::cost_is_the_work_that_is_shown;
 use cw_text::Fault;
 use std::alloc::Global;
 use std::sync::Arc;

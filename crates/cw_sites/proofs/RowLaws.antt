@@ -7,9 +7,9 @@ use borrow.Author.Tests.{eqb-true}
 use Rattle.cw_facts.specs.Tests.{less_differs, less_where_it_differs, taken, not_taken}
 use Rattle.cw_measure.specs.Outermost.{unless_at}
 use Rattle.cw_measure.specs.lemmas.Outermost.{unless_nothing}
-use Rattle.cw_pages.specs.Items.{item, Gives, HasNoPage, HasNoPageFrom, HasNoShelfFrom}
-use Rattle.cw_pages.specs.declared.pages.Pages.{Pages}
-use Rattle.cw_pages.specs.lemmas.Places.{on_page, on_pages_from, on_shelves_from}
+use Rattle.cw_facts.specs.Items.{item, Gives, HasNoPage, HasNoPageFrom, HasNoShelfFrom}
+use Rattle.cw_facts.specs.declared.pages.Pages.{Pages}
+use Rattle.cw_facts.specs.lemmas.Places.{on_page, on_pages_from, on_shelves_from}
 use Rattle.cw_sites.specs.declared.rows.RowsBySite.{RowsBySite}
 use Rattle.cw_sites.specs.declared.rows.Row.{Row}
 use Rattle.cw_sites.specs.declared.rows.Kept.{Kept}

@@ -5,8 +5,8 @@ use Rattle.cw_model.specs.Trees.{Tree, Event, tree_of, work, span}
 use Rattle.cw_model.specs.Rows.{is_site, leaves, weight_of_site, calls_of}
 use Rattle.cw_measure.specs.OpenParts.{Open, work_in}
 use Rattle.cw_measure.specs.Outermost.{is_counted, one_if, unless_open, Tally, Counts}
-use Rattle.cw_pages.specs.Items.{item}
-use Rattle.cw_pages.specs.declared.pages.Pages.{Pages}
+use Rattle.cw_facts.specs.Items.{item}
+use Rattle.cw_facts.specs.declared.pages.Pages.{Pages}
 use Rattle.cw_sites.specs.declared.rows.Row.{Row}
 use Rattle.cw_sites.specs.declared.rows.Kept.{Kept}
 use Rattle.cw_sites.specs.declared.rows.RowsBySite.{RowsBySite}

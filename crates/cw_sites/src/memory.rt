@@ -5,7 +5,7 @@ ghost use Rattle.cw_sites.specs.Trimmed.{IsTrimmed, StaysBounded, TellsAsBefore}
 use crate::paths::Paths;
 use crate::rows::RowsBySite;
 use crate::table::SiteTable;
-use cw_pages::PAGE;
+use cw_facts::PAGE;
 
 /// The bytes of a step, of a block, of what is kept of a site, and of a page that lies on a shelf besides its items.
 const STEP: usize = 16;

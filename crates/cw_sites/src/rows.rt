@@ -5,7 +5,7 @@ ghost use Rattle.cw_sites.specs.SiteRows as tallies;
 ghost use Rattle.cw_sites.specs.SiteRows.{kept_of, row_of, zero_row, Becomes, IsWhereItFits, OthersStay};
 ghost use Rattle.cw_sites.specs.SiteRows.{JoinsFirsts, JoinsFurther, JoinsOn, JoinsPage, JoinsRows, JoinsShelf, KeepTheSame, Keeps};
 
-use cw_pages::{PAGE, Pages, SHELF};
+use cw_facts::{PAGE, Pages, SHELF};
 use std::alloc::{AllocError, Global};
 
 /// The measures of a site so far.

@@ -4,11 +4,11 @@ use Rattle.cw_facts.specs.Tests.{not_below, below}
 use Rattle.cw_slices.specs.Placed.{Placed}
 use Rattle.cw_code.specs.Code.{Code, code_view}
 use Rattle.cw_code.specs.Run.{State}
-use Rattle.cw_strand_laws.specs.Jobs as jobs
-use Rattle.cw_strand_laws.specs.Jobs.{WholeCall, ToJoin, JobMeaning}
-use Rattle.cw_strand_laws.specs.Strands.{Waits, Halted, cost_of}
-use Rattle.cw_strand_laws.specs.Promises.{IsStrandOf}
-use Rattle.cw_strand_laws.specs.Steps.{CallsKeep, give, given_to}
+use Rattle.cw_code.specs.Jobs as jobs
+use Rattle.cw_code.specs.Jobs.{WholeCall, ToJoin, JobMeaning}
+use Rattle.cw_code.specs.Strands.{Waits, Halted, cost_of}
+use Rattle.cw_code.specs.Promises.{IsStrandOf}
+use Rattle.cw_code.specs.Steps.{CallsKeep, give, given_to}
 use Rattle.cw_runnable.specs.declared.verified.Verified.{Verified}
 use Rattle.cw_jobs.specs.declared.call.Parts.{Parts}
 use Rattle.cw_jobs.specs.declared.effect.Effect.{Effect}

@@ -12,21 +12,21 @@ use Rattle.cw_code.specs.Fits.{Fits, slots_lent}
 use Rattle.cw_code.specs.Run.{State}
 use Rattle.cw_code.specs.Good.{FitSettles}
 use Rattle.cw_code.specs.Staying.{SeatsLie}
-use Rattle.cw_meter_laws.specs.Strands.{CallsKeepMeters, CountsEffect, TellsAll, site_at, MeansMeasured}
+use Rattle.cw_jobs.specs.Strands.{CallsKeepMeters, CountsEffect, TellsAll, site_at, MeansMeasured}
 use Rattle.cw_meter.specs.declared.detail.Detail.{Detail}
-use Rattle.cw_recorded.specs.declared.recorder.Recorder.{Recorder}
-use Rattle.cw_recorded.specs.Recording.{RecordsIn}
+use Rattle.cw_greedy.specs.declared.recorder.Recorder.{Recorder}
+use Rattle.cw_greedy.specs.Recording.{RecordsIn}
 use Rattle.cw_meter.specs.declared.detail.Detail.TheVariants.{Values, Strands, Measures}
 use Rattle.cw_meter.specs.declared.meter.Meter.{Meter}
 use Rattle.cw_meter.specs.Details.{IsSite}
 use Rattle.cw_meter.specs.Origins as origins
 use Rattle.cw_meter.specs.Meters.{Meters, Rests}
-use Rattle.cw_strand_laws.specs.Jobs as jobs
-use Rattle.cw_strand_laws.specs.Jobs.{Standing, JobMeaning}
-use Rattle.cw_strand_laws.specs.Over.{under}
-use Rattle.cw_strand_laws.specs.Strands.{Going, Waits, resumed}
-use Rattle.cw_strand_laws.specs.Staying.{RestsStayInside}
-use Rattle.cw_strand_laws.specs.Steps.{CallsKeep}
+use Rattle.cw_code.specs.Jobs as jobs
+use Rattle.cw_code.specs.Jobs.{Standing, JobMeaning}
+use Rattle.cw_code.specs.Over.{under}
+use Rattle.cw_code.specs.Strands.{Going, Waits, resumed}
+use Rattle.cw_code.specs.RestsStay.{RestsStayInside}
+use Rattle.cw_code.specs.Steps.{CallsKeep}
 use Rattle.cw_runnable.specs.declared.verified.Verified.{Verified}
 use Rattle.cw_jobs.specs.declared.call.Parts.{Parts}
 use Rattle.cw_jobs.specs.declared.call.Rest.{Rest}

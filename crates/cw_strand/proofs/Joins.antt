@@ -12,15 +12,15 @@ use Rattle.cw_code.specs.Staying.{SeatsLie, IsInside}
 use Rattle.cw_code.specs.lemmas.Lying.{outermost_is}
 use Rattle.cw_meter.specs.Meters.{Meters, TellsAsBefore}
 use Rattle.cw_meter.specs.Origins.{Main, Rest}
-use Rattle.cw_meter_laws.specs.Opens.{whole}
-use Rattle.cw_meter_laws.specs.Strands.{CallsKeepMeters, TellsAll}
-use Rattle.cw_strand_laws.specs.Jobs as jobs
-use Rattle.cw_strand_laws.specs.Jobs.{ToJoin, has_come, standing, JobMeaning}
-use Rattle.cw_strand_laws.specs.Over.{under}
-use Rattle.cw_strand_laws.specs.Strands.{Going}
-use Rattle.cw_strand_laws.specs.Promises.{IsStrandOf}
-use Rattle.cw_strand_laws.specs.Staying.{RestsStayInside}
-use Rattle.cw_strand_laws.specs.Steps.{CallsKeep}
+use Rattle.cw_jobs.specs.Opens.{whole}
+use Rattle.cw_jobs.specs.Strands.{CallsKeepMeters, TellsAll}
+use Rattle.cw_code.specs.Jobs as jobs
+use Rattle.cw_code.specs.Jobs.{ToJoin, has_come, standing, JobMeaning}
+use Rattle.cw_code.specs.Over.{under}
+use Rattle.cw_code.specs.Strands.{Going}
+use Rattle.cw_code.specs.Promises.{IsStrandOf}
+use Rattle.cw_code.specs.RestsStay.{RestsStayInside}
+use Rattle.cw_code.specs.Steps.{CallsKeep}
 use Rattle.cw_runnable.specs.declared.verified.Verified.{Verified}
 use Rattle.cw_jobs.specs.declared.call.Extent.{Extent}
 use Rattle.cw_jobs.specs.declared.call.Extent.TheVariants as extent

@@ -4,10 +4,10 @@ use Rattle.std.specs.Prelude.{None}
 use Rattle.cw_code.specs.Code.{code_view}
 use Rattle.cw_code.specs.Run.{State}
 use Rattle.cw_slices.specs.Placed.{Placed}
-use Rattle.cw_strand_laws.specs.Jobs as jobs
-use Rattle.cw_strand_laws.specs.Strands.{Going}
-use Rattle.cw_strand_laws.specs.Promises.{IsStrandOf}
-use Rattle.cw_meter_laws.specs.Strands.{StartsFrom}
+use Rattle.cw_code.specs.Jobs as jobs
+use Rattle.cw_code.specs.Strands.{Going}
+use Rattle.cw_code.specs.Promises.{IsStrandOf}
+use Rattle.cw_jobs.specs.Strands.{StartsFrom}
 use Rattle.cw_jobs.specs.declared.call.Parts.{Parts}
 use Rattle.cw_jobs.specs.declared.call.Extent.TheVariants as extent
 use Rattle.cw_jobs.specs.declared.effect.Effect.{Effect}

@@ -10,16 +10,16 @@ ghost use Rattle.cw_strand.specs.Moves.{EndsCall, EndsStill, HasCome, IsShown};
 
 use crate::lending::empty_rest;
 use crate::strand::{Mode, Strand};
+use cw_code::crew_laws::{calls_on_a_strand_keep_its_job, rests_stay_in_their_functions};
 use cw_code::laws::runs_stay_in_their_functions;
 use cw_jobs::call::Rest;
 use cw_jobs::effect::{Effect, PieceOutput};
+use cw_jobs::laws::calls_keep_what_meters_tell;
 use cw_machine::laws::machines_that_stop_remain;
 use cw_machine::machine::Machine;
 use cw_machine::run::Run;
 use cw_meter::{Detail, Meter};
-use cw_meter_laws::laws::calls_keep_what_meters_tell;
 use cw_slices::Slice;
-use cw_strand_laws::laws::{calls_on_a_strand_keep_its_job, rests_stay_in_their_functions};
 use std::collections::VecDeque;
 use std::mem;
 

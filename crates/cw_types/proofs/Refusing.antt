@@ -5,11 +5,11 @@ use Rattle.cw_model.specs.Sizes.{limit_faults}
 use Rattle.cw_model.specs.Syntax.{Program}
 use Rattle.cw_model.specs.Typing.{type_faults}
 use Rattle.cw_model.specs.lemmas.Lowest.{least_line, no_least, no_lines}
-use Rattle.cw_reasons.specs.Rising.{first_of, kept, there}
-use Rattle.cw_reasons.specs.RecordedReasons.{itself, least_lines, line_of, lines_at, lines_of, no_place}
-use Rattle.cw_reasons.specs.declared.reasons.At.{At}
-use Rattle.cw_reasons.specs.declared.reasons.Reasons.{Reasons}
-use Rattle.cw_reasons.specs.lemmas.Kept.{first-lowest, first-map, there-map, there-rising}
+use Rattle.cw_text.specs.Rising.{first_of, kept, there}
+use Rattle.cw_text.specs.RecordedReasons.{itself, least_lines, line_of, lines_at, lines_of, no_place}
+use Rattle.cw_text.specs.declared.reasons.At.{At}
+use Rattle.cw_text.specs.declared.reasons.Reasons.{Reasons}
+use Rattle.cw_text.specs.lemmas.Kept.{first-lowest, first-map, there-map, there-rising}
 use Rattle.cw_types.specs.Faults.{IsPassedAt, IsWithin, refused_lines, where_none}
 use Rattle.cw_types.specs.Limits.{IsPassedByParts}
 use Rattle.cw_types.specs.Named.{functions_named, reducers_named}

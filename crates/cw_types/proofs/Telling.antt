@@ -4,7 +4,7 @@ use Rattle.std.proofs.lemmas.Bool.Decides.{nat_tests}
 use Rattle.std.specs.Option.{option_to_list}
 use Rattle.cw_model.specs.Lines.{lesser, lowest}
 use Rattle.cw_model.specs.lemmas.Lowest.{least_line}
-use Rattle.cw_reasons.specs.declared.reasons.At.{At}
+use Rattle.cw_text.specs.declared.reasons.At.{At}
 use Rattle.cw_types.specs.Telling.{AsBefore, Anew, IsOf, IsTheLeast, IsTheOne, Tells}
 use Rattle.cw_types.specs.declared.told.LeastReason.{LeastReason}
 

@@ -6,8 +6,8 @@ use Rattle.cw_model.specs.Typing.{faults_of, faults_in_block}
 use Rattle.cw_tree.specs.declared.syntax.Function.{Function}
 use Rattle.cw_tree.specs.declared.syntax.Line.{Line}
 use Rattle.cw_tree.specs.SyntaxView.{program_of, function_of, stmt_of, block_of}
-use Rattle.cw_reasons.specs.RecordedReasons.{Notes, Tells}
-use Rattle.cw_reasons.specs.declared.reasons.Reasons.{Reasons}
+use Rattle.cw_text.specs.RecordedReasons.{Notes, Tells}
+use Rattle.cw_text.specs.declared.reasons.Reasons.{Reasons}
 use Rattle.cw_types.specs.declared.globals.Globals.{Globals}
 use Rattle.cw_types.specs.declared.reason.IllTyped.{IllTyped}
 use Rattle.cw_types.specs.declared.rules.Returns.{Returns}

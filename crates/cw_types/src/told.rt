@@ -4,8 +4,7 @@ ghost use Rattle.std.specs.Prelude.{◌≡◌, None, is_some, not};
 ghost use Rattle.cw_model.specs.Lines.{unless};
 ghost use Rattle.cw_types.specs.Telling.{IsTheLeast, IsTheOne, Noted, NotesLeast, Tells};
 
-use cw_reasons::At;
-use cw_text::LeastLine;
+use cw_text::{At, LeastLine};
 
 /// Holds the least line so far that exceeds a limit, with the first limit found for it.
 #[derive(Clone, Copy)]

@@ -1,5 +1,5 @@
 use Rattle.std.proofs.Common.{Some, ap, ◌∙◌}
-use Rattle.cw_reasons.specs.Rising.{kept}
+use Rattle.cw_text.specs.Rising.{kept}
 use Rattle.cw_own.specs.Reasons.{Reason, line_in, reasons_at}
 use Rattle.cw_own.specs.Views.{told_at}
 use Rattle.cw_own.proofs.Small.{found_kept}

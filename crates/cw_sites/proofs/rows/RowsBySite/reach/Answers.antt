@@ -1,6 +1,6 @@
 use Rattle.std.proofs.Common.{refl, ◌∙◌, sym, ap, arith}
 use Rattle.cw_sites.specs.SiteRows.{none_kept}
-use Rattle.cw_pages.specs.Items.{item}
+use Rattle.cw_facts.specs.Items.{item}
 use Rattle.cw_sites.proofs.RowLaws.{kept_pushed}
 use Rattle.cw_sites.proofs.rows.RowsBySite.reach.Goals as goal
 
