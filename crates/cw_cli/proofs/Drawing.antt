@@ -23,8 +23,8 @@ use Rattle.cw_code.specs.declared.head.Head as counted
 use Rattle.cw_runnable.specs.declared.verified.Verified.{Verified}
 use Rattle.cw_machine.specs.declared.values.Values.{Values}
 use Rattle.cw_machine.specs.Runs.{IsFailure, is_request}
-use Rattle.cw_schedule.specs.Schedules.{is_asked, is_counted}
-use Rattle.cw_schedule.specs.Speedups as speeds
+use Rattle.cw_greedy_schedule.specs.Schedules.{is_asked, is_counted}
+use Rattle.cw_greedy_schedule.specs.Speedups as speeds
 use Rattle.cw_compile.specs.Compiled.{IsCompiled}
 use Rattle.cw_text.specs.declared.fault.Fault.{Fault}
 use Rattle.cw_text.specs.declared.fault.Fault.TheVariants as fault

@@ -19,10 +19,10 @@ use Rattle.cw_model.specs.Report as report
 use Rattle.cw_model.specs.Report.{check_text, csv_line, value_line, reduction_word, total_line, total_lines, report_text}
 use Rattle.cw_greedy.specs.Greedy.{greedy_length}
 use Rattle.cw_pool.specs.declared.run.TheConstants.{MOST_BODIES}
-use Rattle.cw_schedule.specs.State.{IsWithin}
+use Rattle.cw_greedy_schedule.specs.State.{IsWithin}
 use Rattle.cw_model.specs.declared.limits.TheConstants.{MOST_PROCESSORS}
-use Rattle.cw_schedule.specs.Schedules.{IsNotScheduled, Schedules, is_asked, is_counted}
-use Rattle.cw_schedule.specs.Speedups as speeds
+use Rattle.cw_greedy_schedule.specs.Schedules.{IsNotScheduled, Schedules, is_asked, is_counted}
+use Rattle.cw_greedy_schedule.specs.Speedups as speeds
 use Rattle.cw_meter.specs.Whole.{AreReadings}
 use Rattle.cw_meter.specs.declared.meter.Readings.{Readings}
 use Rattle.cw_code.specs.Code.{Code}
