@@ -23,6 +23,6 @@ complete -c cilkwork -n "__fish_seen_subcommand_from $runs" -l limit -x -d 'maxi
 complete -c cilkwork -n "__fish_seen_subcommand_from $runs" -l workers -x -d 'number of threads that execute the program'
 complete -c cilkwork -n "__fish_seen_subcommand_from $burdened" -l burden -x -d 'instructions added for each charged edge'
 complete -c cilkwork -n "__fish_seen_subcommand_from $burdened" -l edges -x -a 'spawn both' -d 'edges that the burden is charged on'
-complete -c cilkwork -n "__fish_seen_subcommand_from scale sites gain speedup" -l table -d 'align the columns, in place of CSV'
+complete -c cilkwork -n "__fish_seen_subcommand_from scale sites gain speedup" -l table -d 'align the columns, instead of CSV'
 complete -c cilkwork -n "__fish_seen_subcommand_from gain page" -l top -x -d 'maximum number of functions'
 complete -c cilkwork -n "__fish_seen_subcommand_from speedup page" -l processors -x -d 'largest number of processors'
