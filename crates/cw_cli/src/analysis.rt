@@ -35,20 +35,20 @@ use std::alloc::Global;
 use std::sync::{Arc, Wait};
 use std::thread::Threads;
 
-/// Analyses the program that these bytes are the source of, and writes the report of the mode, with
-/// one worker.
+/// Analyses the program with this source, with one worker, and writes the report of the mode. Fewer than 2^64 - 1 writes
+/// to the sink failed before.
 ///
-/// The errors, in this order: what `compile` answers; and but for a check, which reads no arguments
-/// and runs nothing, `Arguments` where the count of the arguments is not that of `main`'s
-/// parameters, or an option is out of range; `OverLimit` where the serial elision costs more than
-/// the limit, `Trap` where it traps: in mode `Run` after what it printed before was written, else
-/// with nothing written; `Strands`, with how many, in mode `Greedy` where it ends with more than
-/// 1,000,000 of them.
+/// # Errors
 ///
-/// `Write` where a write of the report failed, and `Memory` where memory ran out: no byte was
-/// written then. Nothing is written at any other error but `Trap` and `Write`.
+/// The errors of `compile`. Then, in each mode except `Check`:
 ///
-/// Fewer than 2^64 - 1 writes to the sink failed before.
+/// - `Fault::Arguments` if the number of arguments is not the number of `main`'s parameters, or an option is out of range;
+/// - `Fault::OverLimit` if the serial elision costs more than the limit;
+/// - `Fault::Trap` if it traps: in mode `Run` after the values printed before the trap were written;
+/// - `Fault::Strands`, with their number, in mode `Greedy` if it ends with more than 1,000,000 strands.
+///
+/// `Fault::Write` if a write of the report failed, and `Fault::Memory` if memory ran out: nothing was written then. At any
+/// other error than `Trap` and `Write`, nothing is written.
 pub fn analyse_alone<W: Sink>(
     alloc: Global,
     bytes: &[u8],
@@ -95,20 +95,21 @@ pub fn analyse_named_alone<W: Sink>(
     }
 }
 
-/// Analyses the program that these bytes are the source of, and writes the report of the mode, with the caller's thread
-/// and one for each body of the crew as workers that steal from each other.
+/// Analyses the program with this source and writes the report of the mode. The workers are the caller's thread and one
+/// thread for each body of the crew; with an empty crew it calls `analyse_alone`. Fewer than 2^64 - 1 writes to the sink
+/// failed before.
 ///
-/// The errors and what is written are those of `analyse_alone`, which it calls where the crew is empty: no byte depends
-/// on the crew, on what its bodies and the gate do, or on the order in which workers come to steal. A check and a run of
-/// code that spawns nothing are made by the caller's thread only. In mode `Gain` the crew executes the first run, and then one
-/// thread for each worker executes the further runs in parallel; in modes `Greedy` and `Speedup` the crew executes the run,
-/// and the caller's thread computes the schedules. If a run has more than 1,000,000 strands, mode `Speedup` takes the
+/// No byte depends on the crew, on what its bodies and the gate do, or on the order in which workers steal. Only the
+/// caller's thread executes a check and code that spawns nothing. In mode `Gain` the crew executes the first run, and then
+/// one thread for each worker executes the further runs in parallel; in modes `Greedy` and `Speedup` the crew executes the
+/// run, and the caller's thread computes the schedules. If a run has more than 1,000,000 strands, mode `Speedup` takes the
 /// measures from a second run, by the caller's thread. In mode `Page` the crew executes the first run, one thread for each
 /// worker the further runs of the gain table, and the caller's thread a run whose strands it schedules.
 ///
-/// Before all that, a crew of more than 63 bodies is `Arguments` in each mode, with nothing written.
+/// # Errors
 ///
-/// It asks that fewer than 2^64 - 1 writes to the sink failed before.
+/// The errors of `analyse_alone`, and `Fault::Arguments` in each mode if the crew has more than 63 bodies: nothing is
+/// written then.
 pub fn analyse<
     W: Sink,
     G: Gate + Drop + Send + Sync + 'static,

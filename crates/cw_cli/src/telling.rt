@@ -225,8 +225,8 @@ pub fn say<W: Sink, E: Sink>(said: &Said, out: &mut W, err: &mut E) -> u8
     }
 }
 
-/// Writes the answer if there is nothing to run, like `say`. The line of a fault of these words is followed by the
-/// words that have the fault.
+/// Writes the answer if there is nothing to run, like `say`. After the line of a fault it also writes which of these words
+/// have the fault.
 pub fn say_why<W: Sink, E: Sink>(
     alloc: Global,
     words: &[String],

@@ -425,8 +425,8 @@ impl<'a> Around<'a> {
         self.after(at, words.get(start..).unwrap_or(&[])).is_some()
     }
 
-    /// Returns whether the statement begins with `front`, the tokens right before the one that cannot be there are `before`, and
-    /// those from it on `from`.
+    /// Returns whether the statement begins with `front`, the tokens right before the rejected one are `before`, and the tokens
+    /// from the rejected one on are `from`.
     pub fn is_like(&self, front: &str, before: &str, from: &str) -> bool {
         let Some(start) = self.place.checked_sub(count_words(before)) else {
             return false;

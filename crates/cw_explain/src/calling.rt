@@ -167,7 +167,7 @@ impl<'a> Text<'a> {
         Call::Outer(fresh_name(self.bytes, self.tokens))
     }
 
-    /// Whether each use of a name in a line is `len` of it, and there is one.
+    /// Returns whether a line uses a name, and uses it only as the argument of `len`.
     pub fn is_length(&self, line: u32, name: Word<'_>) -> bool {
         let start = self.place_of(line);
         let mut found = false;

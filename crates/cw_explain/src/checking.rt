@@ -24,7 +24,11 @@ use std::alloc::{AllocError, Global};
 /// The shortest function `main`.
 const MAIN: &str = "int main(){return 0;}";
 
-/// The tokens of bytes.
+/// Returns the source with these bytes and its tokens.
+///
+/// # Errors
+///
+/// The errors of `Source::read` and of `lex`.
 pub fn tokens_of(alloc: Global, bytes: &[u8]) -> Result<(Source, Vec<Token>), Fault>
     ensures { IfOk result (λ read. IsTokenCut read.0 read.1.items) }
 {
@@ -159,7 +163,8 @@ fn remaining<'a>(
     Ok(remains.text)
 }
 
-/// Whether a name is among tokens that are no function and no reducer, or in a directive, so that it may be declared there.
+/// Returns whether a name occurs in a directive, or among tokens that form neither a function nor a reducer, so that it may
+/// be declared there.
 pub fn is_suspect(outline: &Outline<'_>, name: &[u8]) -> bool {
     for item in outline.found.items.as_slice() {
         if !item.is_headed {

@@ -114,7 +114,7 @@ fn text_of(source: &[u8], line: u32, start: Option<usize>) -> &[u8] {
     text.get(..MOST_BYTES).unwrap_or(text)
 }
 
-/// Adds these lines of the source, each once, the least first, with their numbers before them, and a caret below the error.
+/// Appends these lines of the source, each once, in order, with their numbers before them, and a caret below the error.
 pub fn add_lines(out: &mut String, source: &[u8], lines: Lines) -> Result<(), AllocError> {
     let other = lines.other.unwrap_or(lines.line);
     let columns = digits(lines.line.max(other));

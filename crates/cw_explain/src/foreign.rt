@@ -231,12 +231,12 @@ static OPERATORS: &[Foreign] = &[
     ),
 ];
 
-/// What C writes with quotes, directives and lines.
+/// Returns the table of what C writes with quotes, directives and lines.
 pub fn directives() -> &'static [Foreign] {
     DIRECTIVES
 }
 
-/// What C writes with other bytes.
+/// Returns the table of what C writes with other bytes.
 pub fn operators() -> &'static [Foreign] {
     OPERATORS
 }

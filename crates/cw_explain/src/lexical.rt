@@ -15,7 +15,7 @@ pub struct OfText<'a> {
     pub reason: Uncut<'a>,
     /// The line, without its line feed.
     pub line: &'a [u8],
-    /// The number of bytes of the line before them.
+    /// The number of bytes before them in the line.
     pub place: usize,
 }
 

@@ -21,7 +21,7 @@ const MOST_SEARCHED: usize = 8_192;
 /// The most digits of a hexadecimal number whose value is shown.
 const MOST_DIGITS: usize = 15;
 
-/// A name that these tokens of a text do not declare.
+/// Returns a name that these tokens of a text do not declare.
 pub fn fresh_name(text: &[u8], tokens: &[Token]) -> &'static str {
     let tokens = tokens.get(..MOST_SEARCHED).unwrap_or(tokens);
     for name in FRESH {

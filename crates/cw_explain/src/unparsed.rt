@@ -133,7 +133,7 @@ fn row_of(around: &Around<'_>, rows: &[Row], by_front: bool) -> Option<&'static 
     None
 }
 
-/// The text of the first row that applies to a token where no source has it.
+/// Returns the text of the first row that applies to a token that no source has at this position.
 pub fn nowhere(around: &Around<'_>, by_front: bool) -> Option<&'static str> {
     if !around.is_inside {
         return row_of(around, outside(), by_front).or(row_of(around, parameters(), by_front));
@@ -145,7 +145,7 @@ pub fn nowhere(around: &Around<'_>, by_front: bool) -> Option<&'static str> {
         .or(row_of(around, habits(), by_front))
 }
 
-/// The text for a += on a name that no reducer of the source has.
+/// Returns the text for a `+=` on a name that is not a reducer of the source.
 pub fn update_of(around: &Around<'_>) -> Option<&'static str> {
     if around.is_like("total", "first", "+=") {
         return None;

@@ -13,7 +13,7 @@ pub struct Word<'a> {
 }
 
 impl<'a> Word<'a> {
-    /// This name.
+    /// Returns the word of a name.
     pub fn of(name: &'a Name) -> Word<'a>
         ensures { result.text.now ≡ name.now }
     {
@@ -22,7 +22,7 @@ impl<'a> Word<'a> {
         }
     }
 
-    /// Whether both are spelled alike.
+    /// Returns whether the word has these bytes.
     pub fn is(&self, other: &[u8]) -> bool
         ensures { result ≡ bytes_eq self.now.text.now other.now }
     {
@@ -49,7 +49,7 @@ pub struct ClippedText<'a> {
 }
 
 impl ClippedText<'_> {
-    /// The number of columns that all its bytes take.
+    /// Returns the number of columns that all its bytes take.
     pub fn width(&self) -> usize {
         let mut columns: usize = 0;
         for byte in self.text {
@@ -73,7 +73,7 @@ impl fmt::Display for ClippedText<'_> {
     }
 }
 
-/// Whether a byte is shown as its character.
+/// Returns whether a byte appears as its character.
 pub fn is_printable(byte: u8) -> bool {
     matches!(byte, 32..=126)
 }

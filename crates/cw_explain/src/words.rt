@@ -253,7 +253,7 @@ pub fn library() -> &'static [Call] {
     LIBRARY
 }
 
-/// Other names of C's library.
+/// Returns the table of other names of C's library.
 pub fn other_calls() -> &'static [Call] {
     OTHER_CALLS
 }

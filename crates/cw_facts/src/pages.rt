@@ -1,9 +1,9 @@
-//! Items by their numbers, in pages that are made as their first items are given.
+//! Items by their numbers, in pages that are created with their first items.
 //!
-//! [`Pages`] are seen as an item for each number (`item`): where none was given, it is the one that the caller passes for
-//! that. A page has 8 items, and lies on a shelf of 32: so a few items with numbers far apart take a few pages and
-//! their shelves, whatever the numbers, and an item is found in three steps. A [`Table`] has those of the first 256
-//! numbers in a vector beside its pages. After an error, which says that memory ran out, nothing is known of the items.
+//! [`Pages`] represent an item for each number (`item`): if none was set, the item that the caller passes for this case. A
+//! page has 8 items, and a shelf has 32 pages: so a few items with distant numbers take a few pages and their shelves,
+//! whatever the numbers, and an item is found in three steps. A [`Table`] also has a vector with the items of the first 256
+//! numbers. After an error, which means that memory ran out, nothing is known of the items.
 
 ghost use Rattle.std.specs.Prelude.{◌≡◌, ℕ, ◌/◌, ◌<◌, ◌≤◌, false, length, OnOk};
 ghost use Rattle.cw_facts.specs.Items.{item, item_in, item_on, Gives, GivesIn, GivesOn, HasNoPage, HasNoPageFrom, HasNoShelfFrom, IsFreeFrom, IsFreeOn, ReadTheSame, SameIn};
@@ -19,14 +19,14 @@ pub const ON_SHELF: usize = 32;
 /// How many items a shelf has.
 pub const SHELF: usize = PAGE * ON_SHELF;
 
-/// Items by their numbers. A page whose items were not given is empty, or not there; so is a shelf.
+/// Items by their numbers. A page or shelf without items is empty or does not exist.
 #[derive(Debug, Drop)]
 pub struct Pages<T> {
     shelves: Vec<Vec<Vec<T>>>,
 }
 
 impl<T: Copy> Pages<T> {
-    /// No items. Takes no memory.
+    /// Returns `Pages` without items. Allocates no memory.
     pub fn new(alloc: Global) -> Pages<T>
         ensures { (none : T) (k : ℕ) → item none result k ≡ none }
     {
@@ -35,7 +35,7 @@ impl<T: Copy> Pages<T> {
         }
     }
 
-    /// The item of a number; `none` where none was given.
+    /// Returns the item of a number, or `none` if no item was set.
     #[inline(always)]
     pub fn get(&self, number: usize, none: T) -> T
         ensures { result ≡ item none self.now number }
@@ -47,8 +47,11 @@ impl<T: Copy> Pages<T> {
         none
     }
 
-    /// Gives a number its item; other items of its page that were not given become `none`. An error where memory runs
-    /// out.
+    /// Sets the item of a number; other items of its page that were not set become `none`.
+    ///
+    /// # Errors
+    ///
+    /// Returns an error if memory runs out.
     #[inline(always)]
     pub fn set(&mut self, number: usize, value: T, none: T) -> Result<(), AllocError>
         ensures { OnOk result (Gives none self.old self.new number value) }
@@ -72,14 +75,14 @@ impl<T: Copy> Pages<T> {
         Ok(())
     }
 
-    /// How many shelves there are, empty ones among them.
+    /// Returns the number of shelves, including empty ones.
     pub fn shelves(&self) -> usize
         ensures { HasNoShelfFrom self.now result }
     {
         self.shelves.len()
     }
 
-    /// How many pages lie on a shelf, empty ones among them.
+    /// Returns the number of pages on a shelf, including empty ones.
     pub fn pages(&self, shelf: usize) -> usize
         ensures within { result ≤ 32 }
         ensures free { HasNoPageFrom self.now shelf result }
@@ -90,7 +93,7 @@ impl<T: Copy> Pages<T> {
         0
     }
 
-    /// Whether a page has items.
+    /// Returns whether a page has items.
     pub fn has_page(&self, shelf: usize, page: usize) -> bool
         ensures { result ≡ false → HasNoPage self.now shelf page }
     {

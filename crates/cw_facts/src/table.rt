@@ -9,7 +9,7 @@ use std::alloc::{AllocError, Global};
 /// How many numbers have their items in the vector.
 const FIRSTS: usize = 256;
 
-/// Items by their numbers: those of the first 256 in a vector, up to the last one that was given, the others in pages.
+/// Items by their numbers: the first 256 in a vector, up to the last one that was set, the others in pages.
 #[derive(Debug, Drop)]
 pub struct Table<T> {
     firsts: Vec<T>,
@@ -17,7 +17,7 @@ pub struct Table<T> {
 }
 
 impl<T: Copy> Table<T> {
-    /// No items. Takes no memory.
+    /// Returns a table without items. Allocates no memory.
     pub fn new(alloc: Global) -> Table<T>
         ensures { (none : T) (k : ℕ) → entry none result k ≡ none }
     {
@@ -27,7 +27,7 @@ impl<T: Copy> Table<T> {
         }
     }
 
-    /// The item of a number; `none` where none was given.
+    /// Returns the item of a number, or `none` if no item was set.
     #[inline(always)]
     pub fn get(&self, number: usize, none: T) -> T
         ensures { result ≡ entry none self.now number }
@@ -38,7 +38,11 @@ impl<T: Copy> Table<T> {
         self.further.get(number, none)
     }
 
-    /// Gives a number its item. An error where memory runs out.
+    /// Sets the item of a number.
+    ///
+    /// # Errors
+    ///
+    /// Returns an error if memory runs out.
     #[inline(always)]
     pub fn set(&mut self, number: usize, value: T, none: T) -> Result<(), AllocError>
         ensures { OnOk result (Enters none self.old self.new number value) }

@@ -42,7 +42,7 @@ pub(crate) fn functions_with(
     Ok(())
 }
 
-/// Appends the code of the functions of loops; the first of them has this index.
+/// Appends the code of the functions of loops; the first function has the index `index`.
 ///
 /// # Errors
 ///

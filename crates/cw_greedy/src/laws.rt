@@ -71,7 +71,8 @@ pub fn strands_are_counted()
     ensures { StrandsAreCounted }
 {}
 
-/// States that a jump needs only the list of a state's strands, with the instructions left of the ready ones.
+/// States that a jump of the schedule needs only the list of a state's strands, with the remaining instructions of the ready
+/// ones.
 pub fn lists_show_boards()
     ensures { (g : Going) → ShowsBoard g }
 {}

@@ -102,7 +102,8 @@ pub fn speedup_of_run(
     Ok(Speedup { measure, rows })
 }
 
-/// Whether there are as many arguments as `main` takes, and the limit, the burden and the processors are in their ranges.
+/// Returns whether the number of arguments is the number of `main`'s parameters, and the limit, the burden and the number of
+/// processors are in their ranges.
 pub fn is_asked(code: &Verified, args: &[i64], n: u64, burden: Burden, most: u64) -> bool
     ensures { result ≡ speedups.is_asked (code_view code.now.code) args.now n burden most }
 {

@@ -13,7 +13,7 @@ const VIEW: usize = 24;
 
 const FRAME: usize = 40;
 
-// Drops the cells that lie so many behind one or further, if these can be counted, with the memory that is not used.
+// Drops the cells beyond the first `first + many`, unless this sum overflows, and frees the memory that is not used.
 fn keep_first(cells: &mut Vec<i64>, first: usize, many: usize)
     ensures { KeepsFirst first many cells.old.items cells.new.items }
 {
@@ -25,8 +25,8 @@ fn keep_first(cells: &mut Vec<i64>, first: usize, many: usize)
 }
 
 impl Machine {
-    /// Gives back the memory that no call uses: cells behind those that the call that runs may use, and room of the lists.
-    /// It holds the states of runs of its code that it held.
+    /// Frees the memory that no call uses: cells beyond those that the running call may use, and spare room of the lists. The
+    /// machine represents the same states as before.
     #[inline(never)]
     pub fn trim(&mut self, code: &Verified)
         ensures shows { Trims code.now self.old self.new }

@@ -1,4 +1,4 @@
-//! Where a run stands that traps: what its last instruction had, and the calls and loops round it.
+//! The state of a run at its trap: the operands of its last instruction, and the calls and loops around it.
 
 ghost use Rattle.std.specs.Prelude.{◌≡◌, ◌≤◌, length, IfOk};
 ghost use Rattle.cw_code.specs.Code.{code_view};
@@ -24,13 +24,13 @@ use std::alloc::{AllocError, Global};
 /// nested calls that a run may have.
 pub const MOST_ROUND: usize = 16_384;
 
-/// The loop of a run up to a trap, as bursts know it.
+/// The loop of a run to a trap, as the fast path uses it.
 pub(crate) struct UpToTrap {}
 
-/// What an instruction has that can trap.
+/// The operands of an instruction that can trap.
 #[derive(Clone, Copy, Debug, PartialEq, Eq)]
 pub enum Had {
-    /// It is none that can trap.
+    /// It cannot trap.
     Nothing,
     /// An operator and its operand.
     One(UnaryOperator, i64),
@@ -48,7 +48,7 @@ pub enum Had {
     Call(usize, u32),
 }
 
-/// What stands round an instruction.
+/// A call or a loop around an instruction.
 #[derive(Clone, Copy, Debug, PartialEq, Eq)]
 pub enum Round {
     /// A call, by the number of its site.
@@ -57,14 +57,14 @@ pub enum Round {
     Turns(u32),
 }
 
-/// How a run stood that trapped.
+/// The state of a run at its trap.
 #[derive(Debug, Drop)]
 pub struct Standing {
     /// The trap.
     pub trap: Trap,
     /// Its line.
     pub line: u32,
-    /// What the instruction had.
+    /// The operands of the instruction.
     pub had: Had,
     /// The calls and loops around it, the innermost first, at most `MOST_ROUND`. A loop by halves appears once.
     pub round: Vec<Round>,
@@ -72,20 +72,20 @@ pub struct Standing {
     pub further: usize,
 }
 
-/// Why a run up to a trap stopped.
+/// The reason why a run to a trap stopped.
 #[derive(Clone, Copy, Debug)]
 enum Halt {
-    /// It may do no more instructions.
+    /// It may execute no more instructions.
     Over,
     /// It ended.
     Ended,
-    /// A trap, with its line and what the instruction had.
+    /// A trap, with its line and the operands of the instruction.
     Trapped(Trap, u32, Had),
-    /// Memory was refused.
+    /// Memory ran out.
     NoMemory,
 }
 
-// What called from the place before this one, but for a call that a loop's function makes of itself.
+// Returns the call or loop of the instruction before this `pc`, except a call that a loop's function makes of itself.
 fn round_of(ops: &[Op], place: usize) -> Option<Round> {
     if place == 0 || place > ops.len() {
         return None;
@@ -97,7 +97,7 @@ fn round_of(ops: &[Op], place: usize) -> Option<Round> {
     }
 }
 
-// The lesser of a count and one so far, if there is one.
+// Returns the minimum of a count and the previous minimum, if there is one.
 fn lesser(so_far: Option<usize>, count: usize) -> Option<usize> {
     match so_far {
         Some(least) if least < count => Some(least),
@@ -106,7 +106,7 @@ fn lesser(so_far: Option<usize>, count: usize) -> Option<usize> {
 }
 
 impl Machine {
-    // The least count of elements of the arrays in these slots.
+    // Returns the minimum number of elements of the arrays in these slots.
     fn least_length(&self, passed: &[u32]) -> Option<usize>
         requires { SeesEach self.now passed.now }
     {
@@ -117,7 +117,7 @@ impl Machine {
         least
     }
 
-    // What the instruction has at which it stands.
+    // Returns the operands of the instruction at the machine's `pc`.
     #[inline(always)]
     fn had(&self, code: &Verified, op: &Op) -> Had
         requires { ∥ IsAt code.now self.now op.now ∥₁ }
@@ -139,7 +139,7 @@ impl Machine {
         }
     }
 
-    // At most so many instructions, from where the machine stands: why it stopped.
+    // Executes at most this number of instructions and returns why the machine stopped.
     #[inline(never)]
     fn run_up_to_trap(&mut self, code: &Verified, limit: u64) -> Halt
         requires { ∥ IsAlone code.now self.old ∥₁ }
@@ -164,7 +164,7 @@ impl Machine {
         }
     }
 
-    // The calls and loops around the running call, the innermost first, at most `MOST_ROUND`, and the number of further
+    // Returns the calls and loops around the running call, the innermost first, at most `MOST_ROUND`, and the number of further
     // ones.
     fn round(&self, alloc: Global, code: &Verified) -> Result<(Vec<Round>, usize), AllocError>
         ensures { IfOk result (λ told. length told.0.items ≤ MOST_ROUND) }
@@ -183,13 +183,14 @@ impl Machine {
     }
 }
 
-/// Runs code on these arguments within `n` instructions up to the instruction that traps, with nothing counted: the trap
-/// and its line, as the run of the code has them, what the instruction had at which it stood, and, of which no contract
-/// says more than how many, the calls and loops round it. None exactly where the run ends.
+/// Runs code on these arguments within `n` instructions up to the instruction that traps, without measures. Returns the
+/// trap, its line and the operands of that instruction, as the meaning of the code has them, and the calls and loops around
+/// it, of which the contract states only the maximum number. Returns `None` exactly if the run ends.
 ///
-/// The error is `Arguments` exactly where the count of the arguments is not that of `main`'s parameters, or `n` is not
-/// in 1..=2^62; otherwise `OverLimit` exactly where the run costs more than `n`, and `Memory` where memory runs out.
-/// Nothing is kept of the run but what is answered.
+/// # Errors
+///
+/// `Fault::Arguments` exactly if the number of arguments is not the number of `main`'s parameters, or `n` is not in
+/// 1..=2^62; otherwise `Fault::OverLimit` exactly if the run costs more than `n`, and `Fault::Memory` if memory runs out.
 pub fn stand_at_trap(
     alloc: Global,
     code: &Verified,

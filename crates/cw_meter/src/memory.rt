@@ -12,7 +12,8 @@ const BLOCK: usize = 32;
 const TAG: usize = 80;
 
 impl Meter {
-    /// Gives back the memory that its lists do not use, but for those of the recorder. It tells what it told.
+    /// Frees the memory that its lists do not use, except the lists of the recorder. The meter represents the same runs as
+    /// before.
     #[inline(never)]
     pub fn trim(&mut self)
         ensures { TellsAsBefore self.old self.new }
@@ -22,7 +23,7 @@ impl Meter {
         self.tables.sites.trim();
     }
 
-    /// Returns the memory of its lists, in bytes, but for those of the recorder.
+    /// Returns the memory of its lists, except the lists of the recorder, in bytes.
     pub fn bytes(&self) -> usize {
         let parts = self.parts.capacity().saturating_mul(PART);
         let blocks = self.tables.path.blocks.capacity().saturating_mul(BLOCK);

@@ -21,9 +21,9 @@ pub fn parts_of_runs_join()
     ensures { PartsOfRunsJoin }
 {}
 
-/// Cut the run of a frame at its spawns in any way, and join its pieces in any grouping. Each piece may end, trap,
-/// exceed the limit with the cost that it counts before it, or be refused memory. The joined part represents the
-/// serial run within the limit, or memory was refused.
+/// States that, however the run of a frame is cut at its spawns and however its pieces are grouped, the joined part
+/// represents the serial run within the limit, or memory was refused. Each piece may end, trap, exceed the limit with the
+/// cost that it counts before it, or be refused memory.
 pub fn pieces_are_the_run()
     ensures { PiecesAreTheRun }
 {
@@ -67,16 +67,16 @@ pub fn pieces_are_the_elision()
     sums_hold_integers();
 }
 
-/// The runs of small programs: a spawn, a trap in a spawned child, and a limit that a child exceeds.
+/// States worked examples of runs: a spawn, a trap in a spawned child, and a limit that a child exceeds.
 pub fn runs_of_small_programs()
     ensures { ElisionExamples }
 {}
 
-/// The effects that workers hand to each other join as these monoids do. What the effect of two pieces shows is what
-/// the two effects show, joined as `Views`. The readings of the tree of a whole run are the readings of the measures
-/// of its pieces, joined. An effect after another one, or after what a strand has shown, comes out as a part after
-/// another one does: with the lines, totals, work and spans of both if both ended, and with the lines and the work up
-/// to the trap if one trapped.
+/// States that the effects that workers hand to each other join as these monoids do. The views of the effect of two pieces
+/// are the joined `Views` of the effects of the pieces. The readings of the tree of a whole run are the readings of the
+/// joined measures of its pieces. An effect after another one, or after the output of a strand, joins as a part after
+/// another one does: with the lines, totals, work and spans of both if both ended, and with the lines and the work up to
+/// the trap if one trapped.
 pub fn effects_join_as_parts()
     ensures views { EffectsShowViews }
     ensures readings { RunsReadAsMeasures }

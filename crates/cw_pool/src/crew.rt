@@ -23,8 +23,8 @@ pub struct Helper<G> {
 }
 
 impl<G: Gate + Drop> Helper<G> {
-    /// Steals, executes and settles jobs until the run that it helps has ended. Sleeps if there has been nothing to
-    /// steal for long.
+    /// Steals, executes and settles jobs until the run that it helps has ended. Sleeps if there was nothing to steal for a long
+    /// time.
     pub fn serve<R: Wait>(self, rt: &R) {
         let Helper {
             yard,

@@ -1,4 +1,4 @@
-//! What a run by a crew answers.
+//! The result of a run by a crew.
 
 ghost use Rattle.std.specs.Prelude.{◌≡◌, true, false};
 ghost use Rattle.cw_code.specs.Code.{code_view};
@@ -33,8 +33,8 @@ pub(crate) struct Outcome {
 }
 
 impl Outcome {
-    // Whether the effect tells the answer. One that says that the root was given up never does, whatever the sign says; one
-    // that says that memory was wanting does where the run was not given up.
+    // Returns whether the effect has the answer. An effect that says that the root was given up never has it, whatever the sign
+    // says; one that says that memory ran out has it if the run was not given up.
     fn is_known(&self) -> bool
         ensures yes { result ≡ true → IsKnown self.now }
         ensures no { result ≡ false → IsKnown self.now → ⊥ }
@@ -47,7 +47,8 @@ impl Outcome {
     }
 }
 
-/// What the effect of the root tells, where it tells the answer; else what one worker answers, with all that is counted.
+/// Returns the result of a whole run with all measures: by the effect of the root if it has the answer, otherwise by one
+/// worker that runs the code again.
 pub(crate) fn ended_by(
     alloc: Global,
     outcome: Outcome,
@@ -74,7 +75,8 @@ pub(crate) fn ended_by(
     Ok(ended)
 }
 
-/// The same of a run of which the values alone are kept.
+/// Returns the values of a whole run without measures: by the effect of the root if it has the answer, otherwise by one
+/// worker that runs the code again.
 pub(crate) fn values_by(
     alloc: Global,
     outcome: Outcome,
@@ -100,7 +102,8 @@ pub(crate) fn values_by(
     Ok(values)
 }
 
-/// The same of a run of which the strands were kept, and for which nothing is charged.
+/// Returns the record of the strands of a whole run: by the effect of the root if it has the answer, otherwise by one worker
+/// that runs the code again. The burden is 0.
 pub(crate) fn strands_by(
     alloc: Global,
     outcome: Outcome,

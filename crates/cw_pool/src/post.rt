@@ -1,4 +1,4 @@
-//! A strand beside the jobs that it has out.
+//! Worker frames: a strand with the jobs that it has out.
 
 ghost use Rattle.std.specs.Prelude.{◌≡◌, ◌≢◌, ◌≤◌, ◌+◌, ◌∷◌, [], length, Some, vec_capacity, MatchResult};
 ghost use Rattle.cw_strand.specs.Holds.{its_job, outs, IsAtSync, IsRunning};
@@ -18,24 +18,24 @@ use cw_yard::ticket::{Duty, Ticket};
 use cw_yard::yard::{Collected, Retaken};
 use std::alloc::Global;
 
-/// A strand goes on by at most so many instructions before it is looked whether the run is given up.
+/// The maximum number of instructions that a strand executes before it is checked whether the run is given up.
 const QUANTUM: u64 = 262_144;
 
-/// A strand hands out all rests of its first instructions, so many, while few of its jobs are out: a short run is shared
-/// whole.
+/// The number of first instructions in which a strand hands out all continuations while fewer than `FEW` of its jobs are
+/// out, so that a short run is shared whole.
 const FIRST: u64 = 8_192;
 
-/// So many are no longer few.
+/// The number of jobs from which on a strand has enough out in its first instructions.
 const FEW: usize = 16;
 
-/// Else, with so many jobs in its worker's deque, it hands nothing out: it goes on with its spawns in place.
+/// The number of jobs in its worker's deque from which on a strand hands nothing out and executes spawns in place.
 const ENOUGH: usize = 3;
 
-/// It does so by at most so many instructions before it is looked whether the deque is still as long.
+/// The maximum number of instructions with spawns in place before the length of the deque is checked again.
 const STINT: u64 = 20_000;
 
-/// And by no more than it has done before, and so many: a strand that has just begun may go very deep by a few thousand
-/// instructions, in a run that is given up.
+/// The number of instructions with spawns in place that a strand may execute beyond as many as it has executed before:
+/// otherwise a strand that has just begun could recurse deeply in a run that is given up.
 const FIRST_STINT: u64 = 512;
 
 // The bytes of a number, and of a job that is kept or offered.
@@ -51,24 +51,24 @@ pub enum Kept {
     Out(Ticket),
 }
 
-/// A strand, and each job that it has out, the newest last. It must be finished.
+/// A worker frame: a strand, and each job that it has out, the newest last. It must be spent by `finish`.
 pub struct Post {
     pub(crate) strand: Strand,
     pub(crate) kept: Vec<Kept>,
 }
 
-/// What a turn came to.
+/// The result of a turn.
 #[derive(Clone, Copy, Debug)]
 pub enum Turn {
     /// The strand may go on.
     Went,
     /// It waits for its newest job, which another worker has.
     Waits,
-    /// It has come to this end, of which its effect is to be made.
+    /// The strand has reached this end; its effect is made from it.
     Ends(End),
 }
 
-// The newest job out is back unrun.
+// Takes the newest job out back, which nobody executed.
 fn take_in(strand: &mut Strand, rest: Job)
     requires at_sync { IsRunning strand.old × IsAtSync strand.old }
     requires newest { IsNewest strand.old rest }
@@ -83,7 +83,7 @@ fn take_in(strand: &mut Strand, rest: Job)
     }
 }
 
-// How many instructions an effect tells of.
+// Returns the number of instructions that an effect reports.
 fn cost_of(effect: &Effect) -> u64 {
     match effect {
         Effect::Ended { value: _, shown } => shown.cost,
@@ -96,7 +96,7 @@ fn cost_of(effect: &Effect) -> u64 {
     }
 }
 
-// The memory that an effect brings, in bytes: its meter's lists, its cells, and the arrays that were made.
+// Returns the memory of an effect, in bytes: its meter's lists, its cells, and the arrays that were made.
 fn bytes_of(effect: &Effect) -> usize {
     match effect {
         Effect::Joined {
@@ -135,7 +135,7 @@ pub(crate) fn settle<G: Gate>(
     gate.turn(tally.me, Moment::Settled);
 }
 
-// The effect in a cell is collected: rings the bell where who left it may steal again.
+// Records that the effect in a cell is collected; rings the bell if the worker that left it may steal again.
 fn release(yard: &Yard, tally: &Tally, cell: usize) {
     if tally.collect(cell) {
         yard.bell().notify_all();
@@ -143,7 +143,11 @@ fn release(yard: &Yard, tally: &Tally, cell: usize) {
 }
 
 impl Post {
-    /// Begins a job. The error gives the job back as it was: where the run is given up, or for want of memory.
+    /// Begins a job.
+    ///
+    /// # Errors
+    ///
+    /// The job, unchanged, if the run is given up or memory runs out.
     pub(crate) fn start(alloc: Global, tally: &Tally, job: Job) -> Result<Post, Job>
         ensures { MatchResult result (Begins job) (λ back. back ≡ job) }
     {
@@ -159,7 +163,7 @@ impl Post {
         }
     }
 
-    // A job is out: it is offered, or else kept. Without memory for either the strand stops and skips it.
+    // Offers a job that is out, or keeps it. Without memory for either, the strand stops and skips the job.
     fn keep<G: Gate>(&mut self, yard: &Yard, seat: &mut Seat, gate: &G, me: usize, rest: Job)
         requires seat { IsSeatOf yard.now seat.old }
         requires lacks { Lacks yard.now self.old (Some rest) }
@@ -185,7 +189,8 @@ impl Post {
         self.kept.push_reserved(next);
     }
 
-    // The newest job out was stolen: its effect is given, if it has come. An effect is wide, so this stands by itself.
+    // Gives the effect of the newest job out, which was stolen, if the effect has arrived. A function of its own, because an
+    // effect is large.
     #[inline(never)]
     fn collect(&mut self, yard: &Yard, seat: &mut Seat, tally: &mut Tally, ticket: Ticket) -> bool
         requires seat { IsSeatOf yard.now seat.old }
@@ -212,7 +217,7 @@ impl Post {
         }
     }
 
-    // The newest job out is taken back, or its effect given, if it has come.
+    // Takes the newest job out back, or gives its effect if it has arrived.
     fn join(&mut self, yard: &Yard, seat: &mut Seat, tally: &mut Tally) -> bool
         requires seat { IsSeatOf yard.now seat.old }
         requires works { Works yard.now self.old }
@@ -261,13 +266,13 @@ impl Post {
         kept.saturating_add(self.strand.bytes(enough))
     }
 
-    // What the strand did since it had done so many instructions is counted.
+    // Counts the instructions that the strand has executed since this number.
     #[inline(always)]
     fn count(&self, tally: &mut Tally, before: u64) {
         tally.count(self.strand.done().wrapping_sub(before));
     }
 
-    // Where the strand trapped or passed the limit the run is given up.
+    // Gives the run up if the strand trapped or exceeded the limit.
     #[inline(always)]
     fn warn(&self, tally: &Tally) {
         if self.strand.halted() {
@@ -275,9 +280,9 @@ impl Post {
         }
     }
 
-    // How a strand that has done so many instructions goes on, and by how many at most: it hands the rests of its blocks out
-    // as long as its worker's deque is short, since whoever can take work finds some there, and not all of them come back
-    // for nothing.
+    // Returns how a strand that has executed this number of instructions goes on, and by how many at most: it hands out
+    // continuations while its worker's deque is short, so that idle workers find jobs, and while not all of them return
+    // unexecuted.
     #[inline(always)]
     fn way(&self, yard: &Yard, seat: &mut Seat, tally: &mut Tally, done: u64) -> (Spawns, u64)
         requires { IsSeatOf yard.now seat.old }
@@ -291,7 +296,7 @@ impl Post {
         }
     }
 
-    /// On to the next spawn that is handed out, join or end, or by a quantum.
+    /// Executes the strand up to the next spawn that is handed out, to a join or to its end, but at most a quantum.
     pub(crate) fn turn<G: Gate>(
         &mut self,
         yard: &Yard,
@@ -335,7 +340,7 @@ impl Post {
         }
     }
 
-    /// The effect of a post that has come to this end: it means its job, and nothing is out.
+    /// Returns the effect of a frame whose strand has reached this end: it means its job, and nothing is out.
     pub(crate) fn effect(&mut self, end: End) -> Effect
         requires { Ends self.old end }
         ensures of { self.new.strand.of ≡ self.old.strand.of }
@@ -345,8 +350,8 @@ impl Post {
         self.strand.effect_at(end)
     }
 
-    /// A post with nothing out is let go. Its lists are cut short before: the C library gives a large block back to the system
-    /// when it shrinks, but keeps blocks of the size of any that was freed.
+    /// Drops a frame with nothing out. Trims its lists first: the C library returns a large block to the system when the block
+    /// shrinks, but keeps blocks of the size of any that was freed.
     pub(crate) fn finish(self)
         requires { self.kept.items ≡ [] }
     {

@@ -73,7 +73,7 @@ fn start<G: Gate + Drop + Send + Sync + 'static, B: Body<G> + Send + Drop + 'sta
     }
 }
 
-// A thread for each body. One that can't be started is left out, and the others do its work.
+// Starts a thread for each body. A body whose thread cannot be started is left out, and the others do its work.
 fn start_all<
     G: Gate + Drop + Send + Sync + 'static,
     B: Body<G> + Send + Drop + 'static,
@@ -104,7 +104,7 @@ fn start_all<
     }
 }
 
-// Each thread ends.
+// Waits until each thread has ended.
 fn join_all<R: Threads + Wait>(rt: &R, mut handles: Vec<JoinHandle<()>>) {
     while let Some(handle) = handles.pop() {
         handle.join(rt);
@@ -149,7 +149,7 @@ pub(crate) fn drive<
     Ok(effect)
 }
 
-// Whether a call may be spawned: else there is nothing that another worker could take.
+// Returns whether the code may spawn a call; otherwise another worker could take nothing.
 fn spawns(ops: &[Op]) -> bool {
     for o in ops {
         match o {
@@ -161,14 +161,14 @@ fn spawns(ops: &[Op]) -> bool {
     false
 }
 
-// Whether code is for a crew of so many bodies to run, or to be refused with; else one worker does it as well.
+// Returns whether a crew of this number of bodies executes the code or is refused; otherwise one worker does it as well.
 fn is_for_crew(code: &Verified, bodies: usize) -> bool
     ensures { result ≡ false → bodies ≤ MOST_BODIES }
 {
     bodies > MOST_BODIES || spawns(code.ops.as_slice())
 }
 
-// What a run of code by a crew came to, of which so much is kept: the effect of its root, and whether it was given up.
+// Returns the outcome of a run of code by a crew, with this detail: the effect of its root, and whether it was given up.
 fn outcome_of<
     G: Gate + Drop + Send + Sync + 'static,
     B: Body<G> + Send + Drop + 'static,
@@ -204,20 +204,20 @@ fn outcome_of<
     })
 }
 
-/// Runs code on these arguments within `n` instructions, with the caller's thread as worker 0 and a thread for each
-/// body: what `run_alone` gives, whatever the bodies and the gate do, and in whatever order workers come to steal.
-/// `burden` is what each spawn is charged, by which the burdened spans alone are told. Returns once each thread has
-/// ended.
+/// Runs code on these arguments within `n` instructions, with the caller's thread as worker 0 and a thread for each body.
+/// Returns what `run_alone` returns, whatever the bodies and the gate do and in whatever order workers steal. `burden` is
+/// the charge for a spawn; it changes only the burdened spans. Returns once each thread has ended. If the code spawns no
+/// call, only the caller's thread runs it, and no body begins.
 ///
-/// As soon as a strand has trapped or passed the limit, or all workers together have done more than `n` instructions, the
-/// run is given up: no worker begins a job any more, each stops at its next spawn or end, by the job that it waits for
-/// at a join, or after 262,144 instructions, and where the answer is not known by then the caller's thread runs the code
-/// alone, of which the gate is told nothing.
+/// As soon as a strand has trapped or exceeded the limit, or all workers together have executed more than `n` instructions,
+/// the run is given up: no worker begins another job, and each stops at its next spawn or end, at the job that it waits for
+/// at a join, or after 262,144 instructions. If the answer is not known then, the caller's thread runs the code again; the
+/// gate does not observe that run.
 ///
-/// Code in which no call is spawned the caller's thread runs alone from the first: no body begins then.
+/// # Errors
 ///
-/// The error is `Arguments` exactly where the crew has more than 63 bodies, before anything is made, or as `run_alone`
-/// has it; otherwise that of `run_alone`: `Memory` where memory runs out, in any worker.
+/// `Fault::Arguments` exactly if the crew has more than 63 bodies, before anything else is done, or if `run_alone` returns it;
+/// otherwise the errors of `run_alone`, with `Fault::Memory` if memory runs out in any worker.
 pub fn run<
     G: Gate + Drop + Send + Sync + 'static,
     B: Body<G> + Send + Drop + 'static,
@@ -244,8 +244,7 @@ pub fn run<
     Ok(ended)
 }
 
-/// The same run, of which the values alone are kept and nothing is counted: what `values_alone` gives, with the errors of
-/// `run`.
+/// Runs code like `run`, without measures: returns what `values_alone` returns, with the errors of `run`.
 pub fn values<
     G: Gate + Drop + Send + Sync + 'static,
     B: Body<G> + Send + Drop + 'static,
@@ -272,8 +271,12 @@ pub fn values<
     Ok(values)
 }
 
-/// The same run, of which the strands are kept and nothing is counted: what `strands_alone` gives, with its errors, and
-/// `Arguments`, too, exactly where the crew has more than 63 bodies, before anything is made.
+/// Runs code like `run` and records only its strands: returns what `strands_alone` returns.
+///
+/// # Errors
+///
+/// The errors of `strands_alone`, and `Fault::Arguments` exactly if the crew has more than 63 bodies, before anything else is
+/// done.
 pub fn strands<
     G: Gate + Drop + Send + Sync + 'static,
     B: Body<G> + Send + Drop + 'static,

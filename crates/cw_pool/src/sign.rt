@@ -1,9 +1,9 @@
 //! The sign that a run is given up.
 //!
-//! As long as no strand of a run has trapped or passed the limit, each instruction that a worker does is one of the
-//! serial run's. So where a strand has, or where all workers together have done more instructions than the limit, nothing
-//! that they have counted is told to anybody. Then the run is given up: the workers stop, and one of them runs the code
-//! alone. Whoever raises the sign, and whenever, owes nothing: that answer is right at any moment.
+//! While no strand of a run has trapped or exceeded the limit, each instruction that a worker executes is one of the serial
+//! run. So if a strand has, or if all workers together have executed more instructions than the limit, nothing that they
+//! have counted is reported. The run is given up: the workers stop, and one of them runs the code again. The sign may be
+//! raised at any time and for any reason, because the result of that run is always right.
 
 use crate::offers::Offers;
 use crossbeam_utils::CachePadded;
@@ -11,17 +11,17 @@ use std::alloc::{AllocError, Global};
 use std::sync::Arc;
 use std::sync::atomic::{AtomicBool, AtomicU64, Ordering};
 
-/// A worker tells of so many instructions at once.
+/// The number of instructions that a worker counts before it adds them to the shared count.
 const LOT: u64 = 65_536;
 
-/// What waits on a worker, and what it has left in effects that nobody has collected, is at most so many bytes where it
+/// The maximum number of bytes, both of the frames that wait on a worker and of its uncollected effects, at which it still
 /// steals.
 pub(crate) const BUDGET: u64 = 1_048_576;
 
 /// An effect counts as fewer bytes than this.
 const MOST_BYTES: u64 = 281_474_976_710_656;
 
-/// What lies in a cell: an effect of so many bytes, which a worker left.
+/// Returns the entry of a cell in which a worker left an effect of this number of bytes.
 #[inline(always)]
 fn left_by(worker: usize, bytes: u64) -> u64 {
     (worker as u64)
@@ -29,20 +29,20 @@ fn left_by(worker: usize, bytes: u64) -> u64 {
         .saturating_add(bytes)
 }
 
-/// Whether a run is given up, what each worker has told of, and the effects that nobody has collected. Each worker tells
-/// in a line of its own.
+/// Whether a run is given up, the instructions that each worker has counted, and the effects that nobody has collected. Each
+/// worker's counter has its own cache line.
 #[derive(Drop)]
 pub struct Sign {
     up: CachePadded<AtomicBool>,
     told: Vec<CachePadded<AtomicU64>>,
     limit: u64,
-    // For each worker the bytes of the effects that it has left and that nobody has collected.
+    // The bytes of the effects that each worker has left and that nobody has collected.
     left: Vec<CachePadded<AtomicU64>>,
-    // For each cell of the yard the effect that was left in it last.
+    // The effect that was left last in each cell of the yard.
     effects: Vec<AtomicU64>,
 }
 
-// A counter for each worker.
+// Returns a counter for each worker.
 fn counters(alloc: Global, workers: usize) -> Result<Vec<CachePadded<AtomicU64>>, AllocError> {
     let mut counters = Vec::with_capacity(alloc, workers)?;
     for _worker in 0..workers {
@@ -52,8 +52,12 @@ fn counters(alloc: Global, workers: usize) -> Result<Vec<CachePadded<AtomicU64>>
 }
 
 impl Sign {
-    /// A sign that is down, for so many workers, of which each has so many cells, and a run within so many instructions. The
-    /// error is want of memory.
+    /// Returns a sign that is not raised, for these numbers of workers and of cells for each worker, and for a run within
+    /// `limit` instructions.
+    ///
+    /// # Errors
+    ///
+    /// `AllocError` if memory runs out.
     pub(crate) fn new(
         alloc: Global,
         workers: usize,
@@ -76,7 +80,7 @@ impl Sign {
         })
     }
 
-    /// Whether the run is given up.
+    /// Returns whether the run is given up.
     #[inline(always)]
     pub(crate) fn is_up(&self) -> bool {
         self.up.load(Ordering::SeqCst)
@@ -89,7 +93,7 @@ impl Sign {
         }
     }
 
-    // A worker has done so many instructions more: the run is given up where all have done more than the limit.
+    // Adds instructions that a worker has executed. Gives the run up if all workers have executed more than the limit.
     #[cold]
     #[inline(never)]
     fn tell(&self, worker: usize, done: u64) {
@@ -105,7 +109,7 @@ impl Sign {
         }
     }
 
-    // A worker leaves an effect of so many bytes in a cell.
+    // Records that a worker leaves an effect of this number of bytes in a cell.
     fn leave(&self, worker: usize, cell: usize, bytes: u64) {
         let bytes = bytes.min(MOST_BYTES - 1);
         if let Some(effect) = self.effects.get(cell) {
@@ -116,7 +120,7 @@ impl Sign {
         }
     }
 
-    // The effect in a cell is collected. Returns whether its worker may steal again, which it might not before.
+    // Records that the effect in a cell is collected. Returns whether its worker may steal again, which it could not before.
     fn collect(&self, cell: usize) -> bool {
         let Some(effect) = self.effects.get(cell) else {
             return false;
@@ -130,7 +134,7 @@ impl Sign {
         before > BUDGET && before.saturating_sub(bytes) <= BUDGET
     }
 
-    // Whether a worker has left more bytes that nobody has collected than it may where it steals.
+    // Returns whether a worker has left more bytes that nobody has collected than it may have while it steals.
     fn is_full(&self, worker: usize) -> bool {
         match self.left.get(worker) {
             Some(left) => left.load(Ordering::SeqCst) > BUDGET,
@@ -139,7 +143,7 @@ impl Sign {
     }
 }
 
-/// A worker's side of the sign, and what its offers brought.
+/// A worker's view of the sign, and the statistics of its offers.
 #[derive(Drop)]
 pub struct Tally {
     sign: Arc<Sign>,
@@ -151,7 +155,7 @@ pub struct Tally {
 }
 
 impl Tally {
-    /// That of worker `me`, which has done nothing yet.
+    /// Returns the tally of worker `me`, which has executed nothing yet.
     pub(crate) fn new(sign: Arc<Sign>, me: usize) -> Tally {
         Tally {
             sign,
@@ -161,7 +165,7 @@ impl Tally {
         }
     }
 
-    /// Whether the run is given up.
+    /// Returns whether the run is given up.
     #[inline(always)]
     pub(crate) fn is_up(&self) -> bool {
         self.sign.is_up()
@@ -172,23 +176,23 @@ impl Tally {
         self.sign.raise();
     }
 
-    /// The worker leaves an effect of so many bytes in a cell.
+    /// Records that the worker leaves an effect of this number of bytes in a cell.
     pub(crate) fn leave(&self, cell: usize, bytes: u64) {
         self.sign.leave(self.me, cell, bytes);
     }
 
-    /// The worker has collected the effect in a cell. Returns whether who left it may steal again, which it might not
-    /// before.
+    /// Records that the worker has collected the effect in a cell. Returns whether the worker that left it may steal again,
+    /// which it could not before.
     pub(crate) fn collect(&self, cell: usize) -> bool {
         self.sign.collect(cell)
     }
 
-    /// Whether too much lies in effects that the worker has left and nobody has collected: then it steals nothing.
+    /// Returns whether the effects that the worker has left and nobody has collected take too much memory for it to steal.
     pub(crate) fn is_full(&self) -> bool {
         self.sign.is_full(self.me)
     }
 
-    /// The worker has done so many instructions more.
+    /// Counts instructions that the worker has executed.
     #[inline(always)]
     pub(crate) fn count(&mut self, done: u64) {
         self.untold = self.untold.wrapping_add(done);

@@ -19,20 +19,20 @@ use std::alloc::Global;
 use std::sync::Wait;
 use std::{hint, mem, thread};
 
-/// So many looks in vain are followed by a pause alone, those behind them by a yield.
+/// The number of looks in vain that are followed by a pause; later ones are followed by a yield.
 const SPINS: u32 = 64;
 
-/// After so many looks in vain a worker that has nothing to do sleeps.
+/// The number of looks in vain after which an idle worker sleeps.
 const PATIENCE: u32 = 1024;
 
-/// A worker that has slept begins with so many looks in vain: where it finds nothing again, it soon sleeps again.
+/// The number of looks in vain with which a worker begins after it has slept, so that it soon sleeps again.
 const SLEPT: u32 = 992;
 
 /// A post that waits, and the duty of the stolen job that is run above it. It must be finished.
 pub struct Below {
     pub(crate) post: Post,
     pub(crate) duty: Duty,
-    // The bytes that it has, and all that wait below it.
+    // The bytes of this frame and of all frames below it.
     pub(crate) held: usize,
 }
 
@@ -41,12 +41,12 @@ pub struct Below {
 pub struct Search {
     next: usize,
     tries: u32,
-    // The bytes of what waits on the worker, where it has given back what it does not use.
+    // The bytes of the frames that wait on the worker, once the uppermost one has given back what it does not use.
     held: Option<usize>,
 }
 
 impl Search {
-    // Begins with the worker behind this one.
+    // Begins with the worker after this one.
     fn new(me: usize) -> Search {
         Search {
             next: me,
@@ -55,7 +55,7 @@ impl Search {
         }
     }
 
-    // One look at the next victim.
+    // Looks once at the next victim.
     fn look(&mut self, yard: &Yard, seat: &mut Seat, me: usize) -> Option<(Job, Duty)>
         requires { IsSeatOf yard.now seat.old }
         ensures seat { IsSeatOf yard.now seat.new }
@@ -79,15 +79,15 @@ impl Search {
         }
     }
 
-    // It has something to do again.
+    // The worker has something to do again.
     #[inline(always)]
     fn rest(&mut self) {
         self.tries = 0;
         self.held = None;
     }
 
-    // The bytes of what waits on the worker: a post, which gives back what it does not use when it begins to wait, and all
-    // below it.
+    // Returns the bytes of the frames that wait on the worker: of the uppermost one, which gives back what it does not use when
+    // it begins to wait, and of all frames below it.
     fn weigh(&mut self, me: usize, post: &mut Post, below: &Vec<Below>) -> usize
         ensures of { post.new.strand.of ≡ post.old.strand.of }
         ensures works { (y : yards.Yard) → Works y post.old → Works y post.new }
@@ -101,8 +101,8 @@ impl Search {
         held
     }
 
-    // A worker that may not steal waits a little; with a key it sleeps until the bell rings: an effect came, or one that it
-    // has left was collected.
+    // Lets a worker that may not steal wait a little; with a key it sleeps until the bell rings, because an effect arrived or
+    // one that it left was collected.
     fn wait<R: Wait>(&mut self, rt: &R, key: Option<Key<'_>>) {
         match key {
             Some(key) => key.wait(rt),
@@ -110,7 +110,7 @@ impl Search {
         }
     }
 
-    // A worker that found nothing waits a little.
+    // Lets a worker that found nothing wait a little.
     fn idle(&mut self) {
         if self.tries < PATIENCE {
             self.tries += 1;
@@ -122,7 +122,7 @@ impl Search {
         }
     }
 
-    // After many looks in vain a key of the bell: whoever has it sees for itself that there is still nothing to do.
+    // Takes a key of the bell after many looks in vain: the worker then looks again before it sleeps.
     fn tire<'a>(&mut self, yard: &'a Yard) -> Option<Key<'a>> {
         if self.tries < PATIENCE {
             return None;
@@ -131,7 +131,7 @@ impl Search {
         Some(yard.bell().prepare_wait())
     }
 
-    // One look of a worker that has nothing to do; with a key one at each victim, and then a sleep.
+    // Looks once for work; with a key, looks once at each victim and then sleeps.
     fn find<R: Wait>(
         &mut self,
         rt: &R,
@@ -157,7 +157,7 @@ impl Search {
     }
 }
 
-// One look at each victim, and then a sleep until the bell rings: something is offered, settled or ended.
+// Looks once at each victim, then sleeps until the bell rings: a job is offered or settled, or the end is marked.
 fn doze<R: Wait>(
     rt: &R,
     yard: &Yard,
@@ -183,7 +183,8 @@ fn doze<R: Wait>(
     None
 }
 
-// Up to so many bytes a waiting post is weighed. The arrays of the root are not, since each strand of the run needs them.
+// Returns the number of bytes up to which a waiting frame is measured: 0 for the root, because each strand of the run needs
+// its arrays.
 fn enough_for(me: usize, below: &Vec<Below>) -> usize {
     if me == 0 && below.is_empty() {
         return 0;
@@ -191,7 +192,7 @@ fn enough_for(me: usize, below: &Vec<Below>) -> usize {
     BUDGET as usize
 }
 
-// The bytes of all that waits below a worker's post.
+// Returns the bytes of all frames below a worker's frame.
 fn held_below(below: &Vec<Below>) -> usize {
     match below.last() {
         Some(last) => last.held,
@@ -199,9 +200,9 @@ fn held_below(below: &Vec<Below>) -> usize {
     }
 }
 
-// While its post waits, a worker looks for a job to steal, and runs it above that post. It has room for the post before
-// it steals; what it can't begin it gives up. With a key it sleeps where it finds none. What waits on it then has so many
-// bytes.
+// Looks for a job to steal while the worker's frame waits, and executes it in a frame above. Makes room for the frame before
+// it steals, and gives up a job that cannot begin. With a key it sleeps if it finds none. `held` is the number of bytes
+// of the frames that then wait.
 fn steal_above<G: Gate, R: Wait>(
     rt: &R,
     alloc: Global,
@@ -244,8 +245,8 @@ fn steal_above<G: Gate, R: Wait>(
     }
 }
 
-// The same of a worker that steals only while neither what waits on it, nor what it has left in effects that nobody has
-// collected, has more bytes than the budget.
+// Steals like `steal_above`, but only while neither the waiting frames nor the uncollected effects of the worker have more
+// bytes than the budget.
 fn run_above<G: Gate, R: Wait>(
     rt: &R,
     alloc: Global,

@@ -43,7 +43,7 @@ pub(crate) fn joined(left: Total, right: Total) -> Total
     }
 }
 
-/// Returns the total of a reducer with this reduction.
+/// Returns a total as one of a reducer with this reduction: unchanged if it has this kind, otherwise the initial total.
 pub(crate) fn read_as(how: Reduction, total: Total) -> Total
     ensures { result ≡ as_total how (held total) }
 {

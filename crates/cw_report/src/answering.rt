@@ -29,11 +29,13 @@ use cw_runnable::verified::Verified;
 use cw_text::Fault;
 use std::alloc::Global;
 
-/// Writes the report of a check: `ok` and a line feed. No memory is taken.
+/// Writes the report of a check: `ok` and a line feed. Allocates no memory.
 ///
-/// The error is `Write` where a write failed or took no byte: the sink took a beginning of the text,
-/// and counts one more failed write. It asks that fewer than 2^64 - 1 writes to the sink failed
-/// before.
+/// Fewer than 2^64 - 1 writes to the sink failed before.
+///
+/// # Errors
+///
+/// `Write` if a write failed or took no byte: the sink took a beginning of the text, and counts one more failed write.
 pub fn ok<W: Sink>(to: &mut W) -> Result<(), Fault>
     requires { (W.seen to.old).failures < 2 ^ 64 - 1 }
     ensures { Writes (W.seen to.old) (W.seen to.new) check_text result }
@@ -41,16 +43,16 @@ pub fn ok<W: Sink>(to: &mut W) -> Result<(), Fault>
     write_text(to, b"ok\n")
 }
 
-/// Writes the report of a run: the values that it printed, the total of each reducer of the code, and
-/// the value of `main`, each on a line, or, where it trapped, the values that it printed before. Of any
-/// other fault nothing is written, and the sink is left alone; the line of the fault itself is for
-/// `write_fault`.
+/// Writes the report of a run: the values that it printed, the total of each reducer of the code and the value of `main`,
+/// each on a line; or, if the run trapped, only the values that it printed before. At any other fault it writes nothing
+/// and does not use the sink. It never writes the line of the fault: `write_fault` does.
 ///
-/// The error is `Memory` where there is none for the text: nothing was written then. It is `Write`
-/// where a write failed or took no byte: the sink took a beginning of the text, and counts one more
-/// failed write.
+/// Fewer than 2^64 - 1 writes to the sink failed before.
 ///
-/// It asks that fewer than 2^64 - 1 writes to the sink failed before.
+/// # Errors
+///
+/// `Memory` if memory runs out for the text: nothing was written then. `Write` if a write failed or took no byte: the sink
+/// took a beginning of the text, and counts one more failed write.
 pub fn answer<W: Sink>(
     alloc: Global,
     code: &Verified,
@@ -68,15 +70,16 @@ pub fn answer<W: Sink>(
     }
 }
 
-/// Writes the work and the span of a run, with and without burdens, and its parallelism: on one line of the whole run,
-/// with an empty tag, and then on one for each tag of its code. Of a run that did not end nothing is written, and the
-/// sink is left alone.
+/// Writes work, span and parallelism of a run, with and without the burden: a line for the whole run, with an empty tag,
+/// and a line for each tag of its code. If the run did not end, it writes nothing and does not use the sink.
 /// With `table` the columns are aligned, otherwise the text is CSV.
 ///
-/// The error is `Memory` where there is none for the text: nothing was written then. It is `Write` where a write failed
-/// or took no byte: the sink took a beginning of the text, and counts one more failed write.
+/// Fewer than 2^64 - 1 writes to the sink failed before.
 ///
-/// It asks that fewer than 2^64 - 1 writes to the sink failed before.
+/// # Errors
+///
+/// `Memory` if memory runs out for the text: nothing was written then. `Write` if a write failed or took no byte: the sink
+/// took a beginning of the text, and counts one more failed write.
 pub fn scale<W: Sink>(
     alloc: Global,
     ended: &Result<Ended, Fault>,
@@ -96,15 +99,16 @@ pub fn scale<W: Sink>(
     }
 }
 
-/// Writes what is counted of each call site over a run: on one line of the call of `main` by the run itself, with the
-/// number 0, and then on one for each call site of the code. Of a run that did not end nothing is written, and the sink
-/// is left alone.
+/// Writes the measures of each call site of a run: a line for the call of `main` by the run itself, with the number 0, and
+/// a line for each call site of the code. If the run did not end, it writes nothing and does not use the sink.
 /// With `table` the columns are aligned, otherwise the text is CSV.
 ///
-/// The error is `Memory` where there is none for the text: nothing was written then. It is `Write` where a write failed
-/// or took no byte: the sink took a beginning of the text, and counts one more failed write.
+/// Fewer than 2^64 - 1 writes to the sink failed before.
 ///
-/// It asks that fewer than 2^64 - 1 writes to the sink failed before.
+/// # Errors
+///
+/// `Memory` if memory runs out for the text: nothing was written then. `Write` if a write failed or took no byte: the sink
+/// took a beginning of the text, and counts one more failed write.
 pub fn sites<W: Sink>(
     alloc: Global,
     code: &Verified,
@@ -130,14 +134,15 @@ pub fn sites<W: Sink>(
     }
 }
 
-/// Writes the work, the span and the length of the greedy schedule of a run, with the processors that it was asked for,
-/// each in its column on one line. Of a run that did not end, or has too many strands, nothing is written, and the sink
-/// is left alone.
+/// Writes the number of processors, the work, the span and the length of the greedy schedule of a run, on one line. If the
+/// run did not end or has too many strands, it writes nothing and does not use the sink.
 ///
-/// The error is `Memory` where there is none for the text: nothing was written then. It is `Write` where a write failed
-/// or took no byte: the sink took a beginning of the text, and counts one more failed write.
+/// Fewer than 2^64 - 1 writes to the sink failed before.
 ///
-/// It asks that fewer than 2^64 - 1 writes to the sink failed before.
+/// # Errors
+///
+/// `Memory` if memory runs out for the text: nothing was written then. `Write` if a write failed or took no byte: the sink
+/// took a beginning of the text, and counts one more failed write.
 pub fn schedule<W: Sink>(
     alloc: Global,
     schedule: &Result<Schedule, Fault>,
@@ -153,14 +158,16 @@ pub fn schedule<W: Sink>(
     }
 }
 
-/// Writes what functions of a run would bring: the run itself on one line, without a name, and then each function that is
-/// told on one. Of a run that did not end nothing is written, and the sink is left alone.
+/// Writes the gain table of a run: a line for the run itself, without a name, and a line for each reported function.
+/// If the run did not end, it writes nothing and does not use the sink.
 /// With `table` the columns are aligned, otherwise the text is CSV.
 ///
-/// The error is `Memory` where there is none for the text: nothing was written then. It is `Write` where a write failed
-/// or took no byte: the sink took a beginning of the text, and counts one more failed write.
+/// Fewer than 2^64 - 1 writes to the sink failed before.
 ///
-/// It asks that fewer than 2^64 - 1 writes to the sink failed before.
+/// # Errors
+///
+/// `Memory` if memory runs out for the text: nothing was written then. `Write` if a write failed or took no byte: the sink
+/// took a beginning of the text, and counts one more failed write.
 pub fn gain<W: Sink>(
     alloc: Global,
     gains: &Result<Gains, Fault>,

@@ -7,7 +7,11 @@ ghost use Rattle.cw_report.specs.Speedups as speedups;
 use itoa::Buffer;
 use std::alloc::{AllocError, Global};
 
-/// Work by span to three digits, rounded down, 0 where there is no span; an error where memory runs out.
+/// Returns the text of work divided by span, with three digits, rounded down; 0 if the span is 0.
+///
+/// # Errors
+///
+/// Returns an error if memory runs out.
 pub fn parallelism_text(alloc: Global, work: u64, span: u128) -> Result<Vec<u8>, AllocError>
     ensures { IfOk result (λ text. text.items ≡ parallelism work span) }
 {
@@ -16,7 +20,11 @@ pub fn parallelism_text(alloc: Global, work: u64, span: u128) -> Result<Vec<u8>,
     Ok(text)
 }
 
-/// The smaller of the processors and work by span, to three digits, rounded down; an error where memory runs out.
+/// Returns the text of the minimum of the number of processors and work divided by span, with three digits, rounded down.
+///
+/// # Errors
+///
+/// Returns an error if memory runs out.
 pub fn bound_text(
     alloc: Global,
     processors: u64,

@@ -94,7 +94,7 @@ impl Board {
         }
     }
 
-    /// Pops the job at the back of a worker's deque, which has this number.
+    /// Pops the job with this number, which is at the back of a worker's deque.
     pub(crate) fn retake(&mut self, w: usize, number: usize) -> Job
         requires { newest_number (boarded self.old) w ≡ Some number }
         ensures job { IsNewest (boarded self.old) w number result }

@@ -6,7 +6,7 @@ use Rattle.cw_sites.specs.declared.paths.Paths.{Paths}
 use Rattle.cw_sites.specs.declared.table.SiteTable.{SiteTable}
 use Rattle.cw_sites.specs.Tables.{IsBoundedTable, Tells}
 
--- the lists have the items that they had, and all else is as it was
+-- the lists have the same items as before, and everything else is unchanged
 pub record IsTrimmed (old new : Paths) : Type 0 where
   pub steps : new.steps.items ≡ old.steps.items
   pub blocks : new.blocks.items ≡ old.blocks.items

@@ -56,7 +56,7 @@ impl RowsBySite {
 }
 
 impl SiteTable {
-    /// Gives back the memory that the lists of its paths do not use. It tells what it told.
+    /// Frees the memory that the lists of its paths do not use. The table represents the same runs as before.
     pub fn trim(&mut self)
         ensures told { TellsAsBefore self.old self.new }
         ensures bounded { StaysBounded self.old self.new }

@@ -309,8 +309,8 @@ IsStill stop.Joined = Unit {0}
 IsStill stop.Over = Unit {0}
 IsStill _ = ⊥
 
--- a strand ran on, so far at most, up to such a stop, a spawn only where it hands rests out: of what does not end at once
--- at the join it did some
+-- a strand ran on, up to this limit of its count, to such a stop; it stops at a spawn only if it hands continuations out.
+-- If it executed nothing, it is at its limit or at the join, and not at the join if it was before an instruction
 pub record RunsOn (old new : Strand) (limit : ℕ) (stops : Bool) (to : Stop) : Type 0 where
   pub asked : (spawn : Spawn) → to ≡ stop.Spawned spawn → stops ≡ true
   pub from : old.count ≤ new.count

@@ -1,4 +1,4 @@
-//! What a strand makes of its job.
+//! The effect of a strand.
 
 ghost use Rattle.std.specs.Prelude.{◌≡◌, [], length};
 ghost use Rattle.cw_machine.specs.declared.run.Stop.TheVariants as stop;
@@ -23,7 +23,7 @@ use cw_slices::Slice;
 use std::collections::VecDeque;
 use std::mem;
 
-// What a run has shown and counted in so many instructions.
+// Returns the output and the counts of a run after this number of instructions.
 fn shown(run: &mut Run, cost: u64) -> PieceOutput
     ensures { IsShown run.old cost result }
 {
@@ -36,7 +36,7 @@ fn shown(run: &mut Run, cost: u64) -> PieceOutput
     }
 }
 
-// The slices that a machine was given, of one that stopped.
+// Returns the slices that a machine that stopped was given.
 fn given_up(machine: &mut Machine, rest: &mut Rest) -> Vec<Slice>
     requires { runs.MayGiveUp machine.old (length rest.old.slices.items) }
     ensures { runs.GivesUp machine.old (length rest.old.slices.items) result.items }
@@ -47,7 +47,7 @@ fn given_up(machine: &mut Machine, rest: &mut Rest) -> Vec<Slice>
 }
 
 impl Strand {
-    // The effect of a strand that stopped and has nothing out.
+    // Returns the effect of a strand that stopped and has nothing out.
     #[inline(never)]
     pub(crate) fn stop_effect(&mut self) -> Effect
         requires running { IsRunning self.old }
@@ -85,7 +85,7 @@ impl Strand {
         }
     }
 
-    // The effect of a strand whose call has ended, with this value if it gives one.
+    // Returns the effect of a strand whose call has ended, with this value if the call returns one.
     #[inline(never)]
     pub(crate) fn call_effect(&mut self, value: Option<i64>, end: u64) -> Effect
         requires comes { HasCome self.old end (stop.Gave value) }
@@ -102,7 +102,7 @@ impl Strand {
         }
     }
 
-    // The effect of a strand that is at the join of its job.
+    // Returns the effect of a strand that is at the join of its job.
     #[inline(never)]
     pub(crate) fn join_effect(&mut self, end: u64) -> Effect
         requires comes { HasCome self.old end stop.Joined }

@@ -1,5 +1,5 @@
-//! The effect of the newest job out, which ran elsewhere, is given: what it printed stands behind what the strand has
-//! printed, its totals and its measures are joined to the strand's, and its arrays come home.
+//! Gives the effect of the newest job out, which was executed elsewhere: its printed values follow the strand's, its totals
+//! and its measures are joined to the strand's, and its arrays return to their slots.
 
 ghost use Rattle.std.specs.Prelude.{◌≡◌, ◌<◌, ◌++◌, true, false, length, MatchOption, OnOk};
 ghost use Rattle.cw_jobs.specs.declared.effect.Effect.TheVariants as effect;
@@ -28,7 +28,7 @@ use cw_slices::Slice;
 use std::alloc::{AllocError, Global};
 use std::collections::VecDeque;
 
-// A total, with another one joined to it, where there is one.
+// Returns a total joined with another one, if there is one.
 fn join_at(totals: &mut Vec<Total>, more: &[Total], k: usize)
     requires { k < length totals.old.items }
     ensures { IsJoinedAt totals.old.items more.now k totals.new.items }
@@ -38,7 +38,7 @@ fn join_at(totals: &mut Vec<Total>, more: &[Total], k: usize)
     }
 }
 
-// Each total, with another one joined to it.
+// Joins each total with another one.
 fn join_totals(totals: &mut Vec<Total>, more: &[Total])
     ensures { AreJoined totals.old.items more.now totals.new.items }
 {
@@ -47,7 +47,7 @@ fn join_totals(totals: &mut Vec<Total>, more: &[Total])
     }
 }
 
-// What was printed first goes in front of what was printed behind it.
+// Puts the values that were printed first before those that were printed later.
 fn put_in_front(first: &mut VecDeque<i64>, more: &mut VecDeque<i64>) -> Result<(), AllocError>
     ensures { OnOk result (more.new.items ≡ first.old.items ++ more.old.items) }
 {
@@ -57,7 +57,7 @@ fn put_in_front(first: &mut VecDeque<i64>, more: &mut VecDeque<i64>) -> Result<(
     Ok(())
 }
 
-// What a machine has printed has more behind it; the shorter of both goes to the longer.
+// Appends values to those that a machine has printed; moves the shorter list to the longer one.
 fn take_lines(machine: &mut Machine, more: VecDeque<i64>) -> Result<(), AllocError>
     ensures { OnOk result (HasPrinted machine.old more.items machine.new) }
 {
@@ -70,7 +70,7 @@ fn take_lines(machine: &mut Machine, more: VecDeque<i64>) -> Result<(), AllocErr
     Ok(())
 }
 
-// A machine takes in what another one has shown.
+// Adds the output of another machine to a machine.
 fn take_shown(
     machine: &mut Machine,
     lines: VecDeque<i64>,
@@ -83,8 +83,8 @@ fn take_shown(
     Ok(())
 }
 
-// The rest of the block that waits came back to a run, after so many instructions: it goes on from the join. The error
-// is want of memory.
+// The continuation of the waiting block returned to a run, after this number of instructions: the run continues at the join.
+// Returns an error if memory runs out.
 fn join_rest(
     run: &mut Run,
     code: &Verified,
@@ -112,7 +112,7 @@ fn join_rest(
     Ok(())
 }
 
-// The arrays that an effect of a rest gives back; none where memory was wanting.
+// Returns the arrays that the effect of a continuation gives back; none if memory ran out.
 fn arrays_of(alloc: Global, effect: Effect) -> Option<(Vec<Slice>, Vec<Option<Slice>>)>
     requires { IsOfRest effect }
     ensures { MatchOption result (IsMemory effect) (λ x. GivesBack effect x.0.items x.1.items) }
@@ -138,7 +138,7 @@ fn arrays_of(alloc: Global, effect: Effect) -> Option<(Vec<Slice>, Vec<Option<Sl
 }
 
 impl Strand {
-    // Whether so many instructions more would pass the limit.
+    // Returns whether this number of further instructions would exceed the limit.
     fn passes(&self, cost: u64) -> bool
         requires { IsRunning self.now }
         ensures { result ≡ passes_limit self.now cost }
@@ -146,7 +146,7 @@ impl Strand {
         cost > self.end_of_job() - self.count
     }
 
-    // The effect of a rest that came to its join, given to a strand that waits for it.
+    // Gives the effect of a continuation that reached its join to a strand that waits for it.
     fn give_joined(&mut self, frame: Rest, replaced: Vec<Option<Slice>>, shown: PieceOutput)
         requires running { IsRunning self.old }
         requires waiting { IsWaiting self.old }
@@ -192,7 +192,7 @@ impl Strand {
         }
     }
 
-    // That of a rest that trapped, given so.
+    // Gives the effect of a continuation that trapped to a strand that waits for it.
     fn give_trap(
         &mut self,
         trap: Trap,
@@ -231,7 +231,7 @@ impl Strand {
         }
     }
 
-    // That of a rest that passed the limit, given so.
+    // Gives the effect of a continuation that exceeded the limit to a strand that waits for it.
     fn give_over(&mut self, back: Vec<Slice>)
         requires running { IsRunning self.old }
         requires waiting { IsWaiting self.old }
@@ -250,7 +250,7 @@ impl Strand {
         self.mode = Mode::Over;
     }
 
-    // That of a rest that was given up, given so: the strand is given up, too.
+    // Gives the effect of a continuation that was given up to a strand that waits for it: the strand is given up, too.
     fn give_given_up(&mut self, back: Vec<Slice>)
         requires running { IsRunning self.old }
         requires waiting { IsWaiting self.old }
@@ -266,7 +266,7 @@ impl Strand {
         self.give_stopped(Effect::GivenUp { back });
     }
 
-    // The effect of the newest job out, given to a strand that waits for it.
+    // Gives the effect of the newest job out to a strand that waits for it.
     fn give_waiting(&mut self, effect: Effect)
         requires running { IsRunning self.old }
         requires waiting { IsWaiting self.old }
@@ -301,7 +301,8 @@ impl Strand {
         }
     }
 
-    // The same, to a strand that has stopped: the arrays come home, and nothing else counts but want of memory.
+    // Gives the effect of the newest job out to a strand that has stopped: the arrays return, and otherwise only lack of memory
+    // matters.
     fn give_stopped(&mut self, effect: Effect)
         requires running { IsRunning self.old }
         requires stopped { HasStopped self.old }
@@ -326,10 +327,10 @@ impl Strand {
         }
     }
 
-    /// Gives the effect of the newest job out, which ran elsewhere, and which must mean it. Where the call beside it has
-    /// returned, the strand goes on at the join, with what the rest has printed, summed up and counted; or it stops, where
-    /// the rest trapped, or where both together passed the limit. A strand that has stopped takes the arrays home. Where
-    /// memory is wanting the strand stops for that, and where the rest was given up the strand is.
+    /// Gives the effect of the newest job out, which was executed elsewhere; the effect must mean this job. If the spawned call
+    /// has returned, the strand continues at the join with the continuation's printed values, totals and measures, or stops
+    /// if the continuation trapped or both together exceed the limit. A strand that has stopped only takes the arrays back. If
+    /// memory runs out, the strand stops for that; if the continuation was given up, the strand is given up.
     pub fn give(&mut self, effect: Effect)
         requires running { IsRunning self.old }
         requires at_sync { IsAtSync self.old }

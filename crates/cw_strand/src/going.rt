@@ -1,4 +1,4 @@
-//! A strand goes on.
+//! Execution of a strand.
 
 ghost use Rattle.std.specs.Prelude.{◌≡◌, ◌≢◌, ◌+◌, ◌-◌, ◌≤◌, ◌<◌, true, false, []};
 ghost use Rattle.cw_strand.specs.declared.strand.Mode.TheVariants as mode;
@@ -15,7 +15,7 @@ use cw_jobs::effect::Effect;
 use cw_machine::laws::machines_that_stop_remain;
 use cw_machine::run::Stop;
 
-// Whether a job goes on behind so many instructions.
+// Returns whether a job continues after this number of instructions.
 #[inline(always)]
 fn goes_beyond(to: u64, end: u64) -> bool
     ensures yes { result ≡ true → to < end }
@@ -24,7 +24,7 @@ fn goes_beyond(to: u64, end: u64) -> bool
     to < end
 }
 
-// So many instructions further, and no further than the end.
+// Returns `count + most`, but at most `end`.
 #[inline(always)]
 fn within(count: u64, most: u64, end: u64) -> u64
     requires { count ≤ end }
@@ -40,7 +40,7 @@ fn within(count: u64, most: u64, end: u64) -> u64
     }
 }
 
-// Whether rests are handed out.
+// Returns whether continuations are handed out.
 #[inline(always)]
 fn hands_out(spawns: Spawns) -> bool
     ensures { result ≡ moves.hands_out spawns }
@@ -52,7 +52,7 @@ fn hands_out(spawns: Spawns) -> bool
 }
 
 impl Strand {
-    // As many instructions as its job may have in all.
+    // Returns the number of instructions that its job may execute in all.
     #[inline(always)]
     pub(crate) fn end_of_job(&self) -> u64
         requires { IsRunning self.now }
@@ -62,7 +62,7 @@ impl Strand {
         self.parts.limit - self.parts.before
     }
 
-    // How many calls wait in the newest spawned call whose rest is out; 0 where none is.
+    // Returns the number of calls that wait in the newest spawned call whose continuation is out; 0 if none is out.
     #[inline(always)]
     fn floor(&self) -> usize
         ensures { result ≡ floor_of self.now }
@@ -73,7 +73,7 @@ impl Strand {
         }
     }
 
-    // The run goes on up to its next stop, within so many instructions in all.
+    // Executes the run up to its next stop, within this number of instructions in all.
     #[inline(always)]
     pub(crate) fn run_on(&mut self, limit: u64, spawns: Spawns) -> Stop
         requires running { IsRunning self.old }
@@ -94,7 +94,7 @@ impl Strand {
         stop
     }
 
-    // The strand has stopped for good: it ends where nothing is out.
+    // The strand has stopped for good: it ends once nothing is out.
     #[inline(always)]
     pub(crate) fn rest(&mut self) -> Event
         requires running { IsRunning self.old }
@@ -112,7 +112,7 @@ impl Strand {
         Event::AtSync
     }
 
-    // What a strand that went on so far came to: `Ran` where it stopped for that alone, before the end of its job.
+    // Returns the event of a strand that went on up to here: `Ran` if it stopped only for that, before the end of its job.
     #[inline(always)]
     pub(crate) fn settle(&mut self, stop: Stop, to: u64, end: u64) -> Event
         requires comes { HasCome self.old to stop }
@@ -153,7 +153,7 @@ impl Strand {
         }
     }
 
-    // The effect of a strand that goes on, where it is at the join of its job: else it is before an instruction.
+    // Returns the effect of a running strand if it is at the join of its job; otherwise it is before an instruction.
     pub(crate) fn end_at_join(&mut self) -> Option<Effect>
         requires running { IsRunning self.old }
         requires going { self.old.mode ≡ mode.Going }
@@ -169,7 +169,7 @@ impl Strand {
         }
     }
 
-    // Whether a strand that does not go on is at its end: else the newest job out must come back first.
+    // Returns whether a strand that does not go on is at its end; otherwise the newest job out must return first.
     #[cold]
     #[inline(never)]
     pub(crate) fn has_ended(&self) -> bool
@@ -212,7 +212,7 @@ impl Strand {
         }
     }
 
-    /// The effect of a strand that has come to this end: it means its job.
+    /// Returns the effect of a strand that has reached this end: it means the strand's job.
     #[inline(never)]
     pub fn effect_at(&mut self, end: End) -> Effect
         requires { EndsAt end self.old }
@@ -228,8 +228,8 @@ impl Strand {
         }
     }
 
-    /// Goes on to its next event: a spawn, whose rest it hands out; `AtSync`, where the newest job out must come back
-    /// first; or its end, with an effect that means its job. Where memory was wanting, that is its effect.
+    /// Executes up to the next event: a spawn, whose continuation it hands out; `AtSync`, if the newest job out must return
+    /// first; or its end, with an effect that means its job. If memory ran out, the effect says so.
     pub fn go(&mut self) -> Step
         requires { IsRunning self.old }
         ensures of { self.new.of ≡ self.old.of }
@@ -244,9 +244,9 @@ impl Strand {
         }
     }
 
-    /// Ends the strand, without an instruction, where it has come to its end: where it has stopped, or is at the join
-    /// of its job, and nothing is out; its effect means its job, and counts what the strand did. None where it is not at
-    /// its end: then it goes on as before.
+    /// Ends the strand, without an instruction, if it has reached its end: if it has stopped or is at the join of its job, and
+    /// nothing is out. The effect means its job and counts the strand's instructions. Otherwise returns `None` and leaves the
+    /// strand unchanged.
     pub fn end(&mut self) -> Option<Effect>
         requires { IsRunning self.old }
         ensures of { self.new.of ≡ self.old.of }

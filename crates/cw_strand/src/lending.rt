@@ -1,4 +1,4 @@
-//! The rest of a block is handed out as a job.
+//! Hands out the continuation of a block as a job.
 
 ghost use Rattle.std.specs.Prelude.{◌≡◌, ◌≢◌, ◌+◌, ◌≤◌, ◌<◌, ◌-◌, Some, slice_get, IfOk, OnOk, OnErr, MatchResult};
 ghost use Rattle.std.specs.Vec.{vec_len, vec_capacity};
@@ -22,7 +22,7 @@ use cw_runnable::verified::Verified;
 use std::alloc::{AllocError, Global};
 use std::snapshot::Snapshot;
 
-// A rest of nothing.
+// Returns an empty continuation.
 pub(crate) fn empty_rest(alloc: Global) -> Rest {
     Rest {
         place: 0,
@@ -32,7 +32,7 @@ pub(crate) fn empty_rest(alloc: Global) -> Rest {
     }
 }
 
-// The loans of a list of the code, where there is one.
+// Returns the loans of a list of the code, if there is one.
 #[inline(always)]
 pub(crate) fn loans_named(code: &Verified, list: Option<u32>) -> &[Loan]
     ensures { result.now ≡ loans_of code.now list }
@@ -43,8 +43,8 @@ pub(crate) fn loans_named(code: &Verified, list: Option<u32>) -> &[Loan]
     }
 }
 
-// The parts of a rest are told what a job of it must know, which is cut out of another job, at a site and after so many
-// instructions.
+// Sets in the parts of a continuation what its job must know, by the job that it is cut out of, the site, and the number of
+// instructions so far.
 #[inline(always)]
 fn address(parts: &mut Parts, of: &Parts, site: u32, count: u64)
     requires { of.now.before + count ≤ of.now.limit }
@@ -58,7 +58,7 @@ fn address(parts: &mut Parts, of: &Parts, site: u32, count: u64)
 }
 
 impl Strand {
-    // A box for a rest of the strand's code: one that is spare, or a new one.
+    // Returns a box for a continuation of the strand's code: a spare one or a new one.
     #[inline(always)]
     fn shell(&mut self) -> Result<Box<Parts>, AllocError>
         requires spares { AreSpare self.old }
@@ -73,7 +73,8 @@ impl Strand {
         Ok(parts)
     }
 
-    // A new box for a rest of the strand's code: out of line, so that a spawn that finds a spare one clears no room for it.
+    // Allocates a box for a continuation of the strand's code: out of line, so that a spawn that finds a spare one clears no
+    // room for it.
     #[cold]
     #[inline(never)]
     fn new_shell(&self) -> Result<Box<Parts>, AllocError>
@@ -94,7 +95,8 @@ impl Strand {
         Ok(parts)
     }
 
-    // The rest of the block that has just spawned a call, as a job's parts, with the call that it is a rest of.
+    // Returns the continuation of the block that has just spawned a call, as the parts of a job, with the call to which it
+    // belongs.
     #[inline(always)]
     fn cut_out(&mut self, spawn: &Spawn, end: u64) -> Result<(Box<Parts>, Lender), AllocError>
         requires comes { HasCome self.old end (stop.Spawned spawn.now) }
@@ -113,7 +115,7 @@ impl Strand {
         Ok((parts, lender))
     }
 
-    // The rest of the block that has just spawned a call is handed out.
+    // Hands out the continuation of the block that has just spawned a call.
     #[inline(always)]
     pub(crate) fn lend(&mut self, spawn: Spawn, end: u64) -> Event
         requires comes { HasCome self.old end (stop.Spawned spawn) }

@@ -9,7 +9,7 @@ use crate::strand::Strand;
 const LENT: usize = 64;
 
 impl Strand {
-    /// Gives back the memory that it does not use while it waits: cells behind those that its call may use, spare boxes, and
+    /// Frees the memory that a waiting strand does not use: cells beyond those that its call may use, spare boxes, and spare
     /// room of its lists. Nothing else changes.
     #[inline(never)]
     pub fn trim(&mut self)

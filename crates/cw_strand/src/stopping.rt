@@ -1,4 +1,4 @@
-//! A strand that stopped.
+//! Strands that have stopped.
 
 ghost use Rattle.std.specs.Prelude.{◌≡◌, ◌∷◌, true, false, List};
 ghost use Rattle.cw_jobs.specs.declared.job.Job as jobs;
@@ -18,7 +18,7 @@ use cw_machine::machine::Machine;
 use cw_runnable::verified::Verified;
 use cw_slices::Slice;
 
-// Where a job that was out comes back to.
+// The call to which a job that was out returns.
 pub(crate) fn home_of(lent: Option<Lent>) -> Home
     ensures { result ≡ moves.home_of lent }
 {
@@ -33,7 +33,7 @@ pub(crate) fn home_of(lent: Option<Lent>) -> Home
     }
 }
 
-// Slices come home to a call of a machine, unless nothing is known of the machine any more.
+// Returns slices to a call of a machine, unless nothing is known of the machine any more.
 fn bring_home(
     machine: &mut Machine,
     code: &Verified,
@@ -56,7 +56,7 @@ fn bring_home(
 }
 
 impl Strand {
-    /// Whether it does not go on: it waits for the newest job out, or has stopped.
+    /// Returns whether the strand does not go on, because it waits for the newest job out or has stopped.
     pub fn is_paused(&self) -> bool
         ensures yes { result ≡ true → IsAtSync self.now }
         ensures no { result ≡ false → IsGoing self.now }
@@ -67,8 +67,8 @@ impl Strand {
         }
     }
 
-    /// Whether it has stopped, by a trap, its limit or want of memory, or was given up: it goes on no more, and ends once
-    /// nothing is out.
+    /// Returns whether the strand has stopped, by a trap, its limit or lack of memory, or was given up: it executes nothing
+    /// more, and ends once nothing is out.
     pub fn stopped(&self) -> bool
         ensures yes { result ≡ true → HasStopped self.now }
         ensures no { IsAtSync self.now → result ≡ false → IsWaiting self.now }
@@ -80,7 +80,7 @@ impl Strand {
         }
     }
 
-    /// Whether it trapped or passed the limit of the run.
+    /// Returns whether the strand trapped or exceeded the limit of the run.
     pub fn halted(&self) -> bool
         ensures { result ≡ holds.halts self.now.mode }
     {
@@ -91,7 +91,7 @@ impl Strand {
         }
     }
 
-    /// The instructions that it did, with those of the rests that were given to it.
+    /// Returns the number of instructions that the strand has executed, including those of continuations that were given to it.
     #[inline(always)]
     pub fn done(&self) -> u64
         ensures { result ≡ self.now.count }
@@ -99,7 +99,7 @@ impl Strand {
         self.count
     }
 
-    // Whether memory was wanting, so that nothing is known of the run any more.
+    // Returns whether memory ran out, so that nothing is known of the run any more.
     fn is_lost(&self) -> bool
         ensures { result ≡ holds.is_lost self.now.mode }
     {
@@ -109,7 +109,7 @@ impl Strand {
         }
     }
 
-    // The newest job is out no more: its arrays come home.
+    // Removes the newest job out and returns its arrays to their slots.
     pub(crate) fn pop_home(&mut self, slices: &mut Vec<Slice>, replaced: &mut Vec<Option<Slice>>)
         requires { MayPopHome self.old slices.old.items replaced.old.items }
         ensures { HasPoppedHome self.old slices.old.items replaced.old.items self.new }
@@ -120,7 +120,7 @@ impl Strand {
         bring_home(machine, &self.parts.code, home, slices, replaced, is_lost);
     }
 
-    // The newest job is out no more, and memory was wanting, so that nothing is known of its arrays.
+    // Removes the newest job out after memory ran out, so that nothing is known of its arrays.
     pub(crate) fn lose(&mut self)
         ensures { HasLost self.old self.new }
     {
@@ -128,8 +128,8 @@ impl Strand {
         self.mode = Mode::Memory;
     }
 
-    /// Skips the newest job out, which nobody ran, where the strand has stopped. Takes no memory but for what keeps the
-    /// job's box for another, which may be refused.
+    /// Skips the newest job out, which nobody executed, if the strand has stopped. Allocates only to keep the job's box for
+    /// another job; this allocation may fail.
     #[inline(never)]
     pub fn skip(&mut self, job: Job)
         requires running { IsRunning self.old }
@@ -149,8 +149,8 @@ impl Strand {
         self.spare(parts);
     }
 
-    /// The strand is given up, unless it has stopped already: it goes on no more, what comes back to it comes home, and
-    /// where nothing is out it ends with an effect that brings its own arrays home.
+    /// Gives the strand up, unless it has stopped already: it executes nothing more, still takes arrays back, and once nothing
+    /// is out it ends with an effect that returns its own arrays.
     pub fn give_up(&mut self)
         ensures of { self.new.of ≡ self.old.of }
         ensures mode { self.new.mode ≡ holds.given_up self.old.mode }

@@ -11,7 +11,7 @@ use std::alloc::Global;
 /// The processors up to which speedups are reported by default.
 pub const USUAL_PROCESSORS: u64 = 64;
 
-/// The workers of a run where no number of them is given.
+/// The default number of workers.
 pub const USUAL_WORKERS: u64 = 2;
 
 /// What the program is asked to write.
@@ -65,11 +65,11 @@ pub struct Request {
     pub options: Options,
     /// How many workers run the program, from 1 to 64; no report depends on it, and a check does not use it.
     pub workers: u64,
-    /// Whether standard error explains a refusal or a trap behind its line.
+    /// Whether an explanation of a rejection or a trap follows its line on standard error.
     pub explain: bool,
 }
 
-/// What the program says in place of running.
+/// The answer of the program if it runs nothing.
 #[derive(Debug, Drop)]
 pub enum Said {
     /// The help, for standard output.
@@ -91,8 +91,9 @@ impl From<Fault> for Said {
 impl Request {
     ghost use Rattle.cw_words.specs.Requests.{usual_options};
 
-    /// A run of the source on standard input, which has no path, without arguments: the limit is
-    /// `USUAL_LIMIT`, the burden `USUAL_BURDEN` on continuation edges alone and the workers `USUAL_WORKERS`, and nothing is explained.
+    /// Returns the request for a run of the source on standard input, which has no path, without arguments: the limit is
+    /// `USUAL_LIMIT`, the burden `USUAL_BURDEN` on continuation edges only, the number of workers `USUAL_WORKERS`, and nothing
+    /// is explained.
     pub fn of_standard_input(alloc: Global) -> Self
         ensures file { string_bytes result.file ≡ [] }
         ensures args { result.args.items ≡ [] }

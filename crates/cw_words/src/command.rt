@@ -31,7 +31,11 @@ use std::alloc::{AllocError, Global};
 /// The name of the option for aligned columns, without its hyphens.
 pub const TABLE: &str = "table";
 
-/// What the program's words are read by.
+/// Returns the definition of the command line, by which `clap` parses the program's words.
+///
+/// # Errors
+///
+/// Returns an error if memory runs out.
 pub fn command<'a>(alloc: Global) -> Result<Command<'a>, AllocError>
     ensures { IfOk result (λ c. app_of c ≡ command_line) }
 {

@@ -68,7 +68,7 @@ pub const UP_TO: NumberOption = NumberOption {
     help: "The largest number of processors",
 };
 
-/// The functions that a report of gains tells at most.
+/// The maximum number of functions in a gain report.
 pub const TOP: NumberOption = NumberOption {
     name: "top",
     least: 1,
@@ -77,8 +77,7 @@ pub const TOP: NumberOption = NumberOption {
     help: "The maximum number of functions to report",
 };
 
-/// The number that the text writes, where it is digits alone, at least one, and the number is in
-/// range.
+/// Returns the number that the text writes, if the text has only digits, at least one, and the number is in range.
 pub fn read_number(text: &str, least: u64, most: u64) -> Option<u64>
     ensures { SomeIff result (IsNumberWithin least most text.now) (decimal_value text.now) }
 {

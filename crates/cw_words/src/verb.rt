@@ -41,7 +41,7 @@ impl Verb {
     }
 }
 
-/// The verb of this name, if there is one.
+/// Returns the verb of this name, if there is one.
 pub fn verb_named(name: &str) -> Option<Verb>
     ensures { IsVerbNamed name.now result }
 {
