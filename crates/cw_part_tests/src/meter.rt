@@ -2,8 +2,8 @@
 //! hand.
 
 use crate::burdens::burden_of;
-use Stage::{HandOut, InRest, On, TakeIn};
 use MeterCall::{Begin, BeginRegion, Call, End, GiveBack, Spawn, SpawnHalf, Sync};
+use Stage::{HandOut, InRest, On, TakeIn};
 use cw_meter::{Detail, Measures, Meter};
 use cw_model::burden::{Burden, Edges};
 use cw_regions::RegionRow;

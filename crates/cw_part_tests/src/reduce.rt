@@ -171,7 +171,11 @@ fn tell_all(views: &mut Views, all: &[ViewsCall]) -> Result<(), AllocError> {
     Ok(())
 }
 
-static LEFT: [ViewsCall; 3] = [ViewsCall::Add(0, 5), ViewsCall::Raise(4, -8), ViewsCall::Print(1)];
+static LEFT: [ViewsCall; 3] = [
+    ViewsCall::Add(0, 5),
+    ViewsCall::Raise(4, -8),
+    ViewsCall::Print(1),
+];
 
 static RIGHT: [ViewsCall; 5] = [
     ViewsCall::Print(2),

@@ -91,7 +91,11 @@ static RUNS: [Run; 2] = [
     },
 ];
 
-fn join_piece(alloc: Global, table: &mut RegionTable, told: &[RegionCall]) -> Result<(), AllocError> {
+fn join_piece(
+    alloc: Global,
+    table: &mut RegionTable,
+    told: &[RegionCall],
+) -> Result<(), AllocError> {
     let mut piece = RegionTable::new(alloc);
     tell_all(&mut piece, told)?;
     table.join(piece);
