@@ -2,7 +2,7 @@ use Rattle.std.proofs.Common.{◌≡◌, true, rules, subst}
 use Rattle.cw_facts.specs.Options.{handed_on}
 use Rattle.cw_code.specs.Code.{code_view}
 use Rattle.cw_machine.specs.Runs.{Runs}
-use Rattle.cw_speedup.specs.Speedups.{IsNotSpedUp, SpeedsUp}
+use Rattle.cw_greedy_schedule.specs.Speedups.{IsNotSpedUp, SpeedsUp}
 use Rattle.cw_cli.specs.Pages.{asked_for, is_asked}
 use Rattle.cw_cli.proofs.Drawing.{unsped}
 use Rattle.cw_cli.proofs.paging.drawn_with.Goals as goal
