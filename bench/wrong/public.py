@@ -99,18 +99,29 @@ def named(crate, path):
     return [it for it in functions(crate) if it.path == path or it.path.startswith(path + "::")]
 
 
-def changed(crate, pairs):
+def surrounding(functions, file, at):
+    """Returns those of these functions that a line of a file is in."""
+    return [it for it in functions if it.file == file and it.lines[0] <= at <= it.lines[1]]
+
+
+def places(row, file, lines, text):
+    """Returns the numbers of the lines of a file that have a text: if several have it, those in functions of the column `only`."""
+    found = [number for number, line in enumerate(lines) if text in line]
+    mine = [it for path in row["only"].split() for it in named(row["crate"], path)]
+    return found if len(found) == 1 else [at for at in found if surrounding(mine, file, at)]
+
+
+def changed(row, pairs):
     """Returns the functions that a mutant changes, for its pairs of a file and a text to replace."""
-    found = []
+    crate, found = row["crate"], []
     for file, old in pairs:
-        lines = sources(crate).get(file, [])
-        places = [number for number, line in enumerate(lines) if old in line]
-        found += [it for it in functions(crate) if it.file == file and any(it.lines[0] <= at <= it.lines[1] for at in places)]
+        for at in places(row, file, sources(crate).get(file, []), old):
+            found += surrounding(functions(crate), file, at)
     return found
 
 
 def is_refused_publicly(row, pairs):
     """Returns whether a public contract refuses the mutant of a row, by the rule above."""
     mine = [it for path in row["only"].split() for it in named(row["crate"], path)]
-    others = [it for it in changed(row["crate"], pairs) if not it.is_public or it.path not in [that.path for that in mine]]
+    others = [it for it in changed(row, pairs) if not it.is_public or it.path not in [that.path for that in mine]]
     return row["answer"] == "refused" and any(it.is_public for it in mine) and not others

@@ -137,9 +137,14 @@ def edited(row):
         elif key == "old":
             old = said
         elif key == "new":
-            if not path or not old or texts[path].count(old) != 1 or old == said:
-                return "what it turns stands not once in %s: %s" % (path, old)
-            texts[path], old = texts[path].replace(old, said), None
+            if not path or not old or old == said:
+                return "it replaces nothing in %s: %s" % (path, old)
+            lines = texts[path].split("\n")
+            at = public.places(row, path, lines, old)
+            if len(at) != 1 or lines[at[0]].count(old) != 1:
+                return "the text to replace occurs %d times in %s: %s" % (len(at), path, old)
+            lines[at[0]] = lines[at[0]].replace(old, said)
+            texts[path], old = "\n".join(lines), None
     return texts or "it turns nothing"
 
 
