@@ -3,11 +3,10 @@
 ghost use Rattle.std.specs.Prelude.{◌≡◌, ℕ, List, [], ◌<◌, ◌-◌, ◌^◌, IfErr};
 ghost use Rattle.cw_model.specs.Report.{check_text};
 ghost use Rattle.cw_report.specs.Sinks.{Writes};
-ghost use Rattle.cw_report.specs.Texts.{Makes, gain_report, run_report, scale_report, schedule_report, sites_report};
+ghost use Rattle.cw_report.specs.Texts.{Makes, run_report, schedule_report};
 ghost use Rattle.cw_report.specs.Answers.{AnswersText};
-ghost use Rattle.cw_report.specs.Layouts.{gain_columns, scale_columns, shown, sites_columns, speedup_columns};
+ghost use Rattle.cw_report.specs.Layouts.{gain_in_form, scale_in_form, shown, sites_in_form, speedup_in_form};
 ghost use Rattle.cw_report.specs.Pages.{page_report};
-ghost use Rattle.cw_report.specs.Speedups.{speedup_report};
 
 use crate::aligned::aligned;
 use crate::column::{Column, of_gain, of_scale, of_sites, of_speedup};
@@ -84,8 +83,8 @@ pub fn scale<W: Sink>(
     to: &mut W,
 ) -> Result<(), Fault>
     requires { (W.seen to.old).failures < 2 ^ 64 - 1 }
-    ensures idle { shown scale_columns (scale_report ended.now) table ≡ [] → to.new ≡ to.old }
-    ensures answers { AnswersText W.seen to.old to.new (shown scale_columns (scale_report ended.now) table) result }
+    ensures idle { scale_in_form ended.now table ≡ [] → to.new ≡ to.old }
+    ensures answers { AnswersText W.seen to.old to.new (scale_in_form ended.now table) result }
 {
     match ended {
         Ok(ended) => tell(
@@ -113,8 +112,9 @@ pub fn sites<W: Sink>(
     to: &mut W,
 ) -> Result<(), Fault>
     requires { (W.seen to.old).failures < 2 ^ 64 - 1 }
-    ensures idle { shown sites_columns (sites_report code.now ended.now) table ≡ [] → to.new ≡ to.old }
-    ensures answers { AnswersText W.seen to.old to.new (shown sites_columns (sites_report code.now ended.now) table) result }
+    ensures idle { sites_in_form code.now ended.now table ≡ [] → to.new ≡ to.old }
+    ensures answers { AnswersText W.seen to.old to.new
+        (sites_in_form code.now ended.now table) result }
 {
     match ended {
         Ok(ended) => tell(
@@ -153,14 +153,16 @@ pub fn schedule<W: Sink>(
     }
 }
 
-/// Writes what functions of a run would bring: the run itself on one line, without a name, and then each function that is
-/// told on one. Of a run that did not end nothing is written, and the sink is left alone.
+/// Writes the gain table of a run: a line for the run itself, without a name, and one for each listed function. If the run
+/// did not end, it writes nothing and does not use the sink.
 /// With `table` the columns are aligned, otherwise the text is CSV.
 ///
-/// The error is `Memory` where there is none for the text: nothing was written then. It is `Write` where a write failed
-/// or took no byte: the sink took a beginning of the text, and counts one more failed write.
+/// Fewer than 2^64 - 1 writes to the sink failed before.
 ///
-/// It asks that fewer than 2^64 - 1 writes to the sink failed before.
+/// # Errors
+///
+/// `Memory` if memory runs out for the text: nothing was written then. `Write` if a write failed or took no byte: the sink
+/// took a beginning of the text, and counts one more failed write.
 pub fn gain<W: Sink>(
     alloc: Global,
     gains: &Result<Gains, Fault>,
@@ -168,8 +170,8 @@ pub fn gain<W: Sink>(
     to: &mut W,
 ) -> Result<(), Fault>
     requires { (W.seen to.old).failures < 2 ^ 64 - 1 }
-    ensures idle { shown gain_columns (gain_report gains.now) table ≡ [] → to.new ≡ to.old }
-    ensures answers { AnswersText W.seen to.old to.new (shown gain_columns (gain_report gains.now) table) result }
+    ensures idle { gain_in_form gains.now table ≡ [] → to.new ≡ to.old }
+    ensures answers { AnswersText W.seen to.old to.new (gain_in_form gains.now table) result }
 {
     match gains {
         Ok(gains) => tell(
@@ -198,8 +200,8 @@ pub fn speedup<W: Sink>(
     to: &mut W,
 ) -> Result<(), Fault>
     requires { (W.seen to.old).failures < 2 ^ 64 - 1 }
-    ensures idle { shown speedup_columns (speedup_report speedup.now) table ≡ [] → to.new ≡ to.old }
-    ensures answers { AnswersText W.seen to.old to.new (shown speedup_columns (speedup_report speedup.now) table) result }
+    ensures idle { speedup_in_form speedup.now table ≡ [] → to.new ≡ to.old }
+    ensures answers { AnswersText W.seen to.old to.new (speedup_in_form speedup.now table) result }
 {
     match speedup {
         Ok(speedup) => tell(
@@ -231,7 +233,8 @@ pub fn page<W: Sink>(
     to: &mut W,
 ) -> Result<(), Fault>
     requires { (W.seen to.old).failures < 2 ^ 64 - 1 }
-    ensures idle { page_report name.now version.now args.now burden source.now code.now drawn.now ≡ []
+    ensures idle {
+        page_report name.now version.now args.now burden source.now code.now drawn.now ≡ []
         → to.new ≡ to.old }
     ensures answers { AnswersText W.seen to.old to.new
         (page_report name.now version.now args.now burden source.now code.now drawn.now) result }
