@@ -4,7 +4,7 @@
     walks.py [--check]
 
 It takes the first programs of `gen.py`, by seeds from 1 on, that are short and spawn several times: some that finish, some
-that trap. It writes each into crates/cw_sched_tests/src/generated.rt with its arguments and its cost.
+that trap. It writes each into crates/cw_worker_tests/src/generated.rt with its arguments and its cost.
 """
 import collections
 import os
@@ -15,7 +15,7 @@ from fuzz import arguments_of
 from gen import Generator
 from ref import Program, Run
 
-FILE = os.path.join(os.path.dirname(os.path.abspath(__file__)), "../../crates/cw_sched_tests/src/generated.rt")
+FILE = os.path.join(os.path.dirname(os.path.abspath(__file__)), "../../crates/cw_worker_tests/src/generated.rt")
 WIDE, LONGEST, LEAST_SPAWNS = 2000, 1200, 3
 COUNTS = {"ended": 10, "trapped": 4}
 HEAD = '''//! Random programs, written by `bench/reference/walks.py`.

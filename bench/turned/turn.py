@@ -77,8 +77,9 @@ KNOWN = {
     it.name: it
     for it in [
         Crate("cw_model", (), ("laws",), ("lemmas",)),
-        Crate("cw_greedy", ("cw_model",), ("chunks", "entry", "laws", "piece", "strands"),
-              ("Bounds", "Jumps", "RecordLaws", "Entries", "Records", "Edges", "Counts", "Slots", "Rounds", "lemmas")),
+        Crate("cw_greedy", ("cw_model",), ("chunks", "entry", "laws", "piece", "strands", "recorder", "recorder_laws"),
+              ("Bounds", "Jumps", "RecordLaws", "Entries", "Records", "Edges", "Counts", "Slots", "Rounds",
+               "Merging", "Normal", "Origins", "Recording", "Runs", "lemmas")),
     ]
 }
 

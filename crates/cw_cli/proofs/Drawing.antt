@@ -23,8 +23,8 @@ use Rattle.cw_code.specs.declared.head.Head as counted
 use Rattle.cw_runnable.specs.declared.verified.Verified.{Verified}
 use Rattle.cw_machine.specs.declared.values.Values.{Values}
 use Rattle.cw_machine.specs.Runs.{IsFailure, is_request}
-use Rattle.cw_schedule.specs.Schedules.{is_asked, is_counted}
-use Rattle.cw_speedup.specs.Speedups as speeds
+use Rattle.cw_greedy_schedule.specs.Schedules.{is_asked, is_counted}
+use Rattle.cw_greedy_schedule.specs.Speedups as speeds
 use Rattle.cw_compile.specs.Compiled.{IsCompiled}
 use Rattle.cw_text.specs.declared.fault.Fault.{Fault}
 use Rattle.cw_text.specs.declared.fault.Fault.TheVariants as fault
@@ -42,7 +42,7 @@ use Rattle.cw_cli.specs.Pages.{Asked, Draws, IsUndrawn, asked_for}
 use Rattle.cw_cli.specs.Schedules.{AreBounded, IsScheduledIn}
 use Rattle.cw_cli.specs.Speedups.{speedup_text}
 use Rattle.cw_cli.proofs.Ordered.{are_bounded}
-use Rattle.cw_cli.proofs.Rows.{scale_is, sites_are, gains_are}
+use Rattle.cw_cli.proofs.ReportRows.{scale_is, sites_are, gains_are}
 use Rattle.cw_cli.proofs.Runs.{IsUnrun, May, Tells, answer_is, may, must, readings_are, values_are}
 
 -- a page of the same texts

@@ -1,5 +1,5 @@
 mod Modes
-mod Rows
+mod ReportRows
 mod Ordered
 mod Runs
 mod Tools

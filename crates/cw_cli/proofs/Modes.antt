@@ -2,7 +2,7 @@
 use Rattle.std.proofs.Common.{◌≡◌, ◌≢◌, ◌∙◌, ◌⊎◌, inl, inr, ℕ, sym, subst}
 use Rattle.cw_words.specs.declared.asked.Mode.{Mode}
 use Rattle.cw_words.specs.declared.asked.Mode.TheVariants as mode
-use Rattle.cw_cli.specs.Told.{HasTables}
+use Rattle.cw_cli.specs.ModeTexts.{HasTables}
 
 -- a mode that runs a program is not a check
 pub running : (m k : Mode) → m ≡ k → k ≢ mode.Check → m ≢ mode.Check

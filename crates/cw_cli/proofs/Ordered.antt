@@ -5,7 +5,7 @@ use Rattle.std.proofs.lemmas.Nat.{le-div}
 use Rattle.cw_model.specs.declared.burden.Burden.{Burden}
 use Rattle.cw_model.specs.Trees.{Tree, Leaf, Seq, Par, Marked, work, span, burdened_span}
 use Rattle.cw_greedy.specs.Greedy.{greedy_length}
-use Rattle.cw_schedule.specs.State.{IsWithin}
+use Rattle.cw_greedy_schedule.specs.State.{IsWithin}
 use Rattle.cw_report.specs.Speedups.{burdened_steps, ratio, speedup_bound}
 use Rattle.cw_cli.specs.Schedules.{AreBounded, IsOrdered}
 

@@ -19,10 +19,10 @@ use Rattle.cw_model.specs.Report as report
 use Rattle.cw_model.specs.Report.{check_text, csv_line, value_line, reduction_word, total_line, total_lines, report_text}
 use Rattle.cw_greedy.specs.Greedy.{greedy_length}
 use Rattle.cw_pool.specs.declared.run.TheConstants.{MOST_BODIES}
-use Rattle.cw_schedule.specs.State.{IsWithin}
+use Rattle.cw_greedy_schedule.specs.State.{IsWithin}
 use Rattle.cw_model.specs.declared.limits.TheConstants.{MOST_PROCESSORS}
-use Rattle.cw_schedule.specs.Schedules.{IsNotScheduled, Schedules, is_asked, is_counted}
-use Rattle.cw_speedup.specs.Speedups as speeds
+use Rattle.cw_greedy_schedule.specs.Schedules.{IsNotScheduled, Schedules, is_asked, is_counted}
+use Rattle.cw_greedy_schedule.specs.Speedups as speeds
 use Rattle.cw_meter.specs.Whole.{AreReadings}
 use Rattle.cw_meter.specs.declared.meter.Readings.{Readings}
 use Rattle.cw_code.specs.Code.{Code}
@@ -52,10 +52,10 @@ use Rattle.cw_cli.specs.Speedups.{readings_of}
 use Rattle.cw_report.specs.Speedups.{speedup_report}
 use Rattle.cw_report.specs.Speedups as texts
 use Rattle.cw_cli.specs.Forms.{in_form}
-use Rattle.cw_cli.specs.Told.{HasTables, shown_of, told_of}
+use Rattle.cw_cli.specs.ModeTexts.{HasTables, shown_of, told_of}
 use Rattle.cw_report.specs.Layouts.{gain_columns, shown, speedup_columns}
 use Rattle.cw_cli.proofs.Ordered.{are_bounded}
-use Rattle.cw_cli.proofs.Rows.{scale_is, sites_are, gains_are}
+use Rattle.cw_cli.proofs.ReportRows.{scale_is, sites_are, gains_are}
 use Rattle.cw_code.specs.Heads.{head_view}
 use Rattle.cw_gains.specs.Gains.{Gains, HasNumberedSites}
 use Rattle.cw_code.specs.declared.head.Head as counted

@@ -3,6 +3,6 @@ pub mod Schedules
 pub mod Speedups
 pub mod Pages
 pub mod Analyses
-pub mod Told
+pub mod ModeTexts
 pub mod Tools
 pub mod Crews

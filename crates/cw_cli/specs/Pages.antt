@@ -13,8 +13,8 @@ use Rattle.cw_code.specs.Run.{code_serial}
 use Rattle.cw_code.specs.declared.head.Head.{Head}
 use Rattle.cw_machine.specs.Runs.{Runs}
 use Rattle.cw_gains.specs.Gains.{Gains}
-use Rattle.cw_speedup.specs.Speedups as speeds
-use Rattle.cw_speedup.specs.Speedups.{SpeedsUp}
+use Rattle.cw_greedy_schedule.specs.Speedups as speeds
+use Rattle.cw_greedy_schedule.specs.Speedups.{SpeedsUp}
 use Rattle.cw_text.specs.declared.fault.Fault.{Fault}
 use Rattle.cw_text.specs.declared.fault.Fault.TheVariants as fault
 use Rattle.cw_report.specs.Pages.{page_with}

@@ -8,7 +8,7 @@ use Rattle.cw_model.specs.declared.limits.TheConstants.{MOST_STRANDS}
 use Rattle.cw_greedy.specs.Recorded.{capped}
 use Rattle.cw_greedy.specs.Blocks.{strand_count}
 use Rattle.cw_greedy.specs.Greedy.{greedy_length}
-use Rattle.cw_schedule.specs.State.{IsWithin}
+use Rattle.cw_greedy_schedule.specs.State.{IsWithin}
 use Rattle.cw_report.specs.Speedups.{burdened_steps, ratio, speedup_bound}
 use Rattle.cw_report.specs.Texts.{schedule_header}
 use Rattle.cw_words.specs.declared.asked.Mode.{Mode}

@@ -4,7 +4,7 @@ use Rattle.cw_model.specs.declared.burden.Burden.{Burden}
 use Rattle.cw_model.specs.Trees.{Tree, work, span, burdened_span}
 use Rattle.cw_model.specs.Answers.{Answer, Ended, TrappedAt, OverLimit}
 use Rattle.cw_meter.specs.declared.meter.Readings.{Readings}
-use Rattle.cw_speedup.specs.Speedups.{rows_up_to}
+use Rattle.cw_greedy_schedule.specs.Speedups.{rows_up_to}
 use Rattle.cw_report.specs.Speedups as texts
 
 -- what a strand tree measures

@@ -6,7 +6,7 @@ ghost use Rattle.cw_words.specs.declared.asked.Mode.TheVariants as mode;
 ghost use Rattle.cw_compile.specs.Compiled.{IsCompiled, IsMade};
 ghost use Rattle.cw_cli.specs.Analyses.{IsModeInRange};
 ghost use Rattle.cw_cli.specs.Analyses.{IsAnalysed, IsAnalysedBy, IsRun};
-ghost use Rattle.cw_cli.specs.Told.{HasTables};
+ghost use Rattle.cw_cli.specs.ModeTexts.{HasTables};
 ghost use Rattle.cw_gains.specs.Gains.{HasNumberedSites};
 
 use crate::paging::run_page;
@@ -243,7 +243,9 @@ fn run_gain<W: Sink, X: Runner>(
     let (limit, burden) = (options.limit, options.burden);
     let ended = runner.run(alloc, share, args, limit, burden);
     let heads = made.heads.as_slice();
-    let gains = gains_of(alloc, runner, &code, heads, args, limit, burden, most, ended);
+    let gains = gains_of(
+        alloc, runner, &code, heads, args, limit, burden, most, ended,
+    );
     write_gains(alloc, args, options, gains, out)
 }
 

@@ -12,7 +12,7 @@ ghost use Rattle.cw_runnable.specs.declared.verified.Verified.{Verified};
 ghost use Rattle.cw_gains.specs.Gains.{GainsAsCode};
 ghost use Rattle.cw_cli.specs.Analyses.{IsModeInRange};
 ghost use Rattle.cw_cli.specs.Analyses.{IsRun};
-ghost use Rattle.cw_cli.specs.Told.{HasTables, told_in};
+ghost use Rattle.cw_cli.specs.ModeTexts.{HasTables, told_in};
 ghost use Rattle.cw_model.specs.Ints.{fits};
 ghost use Rattle.cw_report.specs.Answers.{AnswersText};
 

@@ -6,12 +6,15 @@ ghost use Rattle.cw_gains.specs.Gains.{GainsAsCode, HasNumberedSites};
 ghost use Rattle.cw_machine.specs.Recorded.{RecordsAsCode};
 ghost use Rattle.cw_machine.specs.Runs.{GivesAsCode, Runs, RunsAsCode};
 ghost use Rattle.cw_pool.specs.declared.run.TheConstants.{MOST_BODIES};
-ghost use Rattle.cw_schedule.specs.Schedules.{SchedulesAsCode};
-ghost use Rattle.cw_speedup.specs.Speedups.{SpeedsUpAsCode};
+ghost use Rattle.cw_greedy_schedule.specs.Schedules.{SchedulesAsCode};
+ghost use Rattle.cw_greedy_schedule.specs.Speedups.{SpeedsUpAsCode};
 
 use cw_code::head::Head;
 use cw_gains::gains::{Gains, gains_of_ended, gains_of_ended_with};
 use cw_greedy::strands::Strands;
+use cw_greedy_schedule::schedules::{Schedule, is_asked, schedule_of_run};
+use cw_greedy_schedule::speedups;
+use cw_greedy_schedule::speedups::{InParallel, InTurn, Speedup, speedup_of_run};
 use cw_machine::alone::{Ended, run_alone};
 use cw_machine::recorded::strands_alone;
 use cw_machine::values::{Values, values_alone};
@@ -20,9 +23,6 @@ use cw_pool::crew::Body;
 use cw_pool::gate::Gate;
 use cw_pool::run::MOST_BODIES;
 use cw_runnable::verified::Verified;
-use cw_schedule::schedules::{Schedule, is_asked, schedule_of_run};
-use cw_speedup::speedups;
-use cw_speedup::speedups::{InParallel, InTurn, Speedup, speedup_of_run};
 use cw_text::Fault;
 use std::alloc::Global;
 use std::sync::{Arc, Wait};
@@ -77,7 +77,7 @@ pub(crate) trait Runner {
         requires { HasNumberedSites (code_view code.now.value.code) }
         ensures { Runs (code_view code.now.value.code) args.now limit burden ended.now
             → GainsAsCode (code_view code.now.value.code) heads.now args.now limit burden top
-                result };
+            result };
 
     // Returns the speedups of a run that recorded these strands, up to `most` processors.
     fn speedups(

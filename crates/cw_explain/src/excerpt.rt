@@ -3,7 +3,7 @@
 ghost use Rattle.std.specs.Prelude.{◌≡◌};
 ghost use Rattle.cw_explain.specs.Lines.{after_line, first_line, line_text};
 
-use crate::word::Shown;
+use crate::word::ClippedText;
 use std::alloc::AllocError;
 
 /// The maximum number of columns of a line, with its number before it and `..` after it.
@@ -144,7 +144,7 @@ fn add_caret(
     before: usize,
     columns: usize,
 ) -> Result<(), AllocError> {
-    let before = Shown {
+    let before = ClippedText {
         text: text.get(..before).unwrap_or(text),
         columns: columns_beside(columns),
     };
@@ -171,7 +171,7 @@ fn add_line(out: &mut String, text: &[u8], line: u32, columns: usize) -> Result<
     for _ in digits(line)..columns {
         out.push(' ')?;
     }
-    let shown = Shown {
+    let shown = ClippedText {
         text,
         columns: columns_beside(columns),
     };

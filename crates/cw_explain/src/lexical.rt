@@ -1,7 +1,7 @@
 //! Why bytes are not cut into tokens, in words.
 
 use crate::foreign::{Byte, byte_at};
-use crate::word::{Shown, Word, is_printable};
+use crate::word::{ClippedText, Word, is_printable};
 use cw_lex::Uncut;
 use cw_model::limits::{MOST_NAME_BYTES, MOST_NUMBER};
 use std::fmt;
@@ -42,7 +42,7 @@ impl fmt::Display for OfText<'_> {
             ),
             Uncut::NoToken(byte) => write_no_token(f, byte),
             Uncut::LargeNumber(number) => {
-                let digits = Shown {
+                let digits = ClippedText {
                     text: number,
                     columns: MOST_DIGITS,
                 };

@@ -4,7 +4,7 @@ use crate::around::Around;
 use crate::excerpt::first_line;
 use crate::near::is_declared;
 use crate::phrase::Marks;
-use crate::word::{Shown, Word};
+use crate::word::{ClippedText, Word};
 use crate::words::FRESH;
 use cw_model::token::{Kind, Token};
 use std::fmt;
@@ -77,8 +77,8 @@ impl<'a> Around<'a> {
     }
 
     // The bytes from one place to another.
-    fn bytes(&self, start: usize, end: usize) -> Shown<'a> {
-        Shown {
+    fn bytes(&self, start: usize, end: usize) -> ClippedText<'a> {
+        ClippedText {
             text: self.text.get(start..end).unwrap_or(&[]),
             columns: MOST_COLUMNS,
         }
@@ -100,12 +100,12 @@ impl<'a> Around<'a> {
     }
 
     // The tokens from one place to before another.
-    fn part(&self, from: usize, to: usize) -> Shown<'a> {
+    fn part(&self, from: usize, to: usize) -> ClippedText<'a> {
         self.bytes(self.start_of(from), self.end_before(to))
     }
 
     // From a place to the end of the statement, with its semicolon.
-    fn rest(&self, from: usize) -> Shown<'a> {
+    fn rest(&self, from: usize) -> ClippedText<'a> {
         let end = self.end();
         match self.at(end) {
             Some(token) if token.kind == Kind::Semicolon => self.part(from, end.saturating_add(1)),
@@ -114,7 +114,7 @@ impl<'a> Around<'a> {
     }
 
     // What follows the group that begins at the token, up to the end of the statement.
-    fn after_call(&self) -> Shown<'a> {
+    fn after_call(&self) -> ClippedText<'a> {
         let rest = self.rest(self.place);
         let start = self.start_of(self.place);
         let end = start.saturating_add(rest.text.len());
@@ -122,17 +122,17 @@ impl<'a> Around<'a> {
             Some(after) => self.bytes(self.end_before(after), end),
             None => self.bytes(end, end),
         };
-        Shown {
+        ClippedText {
             text: first_line(rest.text),
             columns: MOST_COLUMNS,
         }
     }
 
     // The group that begins at the token.
-    fn group(&self) -> Shown<'a> {
+    fn group(&self) -> ClippedText<'a> {
         match self.after_group(self.place) {
             Some(after) => self.part(self.place, after),
-            None => Shown {
+            None => ClippedText {
                 text: b"(..)",
                 columns: MOST_COLUMNS,
             },
@@ -140,7 +140,7 @@ impl<'a> Around<'a> {
     }
 
     // The statement up to the name before the token.
-    fn before_call(&self) -> Shown<'a> {
+    fn before_call(&self) -> ClippedText<'a> {
         let start = self.start_of(self.first);
         self.bytes(start, self.start_of(self.place.saturating_sub(1)))
     }
@@ -197,7 +197,7 @@ impl<'a> Around<'a> {
     }
 
     // The part of the statement that a mark denotes.
-    fn marked_part(&self, mark: u8) -> Option<Shown<'a>> {
+    fn marked_part(&self, mark: u8) -> Option<ClippedText<'a>> {
         let part = match mark {
             b'<' => self.part(self.first, self.place),
             b'.' => self.rest(self.place),

@@ -6,7 +6,7 @@ use crate::typing::Context;
 use crate::word::Word;
 use crate::{owning, typing};
 use cw_own::Disowned;
-use cw_reasons::Reasons;
+use cw_text::Reasons;
 use cw_types::IllTyped;
 
 /// A line that is rejected, with the rule that it breaks in words, and the other line that matters, if there is one.

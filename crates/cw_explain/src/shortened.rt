@@ -8,7 +8,7 @@ use std::alloc::{AllocError, Global};
 /// An open block: where its statement begins in the text, where the statements of the block begin, and whether it belongs to
 /// an `if`, which an `else` can follow.
 #[derive(Clone, Copy)]
-struct Block {
+struct OpenBlock {
     start: usize,
     inner: usize,
     is_if: bool,
@@ -18,7 +18,7 @@ struct Block {
 #[derive(Drop)]
 pub struct Shortened {
     text: Vec<u8>,
-    blocks: Vec<Block>,
+    blocks: Vec<OpenBlock>,
     /// The first token of the incomplete statement.
     first: Option<Kind>,
     /// The number of open parentheses in it.
@@ -127,7 +127,7 @@ impl Shortened {
             .extend_from_slice(opening(first, is_inside).as_bytes())?;
         let inner = self.text.len();
         let is_if = matches!(first, Some(Kind::If));
-        self.blocks.push(Block {
+        self.blocks.push(OpenBlock {
             start,
             inner,
             is_if,

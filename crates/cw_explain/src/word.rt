@@ -33,7 +33,7 @@ impl<'a> Word<'a> {
 /// At most as many bytes as a name may have.
 impl fmt::Display for Word<'_> {
     fn fmt<W: fmt::Write>(&self, f: &mut fmt::Formatter<W>) -> fmt::Result {
-        let shown = Shown {
+        let shown = ClippedText {
             text: self.text,
             columns: MOST_NAME_BYTES,
         };
@@ -43,12 +43,12 @@ impl fmt::Display for Word<'_> {
 
 /// Bytes of a source, up to a number of columns; `..` replaces the rest.
 #[derive(Clone, Copy)]
-pub struct Shown<'a> {
+pub struct ClippedText<'a> {
     pub text: &'a [u8],
     pub columns: usize,
 }
 
-impl Shown<'_> {
+impl ClippedText<'_> {
     /// The number of columns that all its bytes take.
     pub fn width(&self) -> usize {
         let mut columns: usize = 0;
@@ -59,7 +59,7 @@ impl Shown<'_> {
     }
 }
 
-impl fmt::Display for Shown<'_> {
+impl fmt::Display for ClippedText<'_> {
     fn fmt<W: fmt::Write>(&self, f: &mut fmt::Formatter<W>) -> fmt::Result {
         let mut columns: usize = 0;
         for byte in self.text {

@@ -49,11 +49,11 @@ never true h g = absurd cc
 never false h g = absurd cc
 
 -- whether a Boolean is true or false
-pub data Told (b : Bool) : Type 0 where
-  yes_is : b ≡ true → Told b
-  no_is : b ≡ false → Told b
+pub data TrueOrFalse (b : Bool) : Type 0 where
+  yes_is : b ≡ true → TrueOrFalse b
+  no_is : b ≡ false → TrueOrFalse b
 
-pub told : (b : Bool) → Told b
+pub told : (b : Bool) → TrueOrFalse b
 told true = yes_is refl
 told false = no_is refl
 

@@ -1,13 +1,13 @@
 //! The answers of the front end to the questions about a text.
 
 use crate::productions::words_text;
+use crate::rows::Asked;
 use crate::shown::shown;
 use cw_lex::lex;
 use cw_loops::{Core, lower};
 use cw_model::token::Token;
 use cw_own::{Owned, own};
 use cw_parse::parse;
-use cw_rows::Asked;
 use cw_text::{Fault, Source};
 use cw_tree::Typed;
 use cw_tree::syntax::Ast;

@@ -7,10 +7,12 @@ mod answers;
 mod faults;
 mod lowering;
 mod productions;
+mod rows;
 mod shown;
+mod written;
 
 use crate::answers::answer;
-use cw_rows::Rows;
+use crate::rows::RowReader;
 use std::alloc::{AllocError, Global};
 use std::{fs, io};
 
@@ -47,7 +49,7 @@ fn values(alloc: Global) -> Result<String, AllocError> {
 
 // Returns the report of a file with this text.
 fn told(alloc: Global, file: &'static str, text: &str) -> Result<String, AllocError> {
-    let mut rows = Rows::new(alloc, file);
+    let mut rows = RowReader::new(alloc, file);
     for line in text.lines() {
         compare(alloc, &mut rows, line)?;
     }
@@ -55,7 +57,7 @@ fn told(alloc: Global, file: &'static str, text: &str) -> Result<String, AllocEr
 }
 
 // Asks the questions of a line.
-fn compare(alloc: Global, rows: &mut Rows, line: &str) -> Result<(), AllocError> {
+fn compare(alloc: Global, rows: &mut RowReader, line: &str) -> Result<(), AllocError> {
     for asked in &rows.read(line)? {
         let found = answer(alloc, asked)?;
         rows.compare(asked, found.as_str())?;

@@ -1,7 +1,7 @@
 //! Checks productions: leaves out or repeats each word of a text of words.
 
 use crate::answers::{Stage, fault_of};
-use cw_rows::Asked;
+use crate::rows::Asked;
 use cw_text::{Fault, Place};
 use std::alloc::{AllocError, Global};
 

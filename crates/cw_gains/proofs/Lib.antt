@@ -2,4 +2,4 @@ pub mod Bounds
 pub mod Sums
 pub mod Ranks
 pub mod FreeSites
-pub mod Told
+pub mod GainTable

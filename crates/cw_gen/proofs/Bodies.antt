@@ -23,7 +23,7 @@ use Rattle.cw_code.specs.Run.{Around, State, Stuck, RunOutcome, ticked, inside, 
 use Rattle.cw_code.specs.Run.{block_event, opened, opened_at, cut_arrays, may_cut, cuts, uncut_arrays, act, go_on, steps}
 use Rattle.cw_code.specs.lemmas.Runs.{joined_quiet}
 use Rattle.cw_gen.specs.Emit.{most_jump, distance, first_list, halves_at, returns}
-use Rattle.cw_gen.proofs.Held.{held_after, held_after_all, held_turn, has_no_half_in}
+use Rattle.cw_gen.proofs.HeldNames.{held_after, held_after_all, held_turn, has_no_half_in}
 use Rattle.cw_gen.specs.Marks.{Marks}
 use Rattle.cw_gen.proofs.Marked.{owned, read_in, told_at, IsOwn, AllOwn, settle_owned, settle_read, get_owned, own_behind}
 use Rattle.cw_gen.proofs.MarkedCuts.{OwnHalves, cut_numbers, may_cut_owned, cut_owned, cut_read, uncut_owned, uncut_read}

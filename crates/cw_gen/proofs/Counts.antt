@@ -15,7 +15,7 @@ use Rattle.cw_loops.specs.Slotted.{slotted_argument, slotted_block, slotted_func
 use Rattle.cw_code.specs.declared.code.Instr.TheVariants as instr
 use Rattle.cw_gen.specs.Emit as emit
 use Rattle.cw_gen.specs.Emit.{element_at, Tables, first_list, distance, past, whole_of, emitted_arg, emitted_loads, emitted_end, emitted_instrs, emitted_over}
-use Rattle.cw_gen.proofs.Held.{held_after}
+use Rattle.cw_gen.proofs.HeldNames.{held_after}
 use Rattle.cw_gen.specs.Marks.{Marks, place_of, array_at}
 use Rattle.cw_gen.proofs.Fine.{Room, room_of, marks_for, ExprFine, ArgKept, arg_kept, ArgsFine, ReturnFine, StmtFine, BlockFine, FunctionFine, FunctionsFine, ProgramFine}
 use Rattle.cw_gen.proofs.Codes.{arg_code, array_code}

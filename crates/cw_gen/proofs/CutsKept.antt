@@ -13,11 +13,11 @@ use Rattle.cw_model.specs.Ownership.{SpawnIn, ReaderIn, CutOf, Taken, is_taken, 
 use Rattle.cw_model.specs.Ownership.{own_names, where_it_goes_on, target_names, given, lent, Closing, Joins, Leaves, at_end}
 use Rattle.cw_tree.specs.Resolved.{Lists, Locals, with_array, locals_after}
 use Rattle.cw_gen.specs.Emit.{Tables}
-use Rattle.cw_gen.proofs.Held.{held_after, held_after_all}
+use Rattle.cw_gen.proofs.HeldNames.{held_after, held_after_all}
 use Rattle.cw_gen.proofs.Fine.{Room, StmtFine, BlockFine}
 use Rattle.cw_gen.proofs.FreeMembers.{In, in_taken, in_held, in_kept, in_left as in_before, in_right}
 use Rattle.cw_gen.specs.Marks.{Marks}
-use Rattle.cw_gen.proofs.Rows.{Opened, CutsOpen, cuts_kept}
+use Rattle.cw_gen.proofs.EmptySlots.{Opened, CutsOpen, cuts_kept}
 
 -- a cut does not hold a name of a block whose names are free at its end
 in_left : (q : Name) (own : List Name) (closing : Closing) (depth : ℕ) (after_it : Taken)

@@ -16,7 +16,7 @@ use Rattle.cw_code.specs.Code.{CodeSite}
 use Rattle.cw_gen.specs.Emit.{Tables, first_list, whole_list, half_list, passed_in, lent_in, ints_in_block, arrays_in_block}
 use Rattle.cw_gen.specs.Marks.{Marks, array_at, marks_of}
 use Rattle.cw_gen.proofs.Marked.{IsOwn}
-use Rattle.cw_gen.proofs.Held.{held_after, held_after_all, has_no_half_in}
+use Rattle.cw_gen.proofs.HeldNames.{held_after, held_after_all, has_no_half_in}
 use Rattle.cw_model.specs.Answers.{main_name}
 use Rattle.std.specs.List.{list_all, list_any}
 use Rattle.cw_code.specs.Fits.{are_apart}

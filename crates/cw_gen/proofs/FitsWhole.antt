@@ -30,7 +30,7 @@ use Rattle.cw_gen.proofs.Fine.{Room, room_of, marks_for, is_function, BlockFine,
 use Rattle.cw_gen.proofs.Texts as texts
 use Rattle.cw_gen.proofs.Texts.{block_code, function_code, tables_in, code_of, room_of_func, TurnsClose}
 use Rattle.cw_gen.proofs.Places.{HasAt, has_all, length_within}
-use Rattle.cw_gen.proofs.Rows.{row, array_row, length-row, covers_none}
+use Rattle.cw_gen.proofs.EmptySlots.{row, array_row, length-row, covers_none}
 use Rattle.cw_gen.proofs.Shapes.{Shapes, shape_at, reached, end_shape, block_shapes, block_as_many}
 use Rattle.cw_gen.proofs.Settings.{Setting, StandsAt, stands_front, stands_back, flat, table_of, exact, takes_less, Returning, FitsAt, AllFit, both_fit}
 use Rattle.cw_gen.proofs.FittingFirsts.{block_enters}

@@ -18,14 +18,14 @@ use Rattle.cw_gen.proofs.MarkedCuts.{cut_numbers}
 use Rattle.cw_gen.proofs.Frozen.{frozen_of, frozen_both, frozen_freed, frozen_by_turns}
 use Rattle.cw_gen.specs.Emit as emit
 use Rattle.cw_gen.specs.Emit.{most_jump, distance, callee_of, half_of, past}
-use Rattle.cw_gen.proofs.Held.{held_after, held_after_all, held_turn}
+use Rattle.cw_gen.proofs.HeldNames.{held_after, held_after_all, held_turn}
 use Rattle.cw_gen.proofs.Fine.{ExprFine, StmtFine, BlockFine, EndsFree}
 use Rattle.cw_gen.proofs.Takens.{holds, holds_behind, holds_before, held_past, held_by_turns}
 use Rattle.cw_gen.proofs.Scopes.{returns_same}
 use Rattle.cw_gen.proofs.Texts.{expr_code, args_code, stmt_code, block_code}
 use Rattle.cw_gen.proofs.Codes.{distance_is, both_go_on}
-use Rattle.cw_gen.proofs.Rows.{row, array_row, length-row, length_array_row, covers_none, outers, Over, over_itself, over_more, over_int, over_array, outers_more, CutsOpen}
-use Rattle.cw_gen.proofs.Rows.{halves_at, slot_is_full, next_is_full, array_is_full, next_array_is_full, array_is_thawed, next_array_is_thawed, no_part}
+use Rattle.cw_gen.proofs.EmptySlots.{row, array_row, length-row, length_array_row, covers_none, outers, Over, over_itself, over_more, over_int, over_array, outers_more, CutsOpen}
+use Rattle.cw_gen.proofs.EmptySlots.{halves_at, slot_is_full, next_is_full, array_is_full, next_array_is_full, array_is_thawed, next_array_is_thawed, no_part}
 use Rattle.cw_gen.proofs.CutsKept.{cuts_more}
 use Rattle.cw_gen.proofs.Shapes.{Opened, depth_in, expr_shapes, reached, end_shape, stmt_shapes, block_shapes, expr_as_many, stmt_as_many, block_as_many}
 use Rattle.cw_gen.proofs.Settings.{Setting, StandsAt, stands_front, stands_back, exact, takes_less, Returning, tables, first, table, size, HasRoom, FitsAt, AllFit, both_fit, lies, made}

@@ -30,7 +30,7 @@ use Rattle.cw_code.specs.Fits.{names_loans, names_lent, names_callee, has_array,
 use Rattle.cw_code.specs.Fits.{frozen_rows, with_target, with_gone, with_passed, with_lent, slots_lent, leaves, Covers, CoversEach, FlowsInto}
 use Rattle.cw_code.specs.lemmas.Slots.{covers_itself, each_covers_itself}
 use Rattle.cw_gen.specs.Emit.{callee_of}
-use Rattle.cw_gen.proofs.Held.{held_after}
+use Rattle.cw_gen.proofs.HeldNames.{held_after}
 use Rattle.cw_gen.specs.Marks.{Marks, place_of, array_at, count_readers, readers_in}
 use Rattle.cw_gen.proofs.Marked.{IsOwn, is_read, OwnSlots, numbers_at, place_own, place_read, at_apart, read_below}
 use Rattle.cw_gen.proofs.MarkedParams.{counted_readers}
@@ -39,7 +39,7 @@ use Rattle.cw_gen.proofs.Texts.{taken_params}
 use Rattle.cw_gen.proofs.Fine.{marks_for, Room, IsUsable, AllUsable, AllWritable, NotBoth, HasSite, ArgFine, ArgsFine, TargetFine, is_function, StmtFine}
 use Rattle.cw_gen.proofs.Takens.{holds, holds_behind, held_by_spawn}
 use Rattle.cw_gen.proofs.Names.{slots_apart}
-use Rattle.cw_gen.proofs.Rows.{row, array_row, array_covers, row_more, covers_name, covers_array, outers, outers_more, CutsOpen, slot_is_full, array_is_full, array_is_thawed}
+use Rattle.cw_gen.proofs.EmptySlots.{row, array_row, array_covers, row_more, covers_name, covers_array, outers, outers_more, CutsOpen, slot_is_full, array_is_full, array_is_thawed}
 use Rattle.cw_gen.proofs.Passing.{slots_for, all_usable, own_slots, writable_args, usable_lent, passed_slots, lent_slots, as_many_arrays, not_same}
 use Rattle.cw_gen.proofs.Shapes.{Opened, depth_in, after_arg, args_after}
 use Rattle.cw_gen.proofs.Settings.{Setting, takes_less, tables, table, size, HasRoom, FitsAt, made}

@@ -18,7 +18,7 @@ use Rattle.cw_code.specs.Fits.{names_halves, gone_rows, frozen_rows, none_frozen
 use Rattle.cw_code.specs.Fits.{has_arrays, is_no_part, are_no_parts, is_ready, leaves, Covers, CoversEach, FlowsInto}
 use Rattle.cw_loops.specs.lemmas.Naming.{among_left}
 use Rattle.cw_code.specs.lemmas.Slots.{covers_after, covers_set, each_covers_after}
-use Rattle.cw_gen.proofs.Held.{held_after, held_after_all}
+use Rattle.cw_gen.proofs.HeldNames.{held_after, held_after_all}
 use Rattle.cw_gen.specs.Marks.{array_at}
 use Rattle.cw_gen.proofs.Marked.{IsOwn, at_apart, at_behind, own_behind}
 use Rattle.cw_gen.proofs.MarkedCuts.{cut_numbers}
@@ -28,9 +28,9 @@ use Rattle.cw_gen.proofs.Fine.{IsWritable, Begins, ExprFine, PartsFine, FreeAtEn
 use Rattle.cw_gen.proofs.Takens.{holds, holds_behind, spawn_past_cut}
 use Rattle.cw_gen.proofs.Scopes.{locals_after_all, extended, same_locals, names_extend}
 use Rattle.cw_gen.proofs.Texts.{expr_code, stmt_code, block_code}
-use Rattle.cw_gen.proofs.Rows.{row, array_row, array_covers, row_of, row_more, length-row, length_array_row, covers_none, covers_declared, covers_lower}
-use Rattle.cw_gen.proofs.Rows.{outers, Over, outers_more, outers_array, CutsOpen, own_cuts, halves_at, cuts_kept, array_is_full, next_array_is_full}
-use Rattle.cw_gen.proofs.Rows.{array_is_thawed, next_array_is_thawed, not_cut_behind, outside_full, outside_thawed, no_part}
+use Rattle.cw_gen.proofs.EmptySlots.{row, array_row, array_covers, row_of, row_more, length-row, length_array_row, covers_none, covers_declared, covers_lower}
+use Rattle.cw_gen.proofs.EmptySlots.{outers, Over, outers_more, outers_array, CutsOpen, own_cuts, halves_at, cuts_kept, array_is_full, next_array_is_full}
+use Rattle.cw_gen.proofs.EmptySlots.{array_is_thawed, next_array_is_thawed, not_cut_behind, outside_full, outside_thawed, no_part}
 use Rattle.cw_gen.proofs.Cutting.{slot_first, among_first}
 use Rattle.cw_gen.proofs.Shapes.{Opened, depth_in, shape_at, expr_shapes, reached, end_shape, stmt_shapes, block_shapes, expr_as_many, block_as_many}
 use Rattle.cw_gen.proofs.Settings.{Setting, StandsAt, stands_front, stands_back, exact, takes_less, tables, first, table, size, HasRoom, FitsAt, AllFit, both_fit, made}

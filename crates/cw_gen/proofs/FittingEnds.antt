@@ -6,12 +6,12 @@ use Rattle.cw_model.specs.Ownership.{Taken, is_taken, is_held, freed, without, o
 use Rattle.cw_tree.specs.Resolved.{Locals}
 use Rattle.cw_code.specs.declared.code.Instr.TheVariants as instr
 use Rattle.cw_code.specs.Fits.{leaves}
-use Rattle.cw_gen.proofs.Held.{held_after_all}
+use Rattle.cw_gen.proofs.HeldNames.{held_after_all}
 use Rattle.cw_gen.proofs.Fine.{EndsFree}
 use Rattle.cw_gen.proofs.Takens.{holds, loose_free, not_held, held_is_taken, held_past, held_without}
 use Rattle.cw_gen.proofs.Frozen.{frozen_of, frozen_without, frozen_freed, loose_thawed}
 use Rattle.cw_gen.proofs.Scopes.{locals_after_all, extended, names_extend}
-use Rattle.cw_gen.proofs.Rows.{array_covers, covers_held, KeepsHeld, NoneHeld, Over, outers_held}
+use Rattle.cw_gen.proofs.EmptySlots.{array_covers, covers_held, KeepsHeld, NoneHeld, Over, outers_held}
 use Rattle.cw_gen.proofs.Shapes.{Opened, depth_in, shape_at, end_shape}
 use Rattle.cw_gen.proofs.Settings.{Setting, size, made}
 

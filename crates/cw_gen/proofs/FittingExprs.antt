@@ -18,7 +18,7 @@ use Rattle.cw_gen.proofs.Marked.{IsOwn, is_read, place_own, place_read, read_bel
 use Rattle.cw_gen.proofs.Fine.{IsUsable, ExprFine, ArgKept, arg_kept, ArgsFine}
 use Rattle.cw_gen.proofs.Texts.{expr_code, args_code}
 use Rattle.cw_gen.proofs.Codes.{arg_code, array_code}
-use Rattle.cw_gen.proofs.Rows.{CutsOpen, slot_is_full, array_is_full}
+use Rattle.cw_gen.proofs.EmptySlots.{CutsOpen, slot_is_full, array_is_full}
 use Rattle.cw_gen.proofs.Shapes.{Opened, Shapes, arg_shapes, after_arg, args_after, expr_shapes, args_shapes, expr_as_many, args_as_many}
 use Rattle.cw_gen.proofs.Settings.{Setting, StandsAt, stands_front, stands_back, exact, table, size, HasRoom, FitsAt, AllFit, both_fit, made}
 

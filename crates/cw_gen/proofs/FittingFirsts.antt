@@ -7,12 +7,12 @@ use Rattle.cw_model.specs.Typing.{Returns, Nowhere, WithInt, Alone, block_return
 use Rattle.cw_model.specs.Ownership.{Taken, without, own_names, where_it_goes_on}
 use Rattle.cw_tree.specs.Resolved.{Locals, locals_after}
 use Rattle.cw_code.specs.Fits.{FlowsInto}
-use Rattle.cw_gen.proofs.Held.{held_after, held_after_all}
+use Rattle.cw_gen.proofs.HeldNames.{held_after, held_after_all}
 use Rattle.cw_gen.proofs.Fine.{ExprFine, ArgsFine, ReturnFine, StmtFine, BlockFine}
 use Rattle.cw_gen.proofs.Takens.{holds, holds_before}
 use Rattle.cw_gen.proofs.Frozen.{frozen_of, frozen_both}
 use Rattle.cw_gen.proofs.Texts.{args_code, block_code}
-use Rattle.cw_gen.proofs.Rows.{over_more, CutsOpen}
+use Rattle.cw_gen.proofs.EmptySlots.{over_more, CutsOpen}
 use Rattle.cw_gen.proofs.CutsKept.{cuts_next, cuts_more}
 use Rattle.cw_gen.proofs.Shapes.{Opened, depth_in, Shapes, args_after, expr_shapes, args_shapes, end_shape, stmt_shapes, block_shapes, args_as_many}
 use Rattle.cw_gen.proofs.Settings.{Setting, StandsAt, stands_back, exact, takes_less, Returning, tables, first, table, size, HasRoom, made}

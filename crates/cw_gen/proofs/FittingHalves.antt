@@ -15,11 +15,11 @@ use Rattle.cw_code.specs.Run.{slots_named, passed_by}
 use Rattle.cw_code.specs.Fits.{params_of, names_passed, names_lent, has_arrays, has_arguments, frozen_rows, none_frozen, with_passed, leaves, Covers, CoversEach, FlowsInto}
 use Rattle.cw_code.specs.lemmas.Slots.{covers_itself, each_covers_itself}
 use Rattle.cw_gen.specs.Emit.{half_of}
-use Rattle.cw_gen.proofs.Held.{held_after}
+use Rattle.cw_gen.proofs.HeldNames.{held_after}
 use Rattle.cw_gen.proofs.Marked.{numbers_at}
 use Rattle.cw_gen.proofs.Frozen.{frozen_of}
 use Rattle.cw_gen.proofs.Fine.{AllWritable, StmtFine}
-use Rattle.cw_gen.proofs.Rows.{row, array_row, row_more, outers, CutsOpen}
+use Rattle.cw_gen.proofs.EmptySlots.{row, array_row, row_more, outers, CutsOpen}
 use Rattle.cw_gen.proofs.Passing.{slots_for, writable_args, passed_slots, as_many_arrays}
 use Rattle.cw_gen.proofs.Shapes.{Opened, depth_in, args_after}
 use Rattle.cw_gen.proofs.Settings.{Setting, takes_less, tables, first, table, size, HasRoom, FitsAt, made}

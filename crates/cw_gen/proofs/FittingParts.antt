@@ -17,11 +17,11 @@ use Rattle.cw_code.specs.Code.{reducer_names}
 use Rattle.cw_code.specs.Fits.{names_tag, Shape, has_slot, none_open, leaves, FlowsInto}
 use Rattle.cw_code.specs.lemmas.Slots.{covers_itself, each_covers_itself}
 use Rattle.cw_gen.specs.Emit.{distance, past}
-use Rattle.cw_gen.proofs.Held.{held_after_all}
+use Rattle.cw_gen.proofs.HeldNames.{held_after_all}
 use Rattle.cw_gen.proofs.Fine.{ExprFine, ReturnFine, IsListed, BlockFine, EndsFree}
 use Rattle.cw_gen.proofs.Texts.{expr_code, block_code}
 use Rattle.cw_gen.proofs.Frozen.{frozen_of}
-use Rattle.cw_gen.proofs.Rows.{row, array_row, length-row, length_array_row, covers_none, outers, Over, CutsOpen}
+use Rattle.cw_gen.proofs.EmptySlots.{row, array_row, length-row, length_array_row, covers_none, outers, Over, CutsOpen}
 use Rattle.cw_gen.proofs.Shapes.{Opened, depth_in, expr_shapes, reached, end_shape, block_shapes, block_as_many}
 use Rattle.cw_gen.proofs.Settings.{Setting, StandsAt, stands_front, stands_back, exact, takes_less, Returning, tables, first, table, size, HasRoom, FitsAt, AllFit, both_fit, lies, made}
 use Rattle.cw_gen.proofs.FittingExprs.{valued_fits}

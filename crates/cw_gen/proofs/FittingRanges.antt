@@ -19,7 +19,7 @@ use Rattle.cw_gen.proofs.Marked.{owned, numbers_at}
 use Rattle.cw_gen.proofs.MarkedParams.{params_owned}
 use Rattle.cw_gen.proofs.Frozen.{frozen_of}
 use Rattle.cw_gen.proofs.Texts.{expr_code, stmt_code, taken_params}
-use Rattle.cw_gen.proofs.Rows.{array_row, outers, over_itself, CutsOpen, slot_is_full}
+use Rattle.cw_gen.proofs.EmptySlots.{array_row, outers, over_itself, CutsOpen, slot_is_full}
 use Rattle.cw_gen.proofs.Passing.{slots_for}
 use Rattle.cw_gen.proofs.Shapes.{range_shapes, loads_shapes, loads_after, loads_as_many, Opened, depth_in, Shapes, expr_shapes, expr_as_many}
 use Rattle.cw_gen.proofs.Settings.{Setting, StandsAt, stands_front, stands_back, exact, takes_less, tables, first, table, size, HasRoom, FitsAt, AllFit, both_fit, made}

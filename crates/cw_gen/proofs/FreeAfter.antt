@@ -23,7 +23,7 @@ use Rattle.cw_loops.specs.SourceLike.{is_source_expr, is_source_target, is_sourc
 use Rattle.cw_loops.specs.lemmas.Knowing.{known_array_more}
 use Rattle.cw_loops.specs.lemmas.Declaring.{CutKept, cut_kept}
 use Rattle.cw_loops.specs.lemmas.Seeing.{SameKnown, after_known, CallKept, call_kept}
-use Rattle.cw_gen.proofs.Held.{held_after, held_after_all}
+use Rattle.cw_gen.proofs.HeldNames.{held_after, held_after_all}
 use Rattle.cw_gen.proofs.FreeTexts.{returns_same, own_same, given_same, lent_same}
 use Rattle.cw_gen.proofs.FreeMembers.{in_append, in_left, in_contains, contains_in, either_way}
 use Rattle.cw_gen.proofs.FreeStays.{for_keeps}

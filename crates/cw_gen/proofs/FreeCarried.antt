@@ -4,7 +4,7 @@ use Rattle.std.proofs.Common.{◌≡◌, ℕ, ◌+◌, ◌≤◌, ◌==◌, List
 use Rattle.std.specs.Prelude.{map, not, if◌then◌else◌, Option, Some, None}
 use Rattle.std.specs.List.{list_all}
 use Rattle.std.proofs.lemmas.Bool.{eq-eqb, eqb-true, and_parts}
-use Rattle.cw_facts.specs.Tests.{not_true, told, yes_is, no_is, Told, never, refuted, either_left, either_right}
+use Rattle.cw_facts.specs.Tests.{not_true, told, yes_is, no_is, TrueOrFalse, never, refuted, either_left, either_right}
 use Rattle.cw_model.specs.Syntax.{is_written_kind, is_const_kind, Name, Expr, Variable, Stmt, Declare, DeclareArray, Block, Then, Param, Function}
 use Rattle.cw_model.specs.Names.{is_among}
 use Rattle.cw_model.specs.Meaning.{function_named}
@@ -69,7 +69,7 @@ not_last d depth n h = cases (told (d == depth + 1))
     other : d ≡ depth + 1 → ⊥
     other e = true≢false (sym (eq-eqb d (depth + 1) e) ∙ n)
 
-    cases : Told (d == depth + 1) → d ≤ depth
+    cases : TrueOrFalse (d == depth + 1) → d ≤ depth
     cases (yes_is e) = absurd (true≢false (sym e ∙ n))
     cases (no_is e) = omega (arith, h, other)
 

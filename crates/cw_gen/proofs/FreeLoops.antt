@@ -14,7 +14,7 @@ use Rattle.cw_loops.specs.Lowered.{is_plain, low, high, middle, left_part, right
 use Rattle.cw_loops.specs.Lowered.{leaf_block, left_arguments, right_arguments, both_halves, in_cuts, node_block, loop_function}
 use Rattle.cw_loops.specs.lemmas.Apart.{plain_apart, not_later}
 use Rattle.cw_loops.specs.lemmas.Naming.{Placed, at_front, after_it, placed}
-use Rattle.cw_gen.proofs.Held.{held_after, held_after_all}
+use Rattle.cw_gen.proofs.HeldNames.{held_after, held_after_all}
 use Rattle.cw_gen.proofs.Fine.{EndsFree}
 use Rattle.cw_gen.proofs.Kept.{ExprsFree, BlockFree}
 use Rattle.cw_gen.proofs.FreeTexts.{free_all, free_one, loose_all}

@@ -12,7 +12,7 @@ use Rattle.cw_model.specs.Names.{same_name, is_among}
 use Rattle.cw_model.specs.Typing.{block_returns}
 use Rattle.cw_model.specs.Ownership.{Holder, SpawnIn, ReaderIn, CutOf, Taken, is_reader, is_taken, is_held, is_spawn_in, is_cut_of}
 use Rattle.cw_model.specs.Ownership.{freed, without, taken_by, own_names, where_it_goes_on, target_names, given, lent}
-use Rattle.cw_gen.proofs.Held.{held_after, held_after_all}
+use Rattle.cw_gen.proofs.HeldNames.{held_after, held_after_all}
 
 -- the list contains this element
 abbrev pub In : (Name × Holder) → Taken → Type 0

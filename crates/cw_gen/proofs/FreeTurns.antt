@@ -7,7 +7,7 @@ use Rattle.cw_model.specs.Typing.{block_returns}
 use Rattle.cw_model.specs.Ownership.{Taken, CutOf, freed, cut_ended, without, own_names, where_it_goes_on, taken_after, taken_after_all, IsLeastClosed}
 use Rattle.cw_model.specs.WhileLaw.{one_turn, WhilesAreLeast}
 use Rattle.cw_loops.specs.Lowered.{lowered}
-use Rattle.cw_gen.proofs.Held.{held_after, held_after_all, held_turn, has_no_half, has_no_half_in}
+use Rattle.cw_gen.proofs.HeldNames.{held_after, held_after_all, held_turn, has_no_half, has_no_half_in}
 use Rattle.cw_gen.proofs.Texts.{TurnsClose}
 
 mutual

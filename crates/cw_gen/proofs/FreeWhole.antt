@@ -31,7 +31,7 @@ use Rattle.cw_loops.specs.lemmas.Declaring.{HeadKept, head_kept, CutKept, cut_ke
 use Rattle.cw_loops.specs.lemmas.Seeing.{SameKnown, after_known, call_kept, Seen, Home, declared_there, known_before, home, block_seen}
 use Rattle.cw_loops.specs.lemmas.Heads.{parameters_known, head_of, heads_kept}
 use Rattle.cw_loops.specs.lemmas.Finding.{Found, found_left, found_right, all_found, params_same}
-use Rattle.cw_gen.proofs.Held.{held_after, held_after_all}
+use Rattle.cw_gen.proofs.HeldNames.{held_after, held_after_all}
 use Rattle.cw_gen.proofs.Fine.{EndsFree}
 use Rattle.cw_gen.proofs.Kept.{ExprsFree, StmtFree, BlockFree, AllFree}
 use Rattle.cw_gen.proofs.Takens.{ends_free, loose_free}

@@ -7,7 +7,7 @@ use Rattle.cw_model.specs.Meaning.{function_named}
 use Rattle.cw_model.specs.Typing.{Returns, Nowhere, WithInt, Alone, block_returns}
 use Rattle.cw_model.specs.Ownership.{Taken, CutOf, is_taken, is_held, given, lent, own_names, names_in, target_names, Joins, Leaves, are_free, are_loose}
 use Rattle.cw_tree.specs.Resolved.{Locals, with_array, locals_after, locals_of}
-use Rattle.cw_gen.proofs.Held.{held_after, has_no_half_in}
+use Rattle.cw_gen.proofs.HeldNames.{held_after, has_no_half_in}
 use Rattle.cw_gen.proofs.Fine.{marks_for, NotBoth, NoArray, Begins, FreeAtEnd, EndsFree, is_function, TakesRange}
 
 -- an expression uses known integers and arrays

@@ -22,7 +22,7 @@ use Rattle.cw_loops.specs.lemmas.Apart.{plain_apart}
 use Rattle.cw_loops.specs.lemmas.Naming.{among_left, among_right, Placed, at_front, after_it, placed, none_among}
 use Rattle.cw_loops.specs.lemmas.Knowing.{not_both}
 use Rattle.cw_loops.specs.lemmas.Capturing.{each_captured, each_sliced}
-use Rattle.cw_gen.proofs.Held.{has_no_half_in}
+use Rattle.cw_gen.proofs.HeldNames.{has_no_half_in}
 use Rattle.cw_gen.proofs.Fine.{Begins, marks_for}
 use Rattle.cw_gen.proofs.Kept.{ArgsKnown, StmtKnown, BlockKnown, FunctionKnown, AllFunctionsKnown}
 use Rattle.cw_gen.proofs.KnownNames.{past, differ_join}

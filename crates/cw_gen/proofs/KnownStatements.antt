@@ -24,7 +24,7 @@ use Rattle.cw_loops.specs.Lowerable.{new_arrays, can_capture, can_slice, can_loo
 use Rattle.cw_loops.specs.lemmas.Naming.{none_among}
 use Rattle.cw_loops.specs.lemmas.Declaring.{same_after}
 use Rattle.cw_gen.proofs.Ordered.{range_order}
-use Rattle.cw_gen.proofs.Held.{has_no_half, has_no_half_in}
+use Rattle.cw_gen.proofs.HeldNames.{has_no_half, has_no_half_in}
 use Rattle.cw_gen.proofs.Fine.{Begins, TakesRange, is_function}
 use Rattle.cw_gen.proofs.Kept.{ArgsKnown, TargetKnown, StmtKnown, BlockKnown}
 use Rattle.cw_gen.proofs.KnownNames.{past}

@@ -18,7 +18,7 @@ use Rattle.cw_code.specs.Code.{Code, reducer_names}
 use Rattle.cw_code.specs.Run.{synced, settled, full}
 use Rattle.cw_code.specs.lemmas.Runs.{joined_quiet}
 use Rattle.cw_gen.specs.Emit.{most_jump, first_list, emitted_end}
-use Rattle.cw_gen.proofs.Held.{held_after_all}
+use Rattle.cw_gen.proofs.HeldNames.{held_after_all}
 use Rattle.cw_gen.proofs.Marked.{owned, told_at}
 use Rattle.cw_gen.proofs.Fine.{Begins, marks_for}
 use Rattle.cw_gen.proofs.Traces.{resume, resume_then}

@@ -1,11 +1,11 @@
 pub mod Frozen
 pub mod Places
-pub mod Held
+pub mod HeldNames
 pub mod Marked
 pub mod Fine
 pub mod Ordered
 pub mod PlacesTold
-pub mod Told
+pub mod TextAgreement
 pub mod Kept
 pub mod Texts
 pub mod Takens
@@ -58,7 +58,7 @@ pub mod Bodies
 pub mod StatementRuns
 pub mod Laws
 pub mod Program
-pub mod Rows
+pub mod EmptySlots
 pub mod CutsKept
 pub mod Shapes
 pub mod Counts

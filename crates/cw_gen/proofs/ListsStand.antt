@@ -21,7 +21,7 @@ use Rattle.cw_loops.specs.lemmas.Apart.{apart_plain}
 use Rattle.cw_loops.specs.lemmas.Numbering.{Made, count_of, made_functions, count_stays, numbered_slot}
 use Rattle.cw_gen.specs.Emit.{Tables, first_list, most_jump, whole_list, half_list, emitted_sites_of, no_lists}
 use Rattle.cw_gen.proofs.Texts.{tables_in, code_of}
-use Rattle.cw_gen.proofs.Told.{PassesStmt, PassesBlock, AllPass}
+use Rattle.cw_gen.proofs.TextAgreement.{PassesStmt, PassesBlock, AllPass}
 use Rattle.cw_code.specs.declared.code.Loan.{Loan}
 use Rattle.cw_gen.specs.Marks.{Marks}
 use Rattle.cw_gen.proofs.Fine.{marks_for}

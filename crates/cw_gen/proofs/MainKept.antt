@@ -26,7 +26,7 @@ use Rattle.cw_gen.proofs.Rules.{function_there}
 use Rattle.cw_gen.proofs.Texts.{code_of, tables_in}
 use Rattle.cw_gen.proofs.KnownLowered.{functions_own}
 use Rattle.cw_gen.proofs.Together.{functions_fine}
-use Rattle.cw_gen.proofs.Told.{AllPass}
+use Rattle.cw_gen.proofs.TextAgreement.{AllPass}
 
 -- main returns an integer and takes integers
 record MainFine (fs : List Function) : Type 0 where

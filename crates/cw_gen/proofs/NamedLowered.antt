@@ -14,7 +14,7 @@ use Rattle.cw_loops.specs.LoweringLaws.{IsOwnedSource}
 use Rattle.cw_loops.specs.Slotted.{lowered_lists}
 use Rattle.cw_loops.specs.lemmas.Numbering.{names_stay}
 use Rattle.cw_gen.specs.Emit.{Tables}
-use Rattle.cw_gen.proofs.Told.{ListedStmt, ListedBlock, AllListed}
+use Rattle.cw_gen.proofs.TextAgreement.{ListedStmt, ListedBlock, AllListed}
 use Rattle.cw_gen.proofs.NamedSource.{NamedStmt, NamedBlock, AllNamed, source_named}
 use Rattle.cw_gen.proofs.SourceSites.{sites_stand}
 use Rattle.cw_gen.proofs.Texts.{code_of, tables_in}

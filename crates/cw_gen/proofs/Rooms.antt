@@ -7,7 +7,7 @@ use Rattle.cw_loops.specs.Slotted as slotted
 use Rattle.cw_loops.specs.Slotted.{slotted_stmt, slotted_block}
 use Rattle.cw_gen.specs.Emit.{ints_in, ints_in_block, arrays_in, arrays_in_block}
 use Rattle.cw_gen.proofs.Fine.{Room, room_of}
-use Rattle.cw_gen.proofs.Told.{RoomStmt, RoomBlock, AllHaveRooms}
+use Rattle.cw_gen.proofs.TextAgreement.{RoomStmt, RoomBlock, AllHaveRooms}
 
 mutual
   -- a statement does not decrease the number of slots

@@ -15,7 +15,7 @@ use Rattle.cw_gen.specs.Marks.{Marks, readers_in}
 use Rattle.cw_gen.proofs.Fine.{Room}
 use Rattle.cw_gen.proofs.Texts as texts
 use Rattle.cw_gen.proofs.Texts.{tables_in, TurnsClose}
-use Rattle.cw_gen.proofs.Rows.{Over, over_itself, over_after}
+use Rattle.cw_gen.proofs.EmptySlots.{Over, over_itself, over_after}
 use Rattle.cw_gen.proofs.Shapes.{Opened, shape_at, Shapes}
 
 -- the list has these shapes from a place on

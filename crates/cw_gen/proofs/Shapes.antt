@@ -12,14 +12,14 @@ use Rattle.cw_code.specs.declared.code.Instr.TheVariants as instr
 use Rattle.cw_code.specs.Fits.{Shape}
 use Rattle.cw_gen.specs.Emit as emit
 use Rattle.cw_gen.specs.Emit.{Tables, first_list, past, emitted_over, emitted_arg, emitted_loads}
-use Rattle.cw_gen.proofs.Held.{held_after, held_after_all}
+use Rattle.cw_gen.proofs.HeldNames.{held_after, held_after_all}
 use Rattle.cw_gen.specs.Marks.{Marks}
 use Rattle.cw_gen.proofs.Fine.{Room, ArgKept, arg_kept, ArgsFine, StmtFine, BlockFine}
 use Rattle.cw_gen.proofs.Scopes.{locals_after_all}
 use Rattle.cw_gen.proofs.Texts.{expr_code, args_code, stmt_code, block_code}
 use Rattle.cw_gen.proofs.Codes.{arg_code, array_code}
-use Rattle.cw_gen.proofs.Rows.{halves_at}
-pub use Rattle.cw_gen.proofs.Rows.{Opened, depth_in, shape_at}
+use Rattle.cw_gen.proofs.EmptySlots.{halves_at}
+pub use Rattle.cw_gen.proofs.EmptySlots.{Opened, depth_in, shape_at}
 
 abbrev pub Shapes : Type 0
 Shapes = List (Option Shape)

@@ -27,7 +27,7 @@ use Rattle.cw_code.specs.Code.{Code, reducer_names}
 use Rattle.cw_code.specs.Run.{Around, State, On, RunOutcome, ticked, synced, on_slot, set_array, is_full, settled, slots_named, loans_named, opened_region, adds, steps}
 use Rattle.cw_code.specs.lemmas.Runs.{joined_joined, joined_quiet}
 use Rattle.cw_gen.specs.Emit.{most_jump, distance, first_list, callee_of, half_of, halves_at, past}
-use Rattle.cw_gen.proofs.Held.{held_after, held_after_all}
+use Rattle.cw_gen.proofs.HeldNames.{held_after, held_after_all}
 use Rattle.cw_gen.proofs.Fine.{ExprFine, ReturnFine, IsListed, Room, StmtFine, BlockFine}
 use Rattle.cw_gen.proofs.Traces.{resume, resume_then}
 use Rattle.cw_gen.proofs.Places.{HasAt, has_front, has_back, length_within}

@@ -12,7 +12,7 @@ use Rattle.cw_code.specs.declared.code.Func.{Func}
 use Rattle.cw_code.specs.declared.code.Instr.{Instr}
 use Rattle.cw_code.specs.Code.{Code}
 use Rattle.cw_gen.specs.Emit.{Tables, first_list, emitted_expr, emitted_args, emitted_stmt, emitted_block, emitted_end, emitted}
-use Rattle.cw_gen.proofs.Held.{held_after, held_turn, has_no_half_in}
+use Rattle.cw_gen.proofs.HeldNames.{held_after, held_turn, has_no_half_in}
 use Rattle.cw_gen.specs.Marks.{Marks, readers_in}
 use Rattle.cw_gen.proofs.Fine.{Room, BlockFine, is_function, marks_for}
 use Rattle.cw_gen.proofs.Places.{HasAt}

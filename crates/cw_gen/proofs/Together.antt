@@ -18,12 +18,12 @@ use Rattle.cw_loops.specs.lemmas.Naming.{among_left, among_right}
 use Rattle.cw_model.specs.declared.syntax.NameKind.{NameKind}
 use Rattle.cw_model.specs.declared.syntax.NameKind.TheVariants as name_kind
 use Rattle.cw_model.specs.Names.{is_among}
-use Rattle.cw_gen.proofs.Held.{held_after}
+use Rattle.cw_gen.proofs.HeldNames.{held_after}
 use Rattle.cw_gen.proofs.Fine.{marks_for, IsWritable, AllWritable, IsPassed, ExprFine, ArgFine, ArgsFine, TargetFine, ReturnFine}
 use Rattle.cw_gen.proofs.Fine.{AllUsable, Room, room_of, StmtFine, BlockFine, FunctionFine, FunctionsFine}
 use Rattle.cw_gen.proofs.Kept.{ExprKnown, ArgKnown, ArgsKnown, TargetKnown, ReturnKnown, AllKnown, StmtKnown, BlockKnown}
 use Rattle.cw_gen.proofs.Kept.{FunctionKnown, AllFunctionsKnown, ExprsFree, ReturnFree, StmtFree, BlockFree, AllFree}
-use Rattle.cw_gen.proofs.Told.{PassesStmt, PassesBlock, AllPass, RoomStmt, RoomBlock, HasRooms, AllHaveRooms, ListedStmt, ListedBlock, AllListed}
+use Rattle.cw_gen.proofs.TextAgreement.{PassesStmt, PassesBlock, AllPass, RoomStmt, RoomBlock, HasRooms, AllHaveRooms, ListedStmt, ListedBlock, AllListed}
 
 free_one : (taken : Taken) (x : Name) (xs : List Name) → are_free taken (x ∷ xs) ≡ true → is_taken taken x ≡ false
 free_one taken x xs h = test (is_taken taken x) h

@@ -10,3 +10,8 @@ mod Slots
 mod Progress
 mod Ranks
 mod Rounds
+pub mod Merged
+pub mod Moves
+pub mod Normals
+pub mod Recordings
+pub mod Starting

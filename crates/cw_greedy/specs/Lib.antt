@@ -12,4 +12,9 @@ pub mod Blocks
 pub mod Counts
 pub mod Slots
 pub mod Rounds
+pub mod Merging
+pub mod Normal
+pub mod Origins
+pub mod Recording
+pub mod Runs
 pub mod lemmas

@@ -13,7 +13,7 @@ use Rattle.cw_code.specs.Run.{full, slots_of, arrays_of, first_state}
 use Rattle.cw_code.specs.Fits.{params_of, array_params_of, readers_of, gives_value, main_params}
 use Rattle.cw_meter.specs.Details.{IsLight}
 use Rattle.cw_runnable.specs.declared.verified.Verified.{Verified}
-use Rattle.cw_strand_laws.specs.Jobs.{root_job}
+use Rattle.cw_code.specs.Jobs.{root_job}
 use Rattle.cw_jobs.specs.declared.call.Extent.TheVariants as extent
 use Rattle.cw_jobs.specs.declared.call.Parts.{Parts}
 use Rattle.cw_jobs.specs.declared.call.Rest.{Rest}

@@ -1,7 +1,7 @@
 -- A job that is given up.
 use Rattle.std.proofs.Common.{refl}
 use Rattle.cw_runnable.specs.declared.verified.Verified.{Verified}
-use Rattle.cw_strand_laws.specs.Jobs.{Job, Memory, Short}
+use Rattle.cw_code.specs.Jobs.{Job, Memory, Short}
 use Rattle.cw_jobs.specs.declared.call.Parts.{Parts}
 use Rattle.cw_jobs.specs.declared.effect.Effect.TheVariants as effect
 use Rattle.cw_jobs.specs.Jobs.{Ok}

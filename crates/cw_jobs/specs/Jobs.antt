@@ -19,8 +19,8 @@ use Rattle.cw_meter.specs.declared.detail.Detail.{Detail}
 use Rattle.cw_meter.specs.declared.detail.Detail.TheVariants.{Measures}
 use Rattle.cw_meter.specs.Details.{IsLight}
 use Rattle.cw_meter.specs.Origins.{Origin, Main, Rest}
-use Rattle.cw_strand_laws.specs.Jobs.{Extent, WholeCall, ToJoin, Job, job_start, root_job}
-use Rattle.cw_strand_laws.specs.Over.{under}
+use Rattle.cw_code.specs.Jobs.{Extent, WholeCall, ToJoin, Job, job_start, root_job}
+use Rattle.cw_code.specs.Over.{under}
 use Rattle.cw_jobs.specs.declared.call.Extent as declared
 use Rattle.cw_jobs.specs.declared.call.Extent.TheVariants as extent
 use Rattle.cw_jobs.specs.declared.call.Parts.{Parts}

@@ -6,11 +6,11 @@ use Rattle.cw_runnable.specs.declared.verified.Verified.{Verified}
 use Rattle.cw_meter.specs.declared.detail.Detail.{Detail}
 use Rattle.cw_meter.specs.Origins.{Main}
 use Rattle.cw_meter.specs.Meters.{Meters}
-use Rattle.cw_strand_laws.specs.Jobs as jobs
-use Rattle.cw_meter_laws.specs.Opens.{Gauge, whole}
-use Rattle.cw_meter_laws.specs.Strands.{CountsEffect}
+use Rattle.cw_code.specs.Jobs as jobs
+use Rattle.cw_jobs.specs.Opens.{Gauge, whole}
+use Rattle.cw_jobs.specs.Strands.{CountsEffect}
 use Rattle.cw_jobs.specs.declared.call.Parts.{Parts}
-use Rattle.cw_jobs.specs.declared.effect.Shown.{Shown}
+use Rattle.cw_jobs.specs.declared.effect.PieceOutput.{PieceOutput}
 use Rattle.cw_jobs.specs.declared.call.Rest.{Rest}
 use Rattle.cw_jobs.specs.declared.effect.Effect.{Effect}
 use Rattle.cw_jobs.specs.declared.effect.Effect.TheVariants as effect
@@ -20,7 +20,7 @@ use Rattle.cw_jobs.specs.Jobs.{Ok, code_of, IsJob, KeepsHomes, KeepsEmpty, Keeps
 use Rattle.cw_jobs.specs.Totals.{HoldsTotals}
 
 -- a run has printed these lines and counted these totals, in `count` instructions
-pub record HasShown (code : Code) (shown : Shown) (t : Trace) (count : ℕ) : Type 0 where
+pub record HasShown (code : Code) (shown : PieceOutput) (t : Trace) (count : ℕ) : Type 0 where
   pub cost : shown.cost ≡ count
   pub lines : shown.lines.items ≡ t.lines
   pub totals : HoldsTotals code shown.totals.items t.updates

@@ -9,7 +9,7 @@ use std::collections::VecDeque;
 
 /// The lines that a run has printed, and its totals, meter and cost.
 #[derive(Drop)]
-pub struct Shown {
+pub struct PieceOutput {
     /// The values printed, in order.
     pub lines: VecDeque<i64>,
     /// The total of each reducer.
@@ -27,14 +27,14 @@ pub enum Effect {
     /// The call has ended, with its value if it returns one.
     Ended {
         value: Option<i64>,
-        shown: Shown,
+        shown: PieceOutput,
     },
     /// The run is at the join of the block in which it began. If a new array was made in a slot of the job,
     /// `replaced` holds the job's own array.
     Joined {
         frame: Rest,
         replaced: Vec<Option<Slice>>,
-        shown: Shown,
+        shown: PieceOutput,
     },
     /// A trap, with its line, what was printed before, and the number of instructions up to it.
     Trapped {

@@ -4,7 +4,7 @@ use Rattle.std.proofs.lemmas.List.{get_or-drop}
 use Rattle.cw_model.specs.Text.{line_at}
 use Rattle.cw_model.specs.declared.token.Token.{Token}
 use Rattle.cw_model.specs.declared.token.Kind.{Kind}
-use Rattle.cw_reasons.specs.declared.reasons.At.{At}
+use Rattle.cw_text.specs.declared.reasons.At.{At}
 use Rattle.cw_lex.specs.declared.front.Front.TheVariants as front
 use Rattle.cw_lex.specs.declared.reason.Uncut.{Uncut}
 use Rattle.cw_lex.specs.Front.{IsFront}

@@ -3,7 +3,7 @@ use Rattle.std.proofs.Common.{ℕ, ◌<◌, ◌≤◌, List, length, get_or, dro
 use Rattle.std.proofs.lemmas.Grind.{get_or_default_zero}
 use Rattle.cw_model.specs.Text.{IsAscii, IsSourceText}
 use Rattle.cw_model.specs.Tokens.{FaultAt}
-use Rattle.cw_reasons.specs.declared.reasons.At.{At}
+use Rattle.cw_text.specs.declared.reasons.At.{At}
 use Rattle.cw_lex.specs.declared.reason.Uncut.{Uncut}
 use Rattle.cw_lex.specs.declared.reason.Uncut.TheVariants as reason
 use Rattle.cw_lex.specs.Faults.{HasNoCut}

@@ -2,7 +2,7 @@
 use Rattle.std.specs.Prelude.{◌≡◌, ℕ, ◌<◌, ◌≤◌, List, [], ◌∷◌, length, All, ◌⊎◌}
 use Rattle.cw_model.specs.declared.token.Token.{Token}
 use Rattle.cw_model.specs.Tokens.{IsTokenCut, HasLexicalFault, HasNameFault}
-use Rattle.cw_reasons.specs.declared.reasons.At.{At}
+use Rattle.cw_text.specs.declared.reasons.At.{At}
 use Rattle.cw_lex.specs.declared.reason.Uncut.{Uncut}
 use Rattle.cw_lex.specs.declared.reason.Uncut.TheVariants as reason
 use Rattle.cw_lex.specs.Uncut.{IsRefused, IsUncut, fault_of}

@@ -3,7 +3,7 @@ use Rattle.std.specs.Prelude.{◌≡◌, ℕ, List, length, take, slice_index, �
 use Rattle.cw_model.specs.declared.token.Token.{Token}
 use Rattle.cw_model.specs.Text.{IsSourceText, IsTooLong, IsNotAscii}
 use Rattle.cw_model.specs.Tokens.{IsTokenCut, StartsNothing, HasLargeNumber, HasLongName, FaultAt}
-use Rattle.cw_reasons.specs.declared.reasons.At.{At}
+use Rattle.cw_text.specs.declared.reasons.At.{At}
 use Rattle.cw_text.specs.declared.fault.Fault.{Fault}
 use Rattle.cw_text.specs.declared.fault.Fault.TheVariants as fault
 use Rattle.cw_text.specs.Sources.{IsNoSource}

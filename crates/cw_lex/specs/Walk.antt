@@ -3,7 +3,7 @@ use Rattle.std.specs.Prelude.{◌≡◌, ℕ, ◌<◌, ◌≤◌, List, length, 
 use Rattle.cw_model.specs.declared.token.Token.{Token}
 use Rattle.cw_model.specs.Text.{line_at}
 use Rattle.cw_model.specs.Tokens.{IsGap, IsToken}
-use Rattle.cw_reasons.specs.declared.reasons.At.{At}
+use Rattle.cw_text.specs.declared.reasons.At.{At}
 use Rattle.cw_lex.specs.declared.reason.Uncut.{Uncut}
 use Rattle.cw_lex.specs.declared.walk.Next.{Next}
 use Rattle.cw_lex.specs.declared.walk.Next.TheVariants as next

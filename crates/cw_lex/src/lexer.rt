@@ -9,8 +9,7 @@ use crate::reason::{Uncut, fault_of};
 use crate::walk::{Next, next_in};
 use cw_model::limits::MOST_SOURCE_BYTES;
 use cw_model::token::Token;
-use cw_reasons::At;
-use cw_text::{Fault, Source};
+use cw_text::{At, Fault, Source};
 use std::alloc::Global;
 
 /// Returns the tokens of a source: at each place the longest token that begins there, with its kind, its bytes and

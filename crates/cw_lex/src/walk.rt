@@ -9,7 +9,7 @@ ghost use Rattle.cw_lex.specs.Walk.{IsNext};
 use crate::front::{Front, front_of};
 use crate::reason::Uncut;
 use cw_model::token::Token;
-use cw_reasons::At;
+use cw_text::At;
 
 /// Represents the next part of a text after separators and comments.
 #[derive(Clone, Copy)]

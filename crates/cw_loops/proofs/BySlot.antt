@@ -5,7 +5,7 @@ use Rattle.std.specs.List.{list_all}
 use Rattle.std.proofs.lemmas.Bool.Decides.{nat_tests}
 use Rattle.std.proofs.lemmas.List.{map-append, length-map}
 use Rattle.std.proofs.lemmas.Bool.{and_parts}
-use Rattle.cw_facts.specs.Tests.{Told, yes_is, no_is, told, never, refuted, either_right}
+use Rattle.cw_facts.specs.Tests.{TrueOrFalse, yes_is, no_is, told, never, refuted, either_right}
 use Rattle.cw_model.specs.declared.syntax.CallKind.{CallKind}
 use Rattle.cw_model.specs.declared.syntax.Operator.TheVariants.{Minus}
 use Rattle.cw_model.specs.declared.syntax.NameKind.TheVariants as name_kind
@@ -172,7 +172,7 @@ known_more : (x : Name) (ints : List Name) (known : Known) → ((y : Name) → i
     → is_among y (ints ++ x ∷ []) ≡ true → is_int ((x, name_kind.Integer) ∷ known) y ≡ true
 known_more x ints known h y o = go (told (same_name y x)) (side y ints (x ∷ []) o)
   where
-    go : Told (same_name y x) → Side y ints (x ∷ []) → (if same_name y x then true else is_int known y) ≡ true
+    go : TrueOrFalse (same_name y x) → Side y ints (x ∷ []) → (if same_name y x then true else is_int known y) ≡ true
     go (yes_is e) p = ap (λ b. if b then true else is_int known y) e
     go (no_is e) (in_first p) = ap (λ b. if b then true else is_int known y) e ∙ h y p
     go (no_is e) (in_second p) = never (is_among y (x ∷ [])) p (ap (λ b. if b then true else false) e)
@@ -181,7 +181,7 @@ known_past : (a : Name) (ints : List Name) (known : Known) → is_int known a �
     → (y : Name) → is_among y ints ≡ true → is_int ((a, name_kind.Array) ∷ known) y ≡ true
 known_past a ints known new h y o = go (told (same_name y a))
   where
-    go : Told (same_name y a) → (if same_name y a then false else is_int known y) ≡ true
+    go : TrueOrFalse (same_name y a) → (if same_name y a then false else is_int known y) ≡ true
     go (yes_is e) = never (is_int known a) (ap (is_int known) (sym (same_are y a e)) ∙ h y o) new
     go (no_is e) = ap (λ b. if b then false else is_int known y) e ∙ h y o
 

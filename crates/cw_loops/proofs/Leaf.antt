@@ -66,7 +66,7 @@ module _ (x : Name) (plain : is_plain x ≡ true) (lo hi : ℤ) (cs : List (Name
   step_gives arrays i e = ap (λ v. also (Gives v 1) (Gives (pos 1) 1) (apply Plus)) (variable_is arrays i) ∙ ap (λ b. done_at 3 (if b then Value (i +ℤ pos 1) else Fails trap.Overflow)) e
 
 -- the end of an iteration in the source and in the function
-pub record Next (Near : Frame → List (Name × List ℤ) → Type 0) (turn : List (Name × List ℤ) → Frame) (frame : Frame) (way way' : Completion) : Type 0 where
+pub record NextIteration (Near : Frame → List (Name × List ℤ) → Type 0) (turn : List (Name × List ℤ) → Frame) (frame : Frame) (way way' : Completion) : Type 0 where
   pub arrays : List (Name × List ℤ)
   pub goes_on : way' ≡ Normal (turn arrays)
   pub near : Near (leave frame (frame_of way)) arrays
@@ -86,7 +86,7 @@ module _ (line : ℕ) (x : Name) (over : List Name) (b b' : Block) (fs fs' : Lis
   -- an iteration behaves in the same way in the source and in the function
   abbrev pub Turns : Type 0
   Turns = (j : ℕ) → j < n → (frame : Frame) (arrays : List (Name × List ℤ)) (given bound : ℕ) → given ≤ limit → given < bound → Near frame arrays →
-      Alike (Next Near (turn_of j) frame) given (run_all b fs calls (inside_loop over (new_int x (lo +ℤ pos j) frame)) given)
+      Alike (NextIteration Near (turn_of j) frame) given (run_all b fs calls (inside_loop over (new_int x (lo +ℤ pos j) frame)) given)
       (scoped (turn_of j arrays) (run_all b' fs' (call bound depth fs') (turn_of j arrays)) given)
 
   module _ (each : Turns) where

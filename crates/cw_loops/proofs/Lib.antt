@@ -27,7 +27,7 @@ mod CutStatement
 mod Sizes
 mod Counts
 mod Grains
-mod Rows
+mod BlockSequence
 mod Sameness
 mod Equal
 mod Views

@@ -2,7 +2,7 @@
 use Rattle.std.proofs.Common.{◌≡◌, ℕ, nat_lt, Bool, true, false, List, [], ◌∷◌, ◌++◌, length, map, arith, refl, sym, ◌∙◌, ap, subst, append_assoc, append-nil, drop}
 use Rattle.std.specs.Prelude.{if◌then◌else◌, nat_le, ◌==◌, not, ◌&&◌, ◌||◌, Some, None}
 use Rattle.std.proofs.lemmas.Bool.{and_parts}
-use Rattle.cw_facts.specs.Tests.{not_below, not_true, Told, yes_is, no_is, told, never}
+use Rattle.cw_facts.specs.Tests.{not_below, not_true, TrueOrFalse, yes_is, no_is, told, never}
 use Rattle.cw_model.specs.Syntax.{Name, Expr, Number, Variable, Element, Length, Negative, Not, Binary, Stmt, Declare, DeclareArray, Assign, AssignElement, Reduce}
 use Rattle.cw_model.specs.Syntax.{Call, Start, Begin, Sync, If, IfElse, While, For, Scope, Cut, Region, Print, Return, Block, End, Then, Param}
 use Rattle.cw_model.specs.Names.{same_name, is_among, new_names}
@@ -61,11 +61,11 @@ module _ (c : Surroundings) (ints0 arrays0 : List Name) (x : Name) (total declar
       by (in_first p) = never (is_among v (new_names total (x ∷ declared))) p not_taken
       by (in_second p) = alone (told (same_name v x))
         where
-          alone : Told (same_name v x) → is_among v before ≡ false
+          alone : TrueOrFalse (same_name v x) → is_among v before ≡ false
           alone (yes_is e) = ap (λ w. is_among w before) (same_are v x e) ∙ head.new
           alone (no_is e) = never (is_among v (x ∷ [])) p (ap (λ b. if b then true else false) e)
 
-      go : Told (is_among v (new_names total (x ∷ declared) ++ x ∷ [])) → is_among v before ≡ false
+      go : TrueOrFalse (is_among v (new_names total (x ∷ declared) ++ x ∷ [])) → is_among v before ≡ false
       go (yes_is e) = by (side v (new_names total (x ∷ declared)) (x ∷ []) e)
       go (no_is e) =
           (neither_among v before (x ∷ []) (not_true (is_among v (before ++ x ∷ [])) (and_parts (not (is_among v (before ++ x ∷ []))) _ (ap (λ b. b || can_write turn v) (sym e) ∙ r)).0)).0
@@ -81,7 +81,7 @@ module _ (c : Surroundings) (ints0 arrays0 : List Name) (x : Name) (total declar
           let e = ap (slot_of v) (append_assoc before (x ∷ []) ints) ∙ slot_past v before (x ∷ [] ++ ints) unknown in
           not_below (slot_of v ((before ++ x ∷ []) ++ ints)) (length before) (omega (arith, e))
 
-      go : Told (is_among v (new_names total (x ∷ declared))) → In (use_of (turn.outer ++ ints) v ∷ []) (v ∷ [])
+      go : TrueOrFalse (is_among v (new_names total (x ∷ declared))) → In (use_of (turn.outer ++ ints) v ∷ []) (v ∷ [])
       go (yes_is e) =
           let known = head.taken_known v e in
           subst (λ n. In (record { name = v; slot = n } ∷ []) (v ∷ [])) (sym (stays known)) (kept_match before (x ∷ declared) v known (new_are_there v total (x ∷ declared) e).1)
@@ -89,7 +89,7 @@ module _ (c : Surroundings) (ints0 arrays0 : List Name) (x : Name) (total declar
           own_match before (x ∷ declared) (use_of (turn.outer ++ ints) v) v (past (unknown_before v r e))
           (by (told (is_among v (x ∷ declared))))
         where
-          by : Told (is_among v (x ∷ declared)) → is_among v (x ∷ declared) ≡ true
+          by : TrueOrFalse (is_among v (x ∷ declared)) → is_among v (x ∷ declared) ≡ true
           by (yes_is o) = o
           by (no_is o) = never (is_among v (new_names total (x ∷ declared))) (new_are_all v total (x ∷ declared) there o) e
 

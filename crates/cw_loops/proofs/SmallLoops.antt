@@ -4,7 +4,7 @@ use Rattle.std.specs.Prelude.{if◌then◌else◌, nat_le, ◌&&◌}
 use Rattle.std.specs.List.{list_all}
 use Rattle.std.proofs.lemmas.List.{length-map, length_push}
 use Rattle.std.proofs.lemmas.Bool.{and_parts}
-use Rattle.cw_facts.specs.Tests.{le_of, Told, yes_is, no_is, told, never}
+use Rattle.cw_facts.specs.Tests.{le_of, TrueOrFalse, yes_is, no_is, told, never}
 use Rattle.cw_model.specs.declared.syntax.NameKind.{NameKind}
 use Rattle.cw_model.specs.declared.limits.TheConstants.{MOST_FUNCTIONS, MOST_GRAIN, MOST_LOOPS}
 use Rattle.cw_model.specs.Lines.{unless}
@@ -74,7 +74,7 @@ names_known known = map (λ k. k.0) known
 array_known : (known : Known) (a : Name) → is_array known a ≡ true → is_among a (names_known known) ≡ true
 array_known known a h = go (told (is_among a (names_known known)))
   where
-    go : Told (is_among a (names_known known)) → is_among a (names_known known) ≡ true
+    go : TrueOrFalse (is_among a (names_known known)) → is_among a (names_known known) ≡ true
     go (yes_is e) = e
     go (no_is e) = never (is_array known a) h (not_there is_array_kind known a e)
 

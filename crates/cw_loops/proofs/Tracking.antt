@@ -2,7 +2,7 @@
 use Rattle.std.proofs.Common.{◌≡◌, ℕ, suc, ◌+◌, ◌-◌, ◌≤◌, nat_lt, Bool, true, false, List, [], ◌∷◌, ◌++◌, length, map, arith, refl, sym, ◌∙◌, ap, append_assoc, length-append}
 use Rattle.std.specs.Prelude.{if◌then◌else◌, not, ◌&&◌, ◌||◌}
 use Rattle.std.proofs.lemmas.Bool.{and_parts}
-use Rattle.cw_facts.specs.Tests.{below, not_below, not_true, both_true, Told, yes_is, no_is, told, never, refuted}
+use Rattle.cw_facts.specs.Tests.{below, not_below, not_true, both_true, TrueOrFalse, yes_is, no_is, told, never, refuted}
 use Rattle.cw_model.specs.Syntax.{Name, Function}
 use Rattle.cw_model.specs.Names.{same_name, is_among, differ}
 use Rattle.cw_model.specs.lemmas.Names.{same_itself, same_are}
@@ -56,7 +56,7 @@ no_more (x ∷ xs) ys h all =
 pub slot_most : (x : Name) (names : List Name) → slot_of x names ≤ length names
 slot_most x names = go (told (is_among x names))
   where
-    go : Told (is_among x names) → slot_of x names ≤ length names
+    go : TrueOrFalse (is_among x names) → slot_of x names ≤ length names
     go (yes_is e) = let p = slot_in x names e in omega (arith, p)
     go (no_is e) = let p = slot_out x names e in omega (arith, p)
 
@@ -145,7 +145,7 @@ module _ (c : Surroundings) (ints0 arrays0 : List Name) (x : Name) (taken over :
       by (in_first p) = never (is_among v taken) p free
       by (in_second p) = last (placed v x [] p)
 
-      go : Told (is_among v (taken ++ x ∷ [])) → (is_among v before ≡ false) × (is_among v (low ∷ high ∷ taken) ≡ false)
+      go : TrueOrFalse (is_among v (taken ++ x ∷ [])) → (is_among v before ≡ false) × (is_among v (low ∷ high ∷ taken) ≡ false)
       go (yes_is e) = by (side v taken (x ∷ []) e)
       go (no_is e) =
           let w = and_parts (not (is_among v (before ++ x ∷ []))) (not (is_among v ((low ∷ high ∷ taken) ++ x ∷ []))) (ap (λ b. b || can_write turn v) (sym e) ∙ r) in (
@@ -165,7 +165,7 @@ module _ (c : Surroundings) (ints0 arrays0 : List Name) (x : Name) (taken over :
       ap (λ l. moved_int m (slot_of v l)) (append_assoc before (x ∷ []) ints) ∙ go (told (is_among v taken))
       ∙ ap (slot_of v) (sym (append_assoc (low ∷ high ∷ taken) (x ∷ []) ints))
     where
-      go : Told (is_among v taken) → moved_int m (slot_of v (before ++ x ∷ ints)) ≡ slot_of v ((low ∷ high ∷ taken) ++ x ∷ ints)
+      go : TrueOrFalse (is_among v taken) → moved_int m (slot_of v (before ++ x ∷ ints)) ≡ slot_of v ((low ∷ high ∷ taken) ++ x ∷ ints)
       go (yes_is e) = int_moved m before taken ints_before captured_are first_int v (x ∷ ints) (entered.taken_plain v e) (entered.taken_known v e) e (omega (arith, few_taken))
       go (no_is e) =
           let own = own_name v r e in

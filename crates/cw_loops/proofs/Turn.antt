@@ -21,7 +21,7 @@ use Rattle.cw_loops.proofs.Numbers.{tested, between}
 use Rattle.cw_loops.proofs.Tables.{keys}
 use Rattle.cw_loops.proofs.Arguments.{table, keys-append, keys-table, find_at}
 use Rattle.cw_loops.proofs.Cuts.{alike_left}
-use Rattle.cw_loops.proofs.Leaf.{at_turn, Next, Turns}
+use Rattle.cw_loops.proofs.Leaf.{at_turn, NextIteration, Turns}
 use Rattle.cw_loops.proofs.HalvesCall.{Reached, counted, length_of_table}
 use Rattle.cw_loops.proofs.Fitting.{Good, AllFit, fine-put, find_fine, fit-append}
 use Rattle.cw_loops.proofs.Statements.{Out, goes, returns, OutAll, alike_done, length-keys, fine_set}
@@ -242,7 +242,7 @@ module _ (functions0 : List Function) (i0 : List (Name × ℤ)) (outer0 arrays0 
         (j : ℕ) (below : j < n) (frame : Frame) (arrays : List (Name × List ℤ)) →
         Reached over (Put over lo n start) frame arrays → (mi ma : List Name) {way way' : Completion} (from : Frame) →
         Out scope (fo' lo n small start s0 agrees j below) (go' lo n small start s0 agrees j below) (Slot' lo n small start s0 agrees j below) ([] ++ mi) ([] ++ ma) from way way' → (l : ℕ) →
-        Alike (Next (Reached over (Put over lo n start)) (λ arrays. at_turn lo (lo +ℤ pos n) cs arrays x (lo +ℤ pos j)) frame) l (Done way l quiet)
+        Alike (NextIteration (Reached over (Put over lo n start)) (λ arrays. at_turn lo (lo +ℤ pos n) cs arrays x (lo +ℤ pos j)) frame) l (Done way l quiet)
         (onward way' (λ g. going (leave (at_turn lo (lo +ℤ pos n) cs arrays x (lo +ℤ pos j)) g)) l)
     after_turn lo n small start s0 agrees j below frame arrays r mi ma from (returns never fit good kept) l = absurd cc
     after_turn lo n small start s0 agrees j below frame arrays r mi ma from (goes (related loc fa ga la slot ki ka good) kept) l =

@@ -5,7 +5,7 @@ use Rattle.std.specs.List.{list_all}
 use Rattle.std.proofs.lemmas.Bool.Decides.{nat_tests}
 use Rattle.std.proofs.lemmas.List.{map-append, length-map}
 use Rattle.std.proofs.lemmas.Bool.{and_parts}
-use Rattle.cw_facts.specs.Tests.{Told, yes_is, no_is, told}
+use Rattle.cw_facts.specs.Tests.{TrueOrFalse, yes_is, no_is, told}
 use Rattle.cw_model.specs.Meaning.{function_named}
 use Rattle.cw_model.specs.declared.limits.TheConstants.{MOST_DECLARED}
 use Rattle.cw_model.specs.Lines.{unless}
@@ -178,7 +178,7 @@ module _ (program : Program) (can : is_lowerable program ≡ true) (within : lim
   callee : (f : Name) → slot_of f names < many → slot_of f names' ≡ slot_of f names
   callee f less = ap (slot_of f) names_are ∙ go (told (is_among f names))
     where
-      go : Told (is_among f names) → slot_of f (names ++ function_names (made_of 0 program.functions)) ≡ slot_of f names
+      go : TrueOrFalse (is_among f names) → slot_of f (names ++ function_names (made_of 0 program.functions)) ≡ slot_of f names
       go (yes_is e) = slot_stays f names (function_names (made_of 0 program.functions)) e
       go (no_is e) = let p = slot_out f names e in let q = names_count in absurd (omega (arith, p, q, less))
 

@@ -28,7 +28,7 @@ pub mod Staying
 pub mod Rights
 pub mod Remaining
 pub mod Under
-pub mod Rows
+pub mod ArrayMemory
 pub mod Landing
 pub mod Moves
 pub mod Whole
@@ -43,7 +43,7 @@ pub mod Starting
 pub mod Totals
 pub mod Updates
 pub mod Metering
-pub mod Told
+pub mod OpEvents
 pub mod Keeping
 pub mod Strands
 pub mod Keyed

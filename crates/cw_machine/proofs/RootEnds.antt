@@ -13,9 +13,9 @@ use Rattle.cw_model.specs.Ints.{trap_number}
 use Rattle.cw_code.specs.declared.code.Func.{Func}
 use Rattle.cw_code.specs.Code.{Code, code_view}
 use Rattle.cw_code.specs.Run.{On, first_state, first_transition, reducers_of, code_serial}
-use Rattle.cw_strand_laws.specs.Jobs as jobs
-use Rattle.cw_strand_laws.specs.Jobs.{Came, Arrives, Returns, Falls, Beyond, Lost, IsOf, JobMeaning, Same, Passed, Short, root_job, course}
-use Rattle.cw_strand_laws.specs.RestLaws.{RootsAreSerial}
+use Rattle.cw_code.specs.Jobs as jobs
+use Rattle.cw_code.specs.Jobs.{Came, Arrives, Returns, Falls, Beyond, Lost, IsOf, JobMeaning, Same, Passed, Short, root_job, course}
+use Rattle.cw_code.specs.RestLaws.{RootsAreSerial}
 use Rattle.cw_meter.specs.Whole.{ReadsStrands}
 use Rattle.cw_greedy.specs.Recorded.{Recorded}
 use Rattle.cw_model.specs.Burdens.{no_burden}
@@ -24,11 +24,11 @@ use Rattle.cw_meter.specs.Meters.{Meters}
 use Rattle.cw_meter.specs.declared.detail.Detail.{Detail}
 use Rattle.cw_meter.specs.declared.detail.Detail.TheVariants.{Measures as Measured, Strands as Recording}
 use Rattle.cw_meter.specs.Details.{IsLight}
-use Rattle.cw_meter_laws.specs.Opens.{whole}
+use Rattle.cw_jobs.specs.Opens.{whole}
 use Rattle.cw_runnable.specs.declared.verified.Verified.{Verified}
 use Rattle.cw_jobs.specs.declared.effect.Effect.{Effect}
 use Rattle.cw_jobs.specs.declared.effect.Effect.TheVariants as effect
-use Rattle.cw_jobs.specs.declared.effect.Shown.{Shown}
+use Rattle.cw_jobs.specs.declared.effect.PieceOutput.{PieceOutput}
 use Rattle.cw_jobs.specs.declared.call.Rest.{Rest}
 use Rattle.cw_jobs.specs.declared.job.Job.{Job}
 use Rattle.cw_jobs.specs.Jobs.{Ok, IsJob, IsRoot, IsRootOf}
@@ -110,7 +110,7 @@ module _ (laws : RootsAreSerial) (v : Verified) (ok : IsFit v) (f : Func) (args 
       cases (jobs.Joined frame t c) h e = absurd h
       cases jobs.Memory h e = absurd h
 
-  pub never_joined : (frame : Rest) (replaced : _) (shown : Shown) → MeansIt v ok root.parts.value (effect.Joined frame replaced shown) (root_job f args n) → ⊥
+  pub never_joined : (frame : Rest) (replaced : _) (shown : PieceOutput) → MeansIt v ok root.parts.value (effect.Joined frame replaced shown) (root_job f args n) → ⊥
   never_joined frame replaced shown m = cases m.effect m.tells (few (code_view v.code) f args n m.effect m.means)
     where
       cases : (w : jobs.Effect) → Tells (code_view v.code) (root_job f args n) root.parts.value.rest (effect.Joined frame replaced shown) w → Few n w → ⊥
@@ -121,7 +121,7 @@ module _ (laws : RootsAreSerial) (v : Verified) (ok : IsFit v) (f : Func) (args 
       cases jobs.Memory h w = absurd h
 
   -- a run that ended is within the limit, and has the value of the code
-  pub gave : (x : Option ℤ) (shown : Shown) (e : Values) → e.value ≡ int_given x → e.lines.items ≡ shown.lines.items → e.totals ≡ shown.totals
+  pub gave : (x : Option ℤ) (shown : PieceOutput) (e : Values) → e.value ≡ int_given x → e.lines.items ≡ shown.lines.items → e.totals ≡ shown.totals
       → MeansIt v ok root.parts.value (effect.Ended x shown) (root_job f args n)
       → IsGiven e (code_serial (code_view v.code) args n)
   gave x shown e value lines totals m = cases m.effect m.tells (few (code_view v.code) f args n m.effect m.means) (serial m.effect m.means)
@@ -145,7 +145,7 @@ module _ (laws : RootsAreSerial) (v : Verified) (ok : IsFit v) (f : Func) (args 
       cases jobs.Memory h w s = absurd h
 
   -- a run that ended has the measures that its meter reads, if the charge is in its range
-  pub finished : IsLight d → (x : Option ℤ) (shown : Shown) → MeansIt v ok root.parts.value (effect.Ended x shown) (root_job f args n)
+  pub finished : IsLight d → (x : Option ℤ) (shown : PieceOutput) → MeansIt v ok root.parts.value (effect.Ended x shown) (root_job f args n)
       → (shown.cost ≤ n) × Finishes (code_view v.code) args n d x shown
   finished light x shown m = cases m.effect m.tells m.counts (few (code_view v.code) f args n m.effect m.means) (serial m.effect m.means)
     where
@@ -186,7 +186,7 @@ on_root prop v args n burden d root e r means f = ∥∥₁_elim v.ok prop (λ o
     ∥∥₁_elim (means_root v args n burden d root e r means ok main.func main.found) prop (f ok main (asked_of v main args n burden r.asked)))
 
 module _ (laws : RootsAreSerial) (v : Verified) (args : List ℤ) (n : ℕ) (burden : Burden) (d : Detail) (root : Job) (r : IsRootOf v args n burden d root.parts.value) where
-  pub gave_as_code : (x : Option ℤ) (shown : Shown) (e : Values) → IsMeaningOf root (effect.Ended x shown) → e.value ≡ int_given x
+  pub gave_as_code : (x : Option ℤ) (shown : PieceOutput) (e : Values) → IsMeaningOf root (effect.Ended x shown) → e.value ≡ int_given x
       → e.lines.items ≡ shown.lines.items → e.totals ≡ shown.totals → Gives (code_view v.code) args n burden e
   gave_as_code x shown e means value lines totals =
       let serial = code_serial (code_view v.code) args n in
@@ -194,7 +194,7 @@ module _ (laws : RootsAreSerial) (v : Verified) (args : List ℤ) (n : ℕ) (bur
       (λ ok main asked m. gave laws v ok main.func args n burden d root main.found asked r x shown e value lines totals m)) in
       record { asked = r.asked; tree = is.0; answer = is.1 }
 
-  pub recorded_as_code : d ≡ Recording → burden ≡ no_burden → (x : Option ℤ) (shown : Shown) (kept : Recorded) → IsMeaningOf root (effect.Ended x shown)
+  pub recorded_as_code : d ≡ Recording → burden ≡ no_burden → (x : Option ℤ) (shown : PieceOutput) (kept : Recorded) → IsMeaningOf root (effect.Ended x shown)
       → ReadsStrands shown.meter shown.cost kept → Records (code_view v.code) args n kept
   recorded_as_code records light x shown kept means reads =
       let serial = code_serial (code_view v.code) args n in
@@ -227,13 +227,13 @@ module _ (laws : RootsAreSerial) (v : Verified) (args : List ℤ) (n : ℕ) (bur
       was_over (code_serial (code_view v.code) args n) (on_root (hlevel Bool-set) v args n burden d root (effect.OverLimit back) r means
       (λ ok main asked m. over laws v ok main.func args n burden d root main.found asked r back m))
 
-  pub comes_to_no_join : (frame : Rest) (replaced : _) (shown : Shown) → IsMeaningOf root (effect.Joined frame replaced shown) → ⊥
+  pub comes_to_no_join : (frame : Rest) (replaced : _) (shown : PieceOutput) → IsMeaningOf root (effect.Joined frame replaced shown) → ⊥
   comes_to_no_join frame replaced shown means =
       on_root (hlevel le_prop) v args n burden d root (effect.Joined frame replaced shown) r means
       (λ ok main asked m. never_joined laws v ok main.func args n burden d root main.found asked r frame replaced shown m)
 
 module _ (laws : RootsAreSerial) (v : Verified) (args : List ℤ) (n : ℕ) (burden : Burden) (root : Job) (r : IsRoot v args n burden root.parts.value) where
-  pub ended_as_code : (x : Option ℤ) (shown : Shown) (e : alone.Ended) → IsMeaningOf root (effect.Ended x shown) → IsEndOf v.code x shown e → Runs (code_view v.code) args n burden e
+  pub ended_as_code : (x : Option ℤ) (shown : PieceOutput) (e : alone.Ended) → IsMeaningOf root (effect.Ended x shown) → IsEndOf v.code x shown e → Runs (code_view v.code) args n burden e
   ended_as_code x shown e means end =
       let is_end = IsEnded-prop (code_view v.code) burden e end.all (code_serial (code_view v.code) args n) in
       let P : Type 0 = (shown.cost ≤ n) × IsEnded (code_view v.code) burden e end.all (code_serial (code_view v.code) args n) in

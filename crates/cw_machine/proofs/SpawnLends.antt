@@ -22,7 +22,7 @@ use Rattle.cw_code.specs.Fits.{Row, Outer, is_full_in, slots_lent, with_gone, le
 use Rattle.cw_code.specs.Good.{Seat, GoodState}
 use Rattle.cw_code.specs.lemmas.Slots.{covers_true, set_frozen, whole_slots}
 use Rattle.cw_code.specs.lemmas.Runs.{same_state}
-use Rattle.cw_strand_laws.specs.Strands.{Goes, HandsOut, turn_of}
+use Rattle.cw_code.specs.Strands.{Goes, HandsOut, turn_of}
 use Rattle.cw_jobs.specs.Jobs.{IsFrozenBy}
 use Rattle.cw_runnable.specs.declared.verified.Verified.{Verified}
 use Rattle.cw_machine.specs.Arrays.{IsFit, is_among, slots_lent_by, KeepsLent}

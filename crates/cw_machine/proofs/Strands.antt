@@ -9,7 +9,7 @@ use Rattle.cw_model.specs.declared.limits.TheConstants.{MOST_STRANDS}
 use Rattle.cw_greedy.specs.Recorded.{Recorded, capped}
 use Rattle.cw_greedy.specs.Records.{merged}
 use Rattle.cw_greedy.specs.Blocks.{AsChild, codes_of, strand_count}
-use Rattle.cw_recorded.specs.Recording.{IsKept}
+use Rattle.cw_greedy.specs.Recording.{IsKept}
 
 -- the number of a code
 abbrev pub number_of : greedy.Code → ℕ

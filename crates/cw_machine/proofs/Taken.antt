@@ -4,14 +4,14 @@ use Rattle.std.specs.Prelude.{Result, Ok, Err}
 use Rattle.cw_model.specs.declared.burden.Burden.{Burden}
 use Rattle.cw_model.specs.Answers.{TrappedAt}
 use Rattle.cw_code.specs.Code.{code_view}
-use Rattle.cw_strand_laws.specs.RestLaws.{RootsAreSerial}
+use Rattle.cw_code.specs.RestLaws.{RootsAreSerial}
 use Rattle.cw_meter.specs.declared.detail.Detail.{Detail}
 use Rattle.cw_runnable.specs.declared.verified.Verified.{Verified}
 use Rattle.cw_text.specs.declared.fault.Fault.{Fault}
 use Rattle.cw_text.specs.declared.fault.Fault.TheVariants as fault
 use Rattle.cw_jobs.specs.declared.effect.Effect.{Effect}
 use Rattle.cw_jobs.specs.declared.effect.Effect.TheVariants as effect
-use Rattle.cw_jobs.specs.declared.effect.Shown.{Shown}
+use Rattle.cw_jobs.specs.declared.effect.PieceOutput.{PieceOutput}
 use Rattle.cw_jobs.specs.declared.job.Job.{Job}
 use Rattle.cw_jobs.specs.Jobs.{IsRootOf}
 use Rattle.cw_jobs.specs.Means.{IsMeaningOf}
@@ -19,15 +19,15 @@ use Rattle.cw_machine.specs.Answering.{AreValuesOf, IsAnswerOf, TakesOut, TellsO
 use Rattle.cw_machine.specs.Runs.{IsFailure}
 use Rattle.cw_machine.proofs.RootEnds.{trapped_as_code, over_as_code}
 
-abbrev out : Option ℤ × Shown → Result (Option ℤ × Shown) Fault → Option ℤ × Shown
+abbrev out : Option ℤ × PieceOutput → Result (Option ℤ × PieceOutput) Fault → Option ℤ × PieceOutput
 out z (Ok w) = w
 out z (Err f) = z
 
 -- an effect from which a value and an output are taken has ended with them
-pub ended_is : (e : Effect) (x : Option ℤ) (shown : Shown) → TakesOut e (Ok (x, shown)) → e ≡ effect.Ended x shown
+pub ended_is : (e : Effect) (x : Option ℤ) (shown : PieceOutput) → TakesOut e (Ok (x, shown)) → e ≡ effect.Ended x shown
 ended_is (effect.Ended y other) x shown told =
-    let value : x ≡ y = ap (λ (z : Option ℤ × Shown). z.0) (ap (out (x, shown)) told) in
-    let is : shown ≡ other = ap (λ (z : Option ℤ × Shown). z.1) (ap (out (x, shown)) told) in
+    let value : x ≡ y = ap (λ (z : Option ℤ × PieceOutput). z.0) (ap (out (x, shown)) told) in
+    let is : shown ≡ other = ap (λ (z : Option ℤ × PieceOutput). z.1) (ap (out (x, shown)) told) in
     cc
 ended_is (effect.Joined frame replaced other) x shown told = absurd told
 ended_is (effect.Trapped trap line lines cost back) x shown told = let is = told.1 in cc
@@ -36,7 +36,7 @@ ended_is (effect.Memory back) x shown told = cc
 ended_is (effect.GivenUp back) x shown told = cc
 
 -- why a run has not ended does not depend on what is returned for a run that has ended
-pub fault_told : (A : Type 0) (ended : Option ℤ → Shown → Type 0) (e : Effect) (f : Fault) → TakesOut e (Err f) → TellsOf {A = A} ended e (Err f)
+pub fault_told : (A : Type 0) (ended : Option ℤ → PieceOutput → Type 0) (e : Effect) (f : Fault) → TakesOut e (Err f) → TellsOf {A = A} ended e (Err f)
 fault_told A ended (effect.Ended value shown) f told = cc
 fault_told A ended (effect.Joined frame replaced shown) f told = absurd told
 fault_told A ended (effect.Trapped trap line lines cost back) f told =

@@ -19,7 +19,7 @@ use Rattle.cw_code.specs.declared.code.Reducer as coded
 use Rattle.cw_code.specs.Code.{Code}
 use Rattle.cw_code.specs.Run.{State, Transition, On, Ends, Stops, Stuck, synced, settled, back, act, step, go_on, steps, reducers_of}
 use Rattle.cw_code.specs.lemmas.Acts.{acts_both, closing, uncutting, returning}
-use Rattle.cw_strand_laws.specs.Jobs.{WholeCall, Came, Arrives, Returns, Falls, Beyond, Lost, moved, travel}
+use Rattle.cw_code.specs.Jobs.{WholeCall, Came, Arrives, Returns, Falls, Beyond, Lost, moved, travel}
 use Rattle.cw_jobs.specs.Totals.{kept, AllFit, HoldsTotals}
 
 -- after a move, at most `k` values were added

@@ -9,7 +9,7 @@ use Rattle.cw_text.specs.declared.fault.Fault.{Fault}
 use Rattle.cw_text.specs.declared.fault.Fault.TheVariants as fault
 use Rattle.cw_jobs.specs.declared.effect.Effect.{Effect}
 use Rattle.cw_jobs.specs.declared.effect.Effect.TheVariants as effect
-use Rattle.cw_jobs.specs.declared.effect.Shown.{Shown}
+use Rattle.cw_jobs.specs.declared.effect.PieceOutput.{PieceOutput}
 use Rattle.cw_jobs.specs.declared.job.Job.{Job}
 use Rattle.cw_jobs.specs.Jobs.{IsRootOf}
 use Rattle.cw_jobs.specs.Means.{IsMeaningOf}
@@ -45,7 +45,7 @@ IsTrapAfter trap line lines r =
 
 -- THE RESULT OF AN EFFECT, if `ended` is the result of a run that ended: `Memory` if the effect says that memory ran
 -- out
-abbrev pub TellsOf : {A : Type 0} → (ended : Option ℤ → Shown → Type 0) → Effect → Result A Fault → Type 0
+abbrev pub TellsOf : {A : Type 0} → (ended : Option ℤ → PieceOutput → Type 0) → Effect → Result A Fault → Type 0
 TellsOf ended (effect.Ended value shown) r = ended value shown
 TellsOf ended (effect.Joined frame replaced shown) r = ⊥
 TellsOf ended (effect.Trapped trap line lines cost back) r = IsTrapAfter trap line lines.items r
@@ -54,7 +54,7 @@ TellsOf ended (effect.Memory back) r = r ≡ Err fault.Memory
 TellsOf ended (effect.GivenUp back) r = r ≡ Err fault.Memory
 
 -- the result of a run that ended is its value and what it has printed and counted
-abbrev pub TakesOut : Effect → Result (Option ℤ × Shown) Fault → Type 0
+abbrev pub TakesOut : Effect → Result (Option ℤ × PieceOutput) Fault → Type 0
 TakesOut e r = TellsOf (λ value shown. r ≡ Ok (value, shown)) e r
 
 -- the result is `Memory` only if the effect says so, or for a run that ended

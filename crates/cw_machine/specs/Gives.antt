@@ -10,7 +10,7 @@ use Rattle.cw_code.specs.Frozen.{AreBlocks}
 use Rattle.cw_code.specs.Good.{IsNotAmong, slots_in, Seat, GoodState}
 use Rattle.cw_code.specs.declared.code.Loan.{Loan}
 use Rattle.cw_code.specs.Fits.{slots_lent}
-use Rattle.cw_strand_laws.specs.Jobs.{Standing}
+use Rattle.cw_code.specs.Jobs.{Standing}
 use Rattle.cw_runnable.specs.declared.verified.Verified.{Verified}
 use Rattle.cw_jobs.specs.declared.call.Rest.{Rest}
 use Rattle.cw_jobs.specs.Calls.{placed, HasArrays, HoldsFrame}

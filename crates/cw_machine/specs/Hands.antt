@@ -10,7 +10,7 @@ use Rattle.cw_code.specs.declared.code.Loan.{Loan}
 use Rattle.cw_code.specs.Code.{code_view}
 use Rattle.cw_code.specs.Run.{slot_taken, Waiting, Around, Caller, Block, State}
 use Rattle.cw_code.specs.Fits.{slots_lent}
-use Rattle.cw_strand_laws.specs.Strands.{rest_of}
+use Rattle.cw_code.specs.Strands.{rest_of}
 use Rattle.cw_jobs.specs.declared.call.Extent.TheVariants as extent
 use Rattle.cw_jobs.specs.declared.call.Parts.{Parts}
 use Rattle.cw_jobs.specs.declared.call.Rest.{Rest}

@@ -8,8 +8,8 @@ use Rattle.cw_code.specs.declared.code.Reducer.{Reducer}
 use Rattle.cw_code.specs.Code.{code_view}
 use Rattle.cw_code.specs.Run.{Results, Around, Caller, Block, State}
 use Rattle.cw_code.specs.Good.{GoodState}
-use Rattle.cw_strand_laws.specs.Jobs.{WholeCall, Job, job_start, standing}
-use Rattle.cw_strand_laws.specs.Over.{under}
+use Rattle.cw_code.specs.Jobs.{WholeCall, Job, job_start, standing}
+use Rattle.cw_code.specs.Over.{under}
 use Rattle.cw_jobs.specs.declared.call.Parts.{Parts}
 use Rattle.cw_jobs.specs.declared.call.Rest.{Rest}
 use Rattle.cw_jobs.specs.Calls.{cell, placed, HoldsCall, HoldsFrame}

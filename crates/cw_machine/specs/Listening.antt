@@ -8,12 +8,12 @@ use Rattle.cw_model.specs.Outcome.{Trace, Done, Trapped}
 use Rattle.cw_model.specs.Answers.{Ended}
 use Rattle.cw_measure.specs.OpenParts.{Open}
 use Rattle.cw_meter.specs.Meters.{ticked, begun}
-use Rattle.cw_recorded.specs.Origins.{Main}
-use Rattle.cw_recorded.specs.Recording.{IsOpen}
+use Rattle.cw_greedy.specs.Origins.{Main}
+use Rattle.cw_greedy.specs.Recording.{IsOpen}
 use Rattle.cw_code.specs.Code.{Code, code_view}
 use Rattle.cw_code.specs.Run.{State, Transition, step, steps, code_serial}
 use Rattle.cw_jobs.specs.Totals.{HoldsTotals}
-use Rattle.cw_meter_laws.specs.Opens.{whole}
+use Rattle.cw_jobs.specs.Opens.{whole}
 use Rattle.cw_runnable.specs.declared.op.Op.{Op}
 use Rattle.cw_runnable.specs.declared.verified.Verified.{Verified}
 use Rattle.cw_machine.specs.declared.machine.Machine.{Machine}

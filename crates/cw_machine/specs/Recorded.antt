@@ -6,7 +6,7 @@ use Rattle.cw_model.specs.Trees.{Tree}
 use Rattle.cw_model.specs.Answers.{Ended}
 use Rattle.cw_text.specs.declared.fault.Fault.{Fault}
 use Rattle.cw_greedy.specs.Recorded.{Recorded}
-use Rattle.cw_recorded.specs.Recording.{IsKept}
+use Rattle.cw_greedy.specs.Recording.{IsKept}
 use Rattle.cw_code.specs.Code.{Code}
 use Rattle.cw_code.specs.Run.{code_serial}
 use Rattle.cw_machine.specs.Runs.{is_request, IsFailure}

@@ -11,8 +11,8 @@ use Rattle.cw_meter.specs.Origins.{Main}
 use Rattle.cw_meter.specs.Meters.{ticked, synced, begun}
 use Rattle.cw_runnable.specs.declared.op.Op.{Op}
 use Rattle.cw_runnable.specs.declared.op.Op.TheVariants as op
-use Rattle.cw_meter_laws.specs.Opens as opens
-use Rattle.cw_meter_laws.specs.Opens.{is_spawned}
+use Rattle.cw_jobs.specs.Opens as opens
+use Rattle.cw_jobs.specs.Opens.{is_spawned}
 
 -- the parts of a whole run that are open at a state
 abbrev pub opens_round : List Around → List Open

@@ -12,7 +12,7 @@ ghost use Rattle.cw_model.specs.Answers as answers;
 use crate::machine::Moved;
 use crate::run::Run;
 use cw_code::code::Code;
-use cw_jobs::effect::Shown;
+use cw_jobs::effect::PieceOutput;
 use cw_jobs::first::is_asked;
 use cw_meter::{Detail, Readings};
 use cw_model::burden::Burden;
@@ -81,7 +81,7 @@ pub(crate) fn run_whole(
     n: u64,
     burden: Burden,
     detail: Detail,
-) -> Result<(Option<i64>, Shown), Fault>
+) -> Result<(Option<i64>, PieceOutput), Fault>
     requires { (burden_of detail).charge ≤ burden.charge }
     ensures { FinishesAsCode (code_view code.now.code) args.now n burden detail result }
 {
@@ -96,7 +96,7 @@ pub(crate) fn run_whole(
     match stop {
         Moved::Gave(value) => {
             let Run { machine, meter } = run;
-            let shown = Shown {
+            let shown = PieceOutput {
                 lines: machine.lines,
                 totals: machine.totals,
                 meter,
@@ -120,12 +120,12 @@ pub(crate) fn end_of(
     alloc: Global,
     code: &Code,
     value: Option<i64>,
-    shown: Shown,
+    shown: PieceOutput,
 ) -> Result<Ended, AllocError>
     requires { fits.are_apart code.now.tags.items ≡ true }
     ensures { IfOk result (λ e. runs.IsEndOf code.now value shown e) }
 {
-    let Shown {
+    let PieceOutput {
         lines,
         totals,
         meter,

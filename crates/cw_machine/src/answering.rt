@@ -16,15 +16,15 @@ ghost use Rattle.cw_machine.specs.Runs.{GivesAsCode, RunsAsCode};
 
 use crate::alone::{Ended, end_of, int_given};
 use crate::values::Values;
+use cw_code::crew_laws::the_root_answers_what_the_code_gives;
 use cw_greedy::strands::Strands;
-use cw_jobs::effect::{Effect, Shown};
+use cw_jobs::effect::{Effect, PieceOutput};
 use cw_runnable::verified::Verified;
-use cw_strand_laws::laws::the_root_answers_what_the_code_gives;
 use cw_text::Fault;
 use std::alloc::Global;
 
 // Returns the value of a run that ended and what the run has shown, or the fault that its effect reports.
-fn ended_in(effect: Effect) -> Result<(Option<i64>, Shown), Fault>
+fn ended_in(effect: Effect) -> Result<(Option<i64>, PieceOutput), Fault>
     requires { ∥ IsOfRun effect ∥₁ }
     ensures { TakesOut effect result }
 {

@@ -7,7 +7,7 @@ ghost use Rattle.cw_machine.specs.Arrays as arrays;
 ghost use Rattle.cw_machine.specs.Padded as padded;
 ghost use Rattle.cw_machine.specs.Renewed.{HasZeros};
 
-use cw_slices::{Block, Slice};
+use cw_slices::{ArrayBlock, Slice};
 use std::alloc::{AllocError, Global};
 use std::marker::Model;
 
@@ -18,10 +18,10 @@ const BLOCK: usize = 32;
 /// array: the blocks after it have no numbers.
 #[derive(Drop, Debug)]
 pub struct ArrayBlocks {
-    made: Vec<Block>,
+    made: Vec<ArrayBlock>,
     len: usize,
     // A block without numbers, as which each block after the last one of `made` counts.
-    none: Block,
+    none: ArrayBlock,
 }
 
 impl Model for ArrayBlocks {
@@ -38,29 +38,29 @@ impl Model for ArrayBlocks {
 }
 
 // Returns a block without numbers that can be shown any number of times.
-fn none_of(alloc: Global) -> Block
+fn none_of(alloc: Global) -> ArrayBlock
     ensures { padded.IsNone result }
 {
-    let mut empty = Block::empty(alloc);
-    Block::of(empty.lend(0, 0))
+    let mut empty = ArrayBlock::empty(alloc);
+    ArrayBlock::of(empty.lend(0, 0))
 }
 
 // Adds blocks without numbers, so that there is one at an index.
-fn reach(made: &mut Vec<Block>, none: &mut Block, index: usize) -> Result<(), AllocError>
+fn reach(made: &mut Vec<ArrayBlock>, none: &mut ArrayBlock, index: usize) -> Result<(), AllocError>
     requires { padded.IsNone none.old }
     ensures same { none.new ≡ none.old }
     ensures more { padded.HasReached none.old made.old.items index made.new.items }
     ensures there { OnOk result (index < length made.new.items) }
 {
     while made.len() <= index {
-        made.push(Block::of(none.lend(0, 0)))?;
+        made.push(ArrayBlock::of(none.lend(0, 0)))?;
     }
     Ok(())
 }
 
 impl ArrayBlocks {
     // Returns these blocks, and blocks without numbers after them, `len` in all.
-    pub(crate) fn of(made: Vec<Block>, len: usize) -> ArrayBlocks
+    pub(crate) fn of(made: Vec<ArrayBlock>, len: usize) -> ArrayBlocks
         requires { length made.items ≤ len }
         ensures { padded.Begins made.items len result.items }
     {
@@ -112,7 +112,7 @@ impl ArrayBlocks {
     }
 
     // Replaces a block. The error is that memory runs out.
-    pub(crate) fn put(&mut self, index: usize, block: Block) -> Result<(), AllocError>
+    pub(crate) fn put(&mut self, index: usize, block: ArrayBlock) -> Result<(), AllocError>
         requires { index < length self.old.items }
         ensures { OnOk result (self.new.items ≡ slice_set self.old.items index block) }
     {
@@ -130,14 +130,14 @@ impl ArrayBlocks {
     {
         let alloc = *self.made.allocator();
         reach(&mut self.made, &mut self.none, index)?;
-        self.made[index] = Block::empty(alloc);
-        self.made[index] = Block::zeros(alloc, len)?;
+        self.made[index] = ArrayBlock::empty(alloc);
+        self.made[index] = ArrayBlock::zeros(alloc, len)?;
         Ok(())
     }
 
     // Returns a block, or `None` for one that takes no memory.
     #[inline(always)]
-    pub(crate) fn at(&self, index: usize) -> Option<&Block>
+    pub(crate) fn at(&self, index: usize) -> Option<&ArrayBlock>
         ensures { MatchOption result (arrays.IsBare (arrays.block self.now.items index))
             (λ b. b.now ≡ arrays.block self.now.items index) }
     {

@@ -14,7 +14,7 @@ use crate::hands::is_shared;
 use crate::machine::{Machine, View};
 use cw_code::code::Loan;
 use cw_jobs::call::Rest;
-use cw_slices::{Block, Slice};
+use cw_slices::{ArrayBlock, Slice};
 use std::alloc::AllocError;
 use std::mem;
 
@@ -74,7 +74,7 @@ impl Machine {
             Some(slice) => {
                 let cell = self.first_array + a;
                 let len = slice.len();
-                self.blocks.put(cell, Block::of(slice))?;
+                self.blocks.put(cell, ArrayBlock::of(slice))?;
                 self.views[cell] = View {
                     block: cell,
                     from: 0,

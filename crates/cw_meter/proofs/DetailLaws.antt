@@ -15,8 +15,8 @@ use Rattle.cw_meter.specs.Details.{keeps_values, is_counted, burden_of}
 use Rattle.cw_meter.specs.Origins.{Origin, base_of, given_open}
 use Rattle.cw_meter.specs.Meters.{Begins, BeginsRegion, Ends, Returns, Syncs, Rests, Starts, StartsRest, IsHere, IsOutside, InstructionsNeedNoCall, KnowsOpen, Tells, ticked, synced, begun}
 use Rattle.cw_greedy.specs.Recorded.{Recorded}
-use Rattle.cw_recorded.specs.declared.recorder.Recorder.{Recorder}
-use Rattle.cw_recorded.specs.Recording as strands
+use Rattle.cw_greedy.specs.declared.recorder.Recorder.{Recorder}
+use Rattle.cw_greedy.specs.Recording as strands
 use Rattle.cw_sites.specs.OpenPaths.{here_in}
 use Rattle.cw_meter.specs.Whole.{ReadsStrands}
 use Rattle.cw_meter.specs.Uncounted.{BeginsQuiet, BeginsRegions, BeginsSpawned}

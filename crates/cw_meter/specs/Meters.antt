@@ -5,7 +5,7 @@ use Rattle.cw_model.specs.declared.burden.Burden.{Burden}
 use Rattle.cw_model.specs.declared.limits.TheConstants.{MOST_LIMIT}
 use Rattle.cw_model.specs.Trees.{Mark, Execution, Event}
 use Rattle.cw_measure.specs.OpenParts.{Open, closed, has_spawned, no_joins, Since, work_in}
-use Rattle.cw_recorded.specs.Recording.{IsOpen, RecordsIn}
+use Rattle.cw_greedy.specs.Recording.{IsOpen, RecordsIn}
 use Rattle.cw_measure.specs.BlockWeights.{weight_in, burdened_work_in}
 use Rattle.cw_measure.specs.StrandWeights.{TellsLate, TellsWeight}
 use Rattle.cw_sites.specs.OpenPaths.{here_in, path_in}
@@ -19,7 +19,7 @@ use Rattle.cw_meter.specs.declared.meter.Meter.{Meter}
 use Rattle.cw_meter.specs.declared.tables.Tables.{Tables}
 use Rattle.cw_meter.specs.Alike.{AreAlike, AreOpenAlike}
 use Rattle.cw_meter.specs.Details.{IsLight, IsSite}
-pub use Rattle.cw_recorded.specs.Runs.{ticked, synced, begun}
+pub use Rattle.cw_greedy.specs.Runs.{ticked, synced, begun}
 use Rattle.cw_meter.specs.Origins.{Origin, Main, Rest, base_of, main_open, given_open}
 use Rattle.cw_meter.specs.Parts.{AreParts}
 

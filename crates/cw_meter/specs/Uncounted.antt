@@ -2,7 +2,7 @@
 -- and nothing else. So its notifications are the same after any number of instructions and for any part.
 use Rattle.std.specs.Prelude.{◌≡◌, ℕ, Bool, true, false, Option}
 use Rattle.cw_model.specs.Trees.{Mark}
-use Rattle.cw_recorded.specs.Recording.{IsQuiet}
+use Rattle.cw_greedy.specs.Recording.{IsQuiet}
 use Rattle.cw_meter.specs.declared.meter.Meter.{Meter}
 use Rattle.cw_meter.specs.Meters.{Begins, BeginsRegion, Ends, Returns, Syncs}
 

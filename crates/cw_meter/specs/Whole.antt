@@ -11,7 +11,7 @@ use Rattle.cw_regions.specs.declared.table.RegionRow.{RegionRow}
 use Rattle.cw_regions.specs.Regions.{Tags}
 use Rattle.cw_regions.specs.Regions as regions
 use Rattle.cw_greedy.specs.Recorded.{Recorded}
-use Rattle.cw_recorded.specs.Recording.{IsKept}
+use Rattle.cw_greedy.specs.Recording.{IsKept}
 use Rattle.cw_meter.specs.declared.detail.Detail.TheVariants as detail
 use Rattle.cw_meter.specs.declared.meter.Meter.{Meter}
 use Rattle.cw_meter.specs.declared.meter.Measures.{Measures}

@@ -6,5 +6,5 @@ ghost use Rattle.cw_meter.specs.Meters.{InstructionsNeedNoCall};
 pub fn instructions_need_no_call()
     ensures { InstructionsNeedNoCall }
 {
-    cw_recorded::laws::instructions_need_no_call();
+    cw_greedy::recorder_laws::instructions_need_no_call();
 }

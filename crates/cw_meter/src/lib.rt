@@ -6,7 +6,7 @@
 //! # How a run calls a `Meter`
 //!
 //! What is kept of a run its [`Detail`] says. Where that is its values alone, a meter knows how many parts are open and
-//! is told nothing else. Where it is its strands, a recorder of `cw_recorded` is told of the run, too, and no table.
+//! is told nothing else. Where it is its strands, a recorder of `cw_greedy` is told of the run, too, and no table.
 //!
 //! Each call stands for one instruction of the run, and is told the count of instructions before it.
 //!

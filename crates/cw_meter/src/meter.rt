@@ -12,7 +12,7 @@ ghost use Rattle.cw_meter.specs.Whole.{Reads};
 use crate::detail::Detail;
 use crate::parts::{Part, PartKind};
 use crate::tables::Tables;
-use cw_recorded::Recorder;
+use cw_greedy::recorder::Recorder;
 use cw_regions::RegionRow;
 use cw_sites::table::SiteRow;
 use std::alloc::{AllocError, Global};

@@ -1,4 +1,4 @@
-pub mod Rows
+pub mod BitSets
 pub mod Small
 pub mod Words
 pub mod Keeping

@@ -10,13 +10,13 @@ use Rattle.cw_tree.specs.declared.resolved.Tree.{Tree}
 use Rattle.cw_tree.specs.Resolved.{Resolved, plain}
 use Rattle.cw_tree.specs.ResolvedView.{program_of, resolved_of}
 use Rattle.cw_tree.specs.Slots.{is_resolved}
-use Rattle.cw_reasons.specs.declared.reasons.At.{At}
-use Rattle.cw_reasons.specs.declared.reasons.Reasons.{Reasons}
-use Rattle.cw_reasons.specs.Rising.{first_of, there}
+use Rattle.cw_text.specs.declared.reasons.At.{At}
+use Rattle.cw_text.specs.declared.reasons.Reasons.{Reasons}
+use Rattle.cw_text.specs.Rising.{first_of, there}
 use Rattle.cw_own.specs.Faults.{AreTold, IsFirstTold, IsTold}
 use Rattle.cw_own.specs.Laws.{IsRefusedBefore}
 use Rattle.cw_own.specs.Reasons.{Reason, ownership_reasons, IsDisowned, line_in}
-use Rattle.cw_reasons.specs.lemmas.Kept.{first-map, first-none, soonest, there-map, there-rising}
+use Rattle.cw_text.specs.lemmas.Kept.{first-map, first-none, soonest, there-map, there-rising}
 use Rattle.cw_own.specs.Rules.{function_lines}
 use Rattle.cw_own.specs.Views.{AreNoted, line_and_reason, reason_of}
 use Rattle.cw_own.specs.declared.reason.Disowned.{Disowned}

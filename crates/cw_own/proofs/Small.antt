@@ -1,10 +1,10 @@
 -- Concatenated lists of reasons.
 use Rattle.std.proofs.Common.{◌≡◌, ℕ, List, [], ◌∷◌, ◌++◌, Option, Some, None, refl, ap}
 use Rattle.std.specs.Option.{option_or}
-use Rattle.cw_reasons.specs.Rising.{kept}
-use Rattle.cw_reasons.specs.Told.{with_found}
-use Rattle.cw_reasons.specs.lemmas.Kept.{keep-map, kept-append}
-use Rattle.cw_reasons.specs.declared.reasons.At.{At}
+use Rattle.cw_text.specs.Rising.{kept}
+use Rattle.cw_text.specs.RecordedReasons.{with_found}
+use Rattle.cw_text.specs.lemmas.Kept.{keep-map, kept-append}
+use Rattle.cw_text.specs.declared.reasons.At.{At}
 use Rattle.cw_own.specs.Reasons.{Reason, line_in, reasons_at}
 use Rattle.cw_own.specs.declared.reason.Disowned.{Disowned}
 use Rattle.cw_own.specs.Views.{line_and_reason, told_at, told_of}

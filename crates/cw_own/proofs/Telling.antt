@@ -19,7 +19,7 @@ use Rattle.cw_own.specs.Reasons.{Reason, GivenTwice, GivenAndRead, OverTwice, Tu
 use Rattle.cw_own.specs.Reasons.{held_by, why_index, why_outer_array, why_outer_int, why_int, why_taken, why_lend, why_read, why_write, why_whole, why_target, why_argument}
 use Rattle.cw_own.specs.Reasons.{why_arguments, why_return, why_twice, why_read_too, why_call, why_over_twice, why_over, why_head, why_cut, why_element, why, reasons_at, ends_by}
 use Rattle.cw_own.specs.Reasons.{why_left, left_reasons, ending_reasons, reasons_within, reasons_in, block_reasons, function_reasons, line_in}
-use Rattle.cw_reasons.specs.lemmas.Kept.{sooner, soonest}
+use Rattle.cw_text.specs.lemmas.Kept.{sooner, soonest}
 
 abbrev pub line_of : (ℕ × Reason) → ℕ
 line_of r = r.0

@@ -7,9 +7,9 @@ use Rattle.cw_text.specs.declared.fault.Fault.{Fault}
 use Rattle.cw_text.specs.declared.fault.Fault.TheVariants as fault
 use Rattle.cw_tree.specs.declared.resolved.Tree.{Tree}
 use Rattle.cw_tree.specs.ResolvedView.{program_of, resolved_of}
-use Rattle.cw_reasons.specs.declared.reasons.At.{At}
-use Rattle.cw_reasons.specs.declared.reasons.Reasons.{Reasons}
-use Rattle.cw_reasons.specs.Rising.{first_of, there}
+use Rattle.cw_text.specs.declared.reasons.At.{At}
+use Rattle.cw_text.specs.declared.reasons.Reasons.{Reasons}
+use Rattle.cw_text.specs.Rising.{first_of, there}
 use Rattle.cw_own.specs.declared.reason.Disowned.{Disowned}
 use Rattle.cw_own.specs.Reasons.{IsDisowned, reasons_told}
 use Rattle.cw_own.specs.Views.{line_and_reason, reason_of}

@@ -8,8 +8,8 @@ use Rattle.cw_tree.specs.Resolved.{Use, Listed, Expr, Number, Variable, Element,
 use Rattle.cw_tree.specs.Resolved.{Int, Array, Shared, Stmt, Declare, DeclareArray, Assign, AssignElement, Reduce, Call}
 use Rattle.cw_tree.specs.Resolved.{Sync, If, IfElse, While, For, Scope, Cut, Region, Print, Return, Head, Parts, Block}
 use Rattle.cw_tree.specs.Resolved.{End, Then, Function, Resolved}
-use Rattle.cw_reasons.specs.declared.reasons.TheConstants.{MOST_TOLD}
-use Rattle.cw_reasons.specs.Rising.{rising}
+use Rattle.cw_text.specs.declared.reasons.TheConstants.{MOST_TOLD}
+use Rattle.cw_text.specs.Rising.{rising}
 use Rattle.cw_own.specs.declared.reason.Touch.{Touch}
 use Rattle.cw_own.specs.declared.reason.Touch.TheVariants as touch
 use Rattle.cw_own.specs.declared.reason.Holder.{Holder}

@@ -10,10 +10,10 @@ use Rattle.cw_tree.specs.declared.resolved.Cut as code_cut
 use Rattle.cw_tree.specs.declared.resolved.Stmt as code_stmt
 use Rattle.cw_tree.specs.declared.resolved.Line as code_line
 use Rattle.cw_tree.specs.declared.resolved.Function as code_function
-use Rattle.cw_reasons.specs.declared.reasons.At.{At}
-use Rattle.cw_reasons.specs.declared.reasons.Reasons.{Reasons}
-use Rattle.cw_reasons.specs.Rising.{kept}
-use Rattle.cw_reasons.specs.Told.{no_place}
+use Rattle.cw_text.specs.declared.reasons.At.{At}
+use Rattle.cw_text.specs.declared.reasons.Reasons.{Reasons}
+use Rattle.cw_text.specs.Rising.{kept}
+use Rattle.cw_text.specs.RecordedReasons.{no_place}
 use Rattle.cw_tree.specs.declared.resolved.Tree.{Tree}
 use Rattle.cw_tree.specs.Resolved.{Use, Expr, Stmt, For, Scope, Cut}
 use Rattle.cw_tree.specs.ResolvedView.{use_of, listed_of, expr_of, argument_of, head_of, parts_of, stmt_of, block_of}
@@ -25,7 +25,7 @@ use Rattle.cw_own.specs.declared.taken.Taken as code_taken
 use Rattle.cw_own.specs.declared.around.Loop as code_loop
 use Rattle.cw_own.specs.declared.reason.Disowned as code_reason
 use Rattle.cw_own.specs.declared.reason.Disowned.TheVariants as reason
-use Rattle.cw_own.specs.declared.told.Told as code_told
+use Rattle.cw_own.specs.declared.told.Findings as code_told
 use Rattle.cw_own.specs.Sets.{Slots, slots_of, with_int, row_of}
 use Rattle.cw_own.specs.Taken.{Held, either_held, held_within, held_of, Taken, taken_of, inside, inside_cut, taken_by_call}
 use Rattle.cw_own.specs.Taken.{after_all, with_parts, gain, turns, turns_in}
@@ -71,7 +71,7 @@ abbrev pub told_at : List (Option (At code_reason.Disowned)) → List (Option (�
 told_at places = map (option_map line_and_reason) places
 
 -- the abstraction of the recorded lines
-abbrev pub places_told : code_told.Told → List (Option (ℕ × Reason))
+abbrev pub places_told : code_told.Findings → List (Option (ℕ × Reason))
 places_told told = told_at told.reasons.places
 
 -- the abstraction of a loop
@@ -244,7 +244,7 @@ abbrev pub reasons_of_all : List code_function.Function → List (ℕ × Reason)
 reasons_of_all fs = flat_map function_reasons (map function_of fs)
 
 -- `after` is `before` with these reasons recorded
-abbrev pub Noted : (before after : code_told.Told) → List (ℕ × Reason) → Type 0
+abbrev pub Noted : (before after : code_told.Findings) → List (ℕ × Reason) → Type 0
 Noted before after reasons = places_told after ≡ kept line_in (places_told before) reasons
 
 -- the reasons of a tree are recorded

@@ -17,10 +17,9 @@ use crate::reason::{Disowned, Holder};
 use crate::row::Row;
 use crate::rules::{Turns, note_sync_block};
 use crate::taken::Taken;
-use crate::told::{Local, Told};
+use crate::told::{Findings, Local};
 use cw_model::syntax::NameKind;
-use cw_reasons::{At, Reasons};
-use cw_text::{Fault, Place};
+use cw_text::{At, Fault, Place, Reasons};
 use cw_tree::Typed;
 use cw_tree::resolved::{Function, Param};
 use std::alloc::{AllocError, Global};
@@ -103,9 +102,9 @@ fn broken(
     ensures first { IfOk result (IsFirstTold typed.now.tree) }
     ensures all { IfOk result (AreTold typed.now.tree) }
 {
-    let mut told = Told::new(watched);
+    let mut told = Findings::new(watched);
     note_functions(alloc, &typed.tree.functions, &mut told)?;
-    let Told { reasons, watch: _ } = told;
+    let Findings { reasons, watch: _ } = told;
     Ok(reasons)
 }
 
@@ -114,7 +113,7 @@ fn broken(
 fn note_functions<'a>(
     alloc: Global,
     functions: &'a [Function],
-    told: &mut Told<'a>,
+    told: &mut Findings<'a>,
 ) -> Result<(), AllocError>
     requires { list_all small_function (map function_of functions.now) ≡ true }
     ensures { OnOk result (Noted told.old told.new (reasons_of_all functions.now)) }
@@ -129,7 +128,7 @@ fn note_functions<'a>(
 fn note_function<'a>(
     alloc: Global,
     function: &'a Function,
-    told: &mut Told<'a>,
+    told: &mut Findings<'a>,
 ) -> Result<(), AllocError>
     requires { small_function (function_of function.now) ≡ true }
     ensures { OnOk result (Noted told.old told.new (reasons_of function.now)) }

@@ -20,7 +20,7 @@ use crate::reading::of_stmt;
 use crate::reason::{Disowned, Holder};
 use crate::row::Row;
 use crate::taken::Taken;
-use crate::told::Told;
+use crate::told::Findings;
 use cw_tree::resolved::{Cut, Head, Line, Stmt, Use};
 
 /// Holds the locals that one iteration of each remaining `while` holds, in order.
@@ -95,7 +95,7 @@ fn of_end<'a>(taken: &Taken, stmt: &'a Stmt) -> Option<Disowned<'a>>
 }
 
 // Records the declarations of a block whose names are held at its end.
-fn note_left<'a>(taken: &Taken, lines: &'a [Line], told: &mut Told<'a>)
+fn note_left<'a>(taken: &Taken, lines: &'a [Line], told: &mut Findings<'a>)
     ensures { Noted told.old told.new (still_taken taken.now lines.now) }
 {
     for line in lines {
@@ -112,7 +112,7 @@ fn note_all<'a>(
     taken: &mut Taken,
     lines: &'a [Line],
     rest: &mut Turns<'_>,
-    told: &mut Told<'a>,
+    told: &mut Findings<'a>,
 )
     requires small { small_block (block_of lines.now) ≡ true }
     requires turns { BeginWith (turns_of_lines known.now lines.now) (rows_of rest.old.left.now) }
@@ -143,7 +143,7 @@ fn note_block<'a>(
     taken: &mut Taken,
     lines: &'a [Line],
     rest: &mut Turns<'_>,
-    told: &mut Told<'a>,
+    told: &mut Findings<'a>,
 )
     requires small { small_block (block_of lines.now) ≡ true }
     requires turns { BeginWith (turns_of_lines known.now lines.now) (rows_of rest.old.left.now) }
@@ -166,7 +166,7 @@ pub fn note_sync_block<'a>(
     taken: &mut Taken,
     lines: &'a [Line],
     rest: &mut Turns<'_>,
-    told: &mut Told<'a>,
+    told: &mut Findings<'a>,
 )
     requires small { small_block (block_of lines.now) ≡ true }
     requires turns { BeginWith (turns_of_lines known.now lines.now) (rows_of rest.old.left.now) }
@@ -190,7 +190,7 @@ fn note_if<'a>(
     taken: &mut Taken,
     lines: &'a [Line],
     rest: &mut Turns<'_>,
-    told: &mut Told<'a>,
+    told: &mut Findings<'a>,
 )
     requires small { small_block (block_of lines.now) ≡ true }
     requires turns { BeginWith (turns_of_lines known.now lines.now) (rows_of rest.old.left.now) }
@@ -213,7 +213,7 @@ fn note_either<'a>(
     taken: &mut Taken,
     stmt: &'a Stmt,
     rest: &mut Turns<'_>,
-    told: &mut Told<'a>,
+    told: &mut Findings<'a>,
 )
     requires small { small_stmt (stmt_of stmt.now) ≡ true }
     requires either { is_if_else (stmt_of stmt.now) ≡ true }
@@ -257,7 +257,7 @@ fn note_while<'a>(
     taken: &Taken,
     lines: &'a [Line],
     rest: &mut Turns<'_>,
-    told: &mut Told<'a>,
+    told: &mut Findings<'a>,
 )
     requires small { small_block (block_of lines.now) ≡ true }
     requires turns { BeginWith (turns_of_lines known.now lines.now) (rows_of rest.old.left.now) }
@@ -277,7 +277,7 @@ fn note_scope<'a>(
     taken: &mut Taken,
     lines: &'a [Line],
     rest: &mut Turns<'_>,
-    told: &mut Told<'a>,
+    told: &mut Findings<'a>,
 )
     requires small { small_block (block_of lines.now) ≡ true }
     requires turns { BeginWith (turns_of_lines known.now lines.now) (rows_of rest.old.left.now) }
@@ -301,7 +301,7 @@ fn note_for<'a>(
     head: &'a Head,
     lines: &'a [Line],
     rest: &mut Turns<'_>,
-    told: &mut Told<'a>,
+    told: &mut Findings<'a>,
 )
     requires small { small_stmt (for_of head.now lines.now) ≡ true }
     requires turns { BeginWith (turns (row_of known.now) (for_of head.now lines.now))
@@ -328,7 +328,7 @@ fn note_cut<'a>(
     cut: &Cut,
     lines: &'a [Line],
     rest: &mut Turns<'_>,
-    told: &mut Told<'a>,
+    told: &mut Findings<'a>,
 )
     requires small { small_stmt (cut_of cut.now lines.now) ≡ true }
     requires turns { BeginWith (turns (row_of known.now) (cut_of cut.now lines.now))
@@ -360,7 +360,7 @@ fn note_within<'a>(
     line: u32,
     stmt: &'a Stmt,
     rest: &mut Turns<'_>,
-    told: &mut Told<'a>,
+    told: &mut Findings<'a>,
 )
     requires small { small_stmt (stmt_of stmt.now) ≡ true }
     requires turns { BeginWith (turns_inside known.now stmt.now) (rows_of rest.old.left.now) }

@@ -1,13 +1,13 @@
 //! The lines that break a rule, with the rules.
 
 ghost use Rattle.std.specs.Prelude.{◌≡◌, Some};
-ghost use Rattle.cw_reasons.specs.Told.{no_place};
+ghost use Rattle.cw_text.specs.RecordedReasons.{no_place};
 ghost use Rattle.cw_own.specs.Reasons.{reasons_at};
 ghost use Rattle.cw_own.specs.Views.{Noted, places_told, reason_of, told_of};
 
 use crate::reason::{Disowned, Holder, Start};
 use crate::row::Row;
-use cw_reasons::Reasons;
+use cw_text::Reasons;
 
 /// Represents a local whose start of being held is asked for.
 #[derive(Clone, Copy)]
@@ -87,17 +87,17 @@ impl Watch {
 
 /// Holds the least lines so far that break a rule, each with the first rule that it breaks, and the watched local.
 #[derive(Drop)]
-pub struct Told<'a> {
+pub struct Findings<'a> {
     pub reasons: Reasons<Disowned<'a>>,
     pub watch: Watch,
 }
 
-impl<'a> Told<'a> {
-    /// Returns a `Told` that holds no line and watches this local.
-    pub fn new(local: Option<Local>) -> Told<'a>
+impl<'a> Findings<'a> {
+    /// Returns a `Findings` that holds no line and watches this local.
+    pub fn new(local: Option<Local>) -> Findings<'a>
         ensures { places_told result ≡ no_place }
     {
-        Told {
+        Findings {
             reasons: Reasons::new(),
             watch: Watch::new(local),
         }

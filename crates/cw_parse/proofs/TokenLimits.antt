@@ -7,7 +7,7 @@ use Rattle.cw_model.specs.declared.token.Token.{Token}
 use Rattle.cw_model.specs.Lines.{lowest, unless}
 use Rattle.cw_model.specs.Sizes.{open_after, row_after, token_faults}
 use Rattle.cw_model.specs.lemmas.Lowest.{least_line, lowest-append, no_lines}
-use Rattle.cw_reasons.specs.declared.reasons.At.{At}
+use Rattle.cw_text.specs.declared.reasons.At.{At}
 use Rattle.cw_parse.specs.Nesting.{IsFirstPassed, IsPassedByTokens, IsTooNested, Nesting, first_passed, nestings, noted}
 use Rattle.cw_parse.specs.Parsed.{IsShort}
 use Rattle.cw_parse.specs.declared.nesting.TooNested.{TooNested}

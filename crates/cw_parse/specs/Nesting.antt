@@ -5,7 +5,7 @@ use Rattle.cw_model.specs.declared.limits.TheConstants.{MOST_OPEN_BRACKETS, MOST
 use Rattle.cw_model.specs.declared.token.Token.{Token}
 use Rattle.cw_model.specs.Lines.{IsLeastLine}
 use Rattle.cw_model.specs.Sizes.{open_after, row_after, token_faults}
-use Rattle.cw_reasons.specs.declared.reasons.At.{At}
+use Rattle.cw_text.specs.declared.reasons.At.{At}
 use Rattle.cw_text.specs.declared.fault.Fault.{Fault}
 use Rattle.cw_text.specs.declared.fault.Fault.TheVariants as fault
 use Rattle.cw_parse.specs.declared.nesting.TooNested.{TooNested}

@@ -7,8 +7,7 @@ ghost use Rattle.cw_parse.specs.Parsed.{IsShort};
 
 use cw_model::limits::{MOST_OPEN_BRACKETS, MOST_TOKENS_IN_A_ROW};
 use cw_model::token::{Kind, Token};
-use cw_reasons::At;
-use cw_text::{Fault, Place};
+use cw_text::{At, Fault, Place};
 
 /// Represents a limit on tokens.
 #[derive(Clone, Copy)]

@@ -56,7 +56,7 @@ enum Reached {
 
 // Represents an open block.
 #[derive(Clone, Copy)]
-struct Block {
+struct RecoveredBlock {
     is_if: bool,
 }
 
@@ -67,7 +67,7 @@ struct Recovery<'t> {
     tokens: Tokens<'t>,
     // the next token
     at: usize,
-    blocks: Vec<Block>,
+    blocks: Vec<RecoveredBlock>,
     // the incomplete function
     open: Option<Item>,
     // whether an `else` may be next
@@ -253,7 +253,7 @@ impl<'t> Recovery<'t> {
         });
         self.after_rejected = false;
         self.at = body;
-        self.blocks.push(Block { is_if: false })?;
+        self.blocks.push(RecoveredBlock { is_if: false })?;
         Ok(())
     }
 
@@ -361,7 +361,7 @@ impl<'t> Recovery<'t> {
         self.at = next;
         self.after_if = false;
         self.after_rejected = false;
-        self.blocks.push(Block { is_if })?;
+        self.blocks.push(RecoveredBlock { is_if })?;
         Ok(())
     }
 

@@ -22,14 +22,14 @@ use Rattle.cw_measure.specs.Measured.{Measured, measure_of, most, most_burdened,
 use Rattle.cw_measure.specs.Measured as measured
 use Rattle.cw_measure.specs.Counters.{up_to, onward, heaviest}
 use Rattle.cw_reduce.specs.Words.{Word, plus, word_of}
-use Rattle.cw_reduce.specs.Held.{Held, Summed, Raised, held, held_joined}
+use Rattle.cw_reduce.specs.ReducerState.{ReducerState, Summed, Raised, held, held_joined}
 use Rattle.cw_reduce.specs.Greatest.{greater}
-use Rattle.cw_reduce.specs.Shown.{totals_joined}
+use Rattle.cw_reduce.specs.PieceResults.{totals_joined}
 use Rattle.cw_reduce.specs.SumsOfIntegers.{SumsHoldIntegers}
 use Rattle.cw_reduce.specs.ShownLaws.{same_shown}
-use Rattle.cw_strand_laws.specs.Jobs.{Standing, Effect, Ended, Joined, TrapIn, OverLimit}
-use Rattle.cw_strand_laws.specs.Jobs as jobs
-use Rattle.cw_strand_laws.specs.Strands.{HasStopped, resumed, stopped_after, dropped}
+use Rattle.cw_code.specs.Jobs.{Standing, Effect, Ended, Joined, TrapIn, OverLimit}
+use Rattle.cw_code.specs.Jobs as jobs
+use Rattle.cw_code.specs.Strands.{HasStopped, resumed, stopped_after, dropped}
 use Rattle.cw_jobs.specs.Totals.{kept, HoldsTotals}
 use Rattle.cw_jobs.specs.lemmas.Totals.{sum_append}
 use Rattle.cw_part.specs.declared.read.Read.{Read}
@@ -74,8 +74,8 @@ module _ (law : SumsHoldIntegers) where
       → map held (all_told reducers (a ++ b)) ≡ totals_joined (map held (all_told reducers a)) (map held (all_told reducers b))
   all_both [] a b = refl
   all_both (r ∷ reducers) a b =
-      ap (λ (h : Held). h ∷ map held (all_told reducers (a ++ b))) (total_both r.how r.name a b)
-      ∙ ap (λ (hs : List Held). held_joined (held (kept (total_to r.how r.name a))) (held (kept (total_to r.how r.name b))) ∷ hs) (all_both reducers a b)
+      ap (λ (h : ReducerState). h ∷ map held (all_told reducers (a ++ b))) (total_both r.how r.name a b)
+      ∙ ap (λ (hs : List ReducerState). held_joined (held (kept (total_to r.how r.name a))) (held (kept (total_to r.how r.name b))) ∷ hs) (all_both reducers a b)
 
 -- totals that are known place by place
 some_same : (x y : Total) → Some x ≡ Some y → x ≡ y

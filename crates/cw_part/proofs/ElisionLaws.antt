@@ -22,7 +22,7 @@ use Rattle.cw_model.specs.Answers.{Answer, OverLimit, TrappedAt, answer_of, or_g
 use Rattle.cw_measure.specs.Measured.{most, most_burdened, Measured, MeasuresReadTrees, ReadsTree}
 use Rattle.cw_reduce.specs.Words.{Word, nothing, plus, word_of}
 use Rattle.cw_reduce.specs.WordLaws.{plus-last}
-use Rattle.cw_reduce.specs.Held.{Held, Summed, Raised, held_joined, as_total}
+use Rattle.cw_reduce.specs.ReducerState.{ReducerState, Summed, Raised, held_joined, as_total}
 use Rattle.cw_reduce.specs.SumsOfIntegers.{SumsHoldIntegers}
 use Rattle.cw_part.specs.declared.read.Read.{Read}
 use Rattle.cw_part.specs.Parts.{Came, Completed, Trapped, Over, over_if, within}
@@ -136,16 +136,16 @@ zero_fits : FitsSigned w128 (pos 0)
 zero_fits = record { sfits = omega arith }
 
 -- the sum that is held, and with a number more
-abbrev sum_held : Held → Word
+abbrev sum_held : ReducerState → Word
 sum_held (Summed w) = w
 sum_held (Raised v) = nothing
 
-one_more : (w : Word) (h : Held) → sum_held (held_joined (Summed w) h) ≡ plus w (sum_held h)
+one_more : (w : Word) (h : ReducerState) → sum_held (held_joined (Summed w) h) ≡ plus w (sum_held h)
 one_more w (Summed b) = refl
 one_more w (Raised v) = sym (plus-last w)
 
 module _ (law : SumsHoldIntegers) (number : Name → ℕ) (reducer : Name) (mine : (x : Name) → (number x == number reducer) ≡ same_name reducer x) where
-  abbrev all_told : Reduction → List (Name × ℤ) → Held
+  abbrev all_told : Reduction → List (Name × ℤ) → ReducerState
   all_told how updates = told_so how number (number reducer) updates
 
   told_sum : (updates : List (Name × ℤ)) → AllFit updates → sum_held (all_told Sum updates) ≡ word_of (int_wrap w128 (sum_to reducer updates))
@@ -176,7 +176,7 @@ module _ (law : SumsHoldIntegers) (number : Name → ℕ) (reducer : Name) (mine
       by_test true i = ap (held_joined (Raised (Some x.1))) i
 
   -- a sum that is held, as it is read
-  sum_as : (h : Held) → as_total Sum h ≡ total.Sum (cast_signed w128 (sum_held h).bits)
+  sum_as : (h : ReducerState) → as_total Sum h ≡ total.Sum (cast_signed w128 (sum_held h).bits)
   sum_as (Summed w) = refl
   sum_as (Raised v) = ap (λ (z : ℤ). total.Sum z) (sym (law.reads (pos 0) zero_fits))
 

@@ -7,9 +7,9 @@ use Rattle.cw_model.specs.Syntax.{Name}
 use Rattle.cw_model.specs.declared.limits.TheConstants.{MOST_LIMIT}
 use Rattle.cw_model.specs.Outcome.{Trace}
 use Rattle.cw_measure.specs.Measured.{most, measure_of}
-use Rattle.cw_reduce.specs.Held.{Held, none_held, one_held, held_joined}
+use Rattle.cw_reduce.specs.ReducerState.{ReducerState, none_held, one_held, held_joined}
 use Rattle.cw_reduce.specs.HeldLaws.{held-first}
-use Rattle.cw_reduce.specs.Shown.{held_of, totals_joined}
+use Rattle.cw_reduce.specs.PieceResults.{held_of, totals_joined}
 use Rattle.cw_part.specs.declared.read.Read.{Read}
 use Rattle.cw_part.specs.Parts.{Came, Completed, Trapped, Over, Memory, seen, is_above}
 use Rattle.cw_part.specs.Read.{readings}
@@ -21,18 +21,18 @@ use Rattle.cw_part.proofs.TellingLaws.{held_both}
 use Rattle.cw_part.proofs.StandingLaws.{none_met, serial_tested}
 
 -- what is held of updates, one after another
-abbrev one_total : ℕ → Held → List Held
+abbrev one_total : ℕ → ReducerState → List ReducerState
 one_total zero w = w ∷ []
 one_total (suc k) w = none_held ∷ one_total k w
 
-abbrev one_update : Numbering → Name × ℤ → List Held
+abbrev one_update : Numbering → Name × ℤ → List ReducerState
 one_update numbering x = one_total (numbering.number x.0) (one_held (numbering.how (numbering.number x.0)) x.1)
 
-abbrev totals_of : Numbering → List (Name × ℤ) → List Held
+abbrev totals_of : Numbering → List (Name × ℤ) → List ReducerState
 totals_of numbering [] = []
 totals_of numbering (x ∷ more) = totals_joined (one_update numbering x) (totals_of numbering more)
 
-one_read : (k q : ℕ) (w : Held) → held_of (one_total k w) q ≡ (if k == q then w else none_held)
+one_read : (k q : ℕ) (w : ReducerState) → held_of (one_total k w) q ≡ (if k == q then w else none_held)
 one_read zero zero w = refl
 one_read zero (suc q) w = ap (λ (b : Bool). if b then w else none_held) (sym (not_suc q))
 one_read (suc k) zero w = ap (λ (b : Bool). if b then w else none_held) (sym (suc_not k))
@@ -57,7 +57,7 @@ totals_read : (numbering : Numbering) (q : ℕ) (xs : List (Name × ℤ)) → he
 totals_read numbering q [] = none_read q
 totals_read numbering q (x ∷ xs) =
     held_both (one_update numbering x) (totals_of numbering xs) q
-    ∙ ap (λ (w : Held). held_joined w (held_of (totals_of numbering xs) q)) (update_read numbering x q)
+    ∙ ap (λ (w : ReducerState). held_joined w (held_of (totals_of numbering xs) q)) (update_read numbering x q)
     ∙ ap (held_joined (if numbering.number x.0 == q then one_held (numbering.how q) x.1 else none_held)) (totals_read numbering q xs)
     ∙ by_test (numbering.number x.0 == q)
   where

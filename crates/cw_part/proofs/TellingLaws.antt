@@ -17,9 +17,9 @@ use Rattle.cw_measure.specs.lemmas.BlockWeights.{child_charge}
 use Rattle.cw_measure.specs.JoinLaws.{same_parts}
 use Rattle.cw_measure.specs.lemmas.StrandWeights.{span_marked}
 use Rattle.cw_measure.specs.lemmas.OpenParts.{work_marked}
-use Rattle.cw_reduce.specs.Held.{Held, one_held, held_joined}
+use Rattle.cw_reduce.specs.ReducerState.{ReducerState, one_held, held_joined}
 use Rattle.cw_reduce.specs.HeldLaws.{held-first, held-last, held-assoc}
-use Rattle.cw_reduce.specs.Shown.{held_of, totals_joined}
+use Rattle.cw_reduce.specs.PieceResults.{held_of, totals_joined}
 use Rattle.cw_part.specs.declared.read.Read.{Read}
 use Rattle.cw_part.specs.Parts.{Came, Completed, Trapped, followed, seen, over_if, within}
 use Rattle.cw_part.specs.Read.{readings, read_joined, child_read, call_read}
@@ -27,7 +27,7 @@ use Rattle.cw_part.specs.Runs.{Numbering, cost, traces, as_event, told, told_so,
 use Rattle.cw_part.proofs.RunLaws.{cost_both, cost_inside}
 
 -- what is held over both
-pub held_both : (a b : List Held) (q : ℕ) → held_of (totals_joined a b) q ≡ held_joined (held_of a q) (held_of b q)
+pub held_both : (a b : List ReducerState) (q : ℕ) → held_of (totals_joined a b) q ≡ held_joined (held_of a q) (held_of b q)
 held_both [] b zero = sym (held-first (held_of b zero))
 held_both [] b (suc q) = sym (held-first (held_of b (suc q)))
 held_both (x ∷ a) [] zero = sym (held-last (held_of (x ∷ a) zero))
@@ -58,7 +58,7 @@ trace_both : MeasuresReadTrees → (burden : Burden) (numbering : Numbering) (t 
 trace_both law burden numbering t u a b h k = record {
   lines = ap (λ (l : List ℤ). l ++ b.views.lines) h.lines ∙ ap (λ (l : List ℤ). t.lines ++ l) k.lines;
   totals = λ q.
-      held_both a.views.totals b.views.totals q ∙ ap (λ (w : Held). held_joined w (held_of b.views.totals q)) (h.totals q)
+      held_both a.views.totals b.views.totals q ∙ ap (λ (w : ReducerState). held_joined w (held_of b.views.totals q)) (h.totals q)
       ∙ ap (held_joined (told numbering q t.updates)) (k.totals q) ∙ sym (told_both (numbering.how q) numbering.number q t.updates u.updates);
   measure =
       ap (λ (m : Measured). measured.joined m b.measure) h.measure ∙ ap (measured.joined (measure_of burden t.events)) k.measure

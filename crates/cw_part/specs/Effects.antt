@@ -13,12 +13,12 @@ use Rattle.cw_measure.specs.Measured.{Measured, Measures, measure_of, most, most
 use Rattle.cw_measure.specs.Measured as measured
 use Rattle.cw_meter.specs.declared.meter.Readings.{Readings}
 use Rattle.cw_meter.specs.Whole.{AreReadings}
-use Rattle.cw_reduce.specs.Held.{Held, held}
-use Rattle.cw_reduce.specs.Shown as views
-use Rattle.cw_strand_laws.specs.Jobs.{Standing, Effect, Ended, Joined, TrapIn, OverLimit}
-use Rattle.cw_strand_laws.specs.Jobs as jobs
-use Rattle.cw_strand_laws.specs.Strands.{HasStopped, resumed, stopped_after, dropped}
-use Rattle.cw_jobs.specs.declared.effect.Shown.{Shown}
+use Rattle.cw_reduce.specs.ReducerState.{ReducerState, held}
+use Rattle.cw_reduce.specs.PieceResults as views
+use Rattle.cw_code.specs.Jobs.{Standing, Effect, Ended, Joined, TrapIn, OverLimit}
+use Rattle.cw_code.specs.Jobs as jobs
+use Rattle.cw_code.specs.Strands.{HasStopped, resumed, stopped_after, dropped}
+use Rattle.cw_jobs.specs.declared.effect.PieceOutput.{PieceOutput}
 use Rattle.cw_jobs.specs.Means.{HasShown}
 use Rattle.cw_jobs.specs.Totals.{kept}
 use Rattle.cw_part.specs.declared.read.Read.{Read}
@@ -26,14 +26,14 @@ use Rattle.cw_part.specs.Parts.{Came, Completed, Trapped, Over, Memory, followed
 use Rattle.cw_part.specs.Read.{read_joined, readings}
 
 -- what an effect has shown, as the views of a piece
-abbrev pub views_of : Shown → views.Shown
+abbrev pub views_of : PieceOutput → views.PieceResults
 views_of s = record { totals = map held s.totals.items; lines = s.lines.items }
 
 -- an effect of each of two pieces of a run, the second after the first, and an effect of both as one: what the last one
 -- shows is what the first two show, joined as views
 abbrev pub EffectsShowViews : Type 0
 EffectsShowViews =
-    (code : Code) (a b both : Shown) (t u : Trace) (m n k : ℕ)
+    (code : Code) (a b both : PieceOutput) (t u : Trace) (m n k : ℕ)
     → HasShown code a t m → HasShown code b u n → HasShown code both (joined t u) k
     → views_of both ≡ views.shown_joined (views_of a) (views_of b)
 
@@ -52,7 +52,7 @@ RunsReadAsMeasures =
     → HasReadings (measured.joined m n) r
 
 -- what is held of the reducers of code after these updates
-abbrev pub totals_after : Code → List (Name × ℤ) → List Held
+abbrev pub totals_after : Code → List (Name × ℤ) → List ReducerState
 totals_after code updates = map held (map (λ r. kept (total_to r.how r.name updates)) code.reducers)
 
 -- what is read of a piece has the lines and the totals of its trace, the work of this many instructions, and the counters

@@ -16,8 +16,8 @@ use Rattle.cw_model.specs.Meaning.{Returned, Deeper, function_named, call}
 use Rattle.cw_model.specs.Answers.{Answer, Ended, TrappedAt, OverLimit, answer_of, total_to, main_name, main_frame}
 use Rattle.cw_model.specs.Answers.{serial_answer}
 use Rattle.cw_measure.specs.Measured.{most, ReadsTree}
-use Rattle.cw_reduce.specs.Held.{as_total}
-use Rattle.cw_reduce.specs.Shown.{held_of}
+use Rattle.cw_reduce.specs.ReducerState.{as_total}
+use Rattle.cw_reduce.specs.PieceResults.{held_of}
 use Rattle.cw_part.specs.declared.read.Read.{Read}
 use Rattle.cw_part.specs.Parts.{Came, Completed, Trapped, Over, Memory}
 use Rattle.cw_part.specs.RunParts.{RunPart}

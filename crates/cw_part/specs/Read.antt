@@ -1,6 +1,6 @@
 -- The views and the measure of a part of a run.
 use Rattle.cw_model.specs.declared.burden.Burden.{Burden}
-use Rattle.cw_reduce.specs.Shown.{nothing_shown, shown_joined}
+use Rattle.cw_reduce.specs.PieceResults.{nothing_shown, shown_joined}
 use Rattle.cw_measure.specs.Measured.{nothing, joined, after_child, after_part}
 use Rattle.cw_part.specs.declared.read.Read.{Read}
 use Rattle.cw_part.specs.Parts.{Readings, PartsJoin}

@@ -1,16 +1,16 @@
 -- The views and measures of parts form a monoid.
 use Rattle.std.specs.Prelude.{◌≡◌}
-use Rattle.cw_reduce.specs.Shown.{Shown}
+use Rattle.cw_reduce.specs.PieceResults.{PieceResults}
 use Rattle.cw_reduce.specs.ShownLaws.{shown-first, shown-last, shown-assoc}
 use Rattle.cw_measure.specs.Measured.{Measured}
 use Rattle.cw_measure.specs.JoinLaws.{joined-first, joined-last, joined-assoc}
 use Rattle.cw_part.specs.declared.read.Read.{Read}
 use Rattle.cw_part.specs.Read.{nothing_read, read_joined}
 
-abbrev read_with : Shown → Measured → Read
+abbrev read_with : PieceResults → Measured → Read
 read_with s m = record { views = s; measure = m }
 
-same_read : {s s' : Shown} {m m' : Measured} → s ≡ s' → m ≡ m' → read_with s m ≡ read_with s' m'
+same_read : {s s' : PieceResults} {m m' : Measured} → s ≡ s' → m ≡ m' → read_with s m ≡ read_with s' m'
 same_read e f = cc
 
 pub read-first : (a : Read) → read_joined nothing_read a ≡ a

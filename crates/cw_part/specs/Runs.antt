@@ -9,8 +9,8 @@ use Rattle.cw_model.specs.Trees.{Mark, tree_of, work}
 use Rattle.cw_model.specs.Outcome.{Trace, quiet, joined}
 use Rattle.cw_measure.specs.Measured.{most, Measures}
 use Rattle.cw_measure.specs.OpenParts.{marked, part_of}
-use Rattle.cw_reduce.specs.Held.{Held, none_held, one_held, held_joined}
-use Rattle.cw_reduce.specs.Shown.{held_of}
+use Rattle.cw_reduce.specs.ReducerState.{ReducerState, none_held, one_held, held_joined}
+use Rattle.cw_reduce.specs.PieceResults.{held_of}
 use Rattle.cw_part.specs.declared.read.Read.{Read}
 use Rattle.cw_part.specs.Parts.{Readings, Came, Completed, Trapped, Over, Memory, followed, seen, over_if}
 use Rattle.cw_part.specs.RunParts.{RunPart, run_joined, as_child, as_call}
@@ -64,13 +64,13 @@ pub record Numbering : Type 0 where
   pub how : ℕ → Reduction
 
 -- what is held of one reducer with this reduction, after these updates, by the number of its name
-abbrev pub told_so : Reduction → (number : Name → ℕ) → (reducer : ℕ) → List (Name × ℤ) → Held
+abbrev pub told_so : Reduction → (number : Name → ℕ) → (reducer : ℕ) → List (Name × ℤ) → ReducerState
 told_so how number reducer [] = none_held
 told_so how number reducer (update ∷ more) =
     let rest = told_so how number reducer more in
     if number update.0 == reducer then held_joined (one_held how update.1) rest else rest
 
-abbrev pub told : Numbering → (reducer : ℕ) → List (Name × ℤ) → Held
+abbrev pub told : Numbering → (reducer : ℕ) → List (Name × ℤ) → ReducerState
 told numbering reducer updates = told_so (numbering.how reducer) numbering.number reducer updates
 
 -- a part represents a trace: its lines, what is held of each reducer, and the measure of its events

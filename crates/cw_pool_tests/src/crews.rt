@@ -277,7 +277,7 @@ fn crews_of_too_many(rt: HostRuntime) -> Result<(), Fail> {
 
 // The outcome of a run by two workers, of which worker 0 is held.
 #[derive(Drop)]
-pub struct Held {
+pub struct GateOutcome {
     // Whether it has the outcome of one worker.
     pub is_same: bool,
     pub value: Option<i64>,
@@ -294,13 +294,13 @@ pub fn run_held<R: Threads + Wait + Copy + Send + Drop + 'static>(
     alloc: Global,
     run: &Run,
     only_first: bool,
-) -> Result<Held, Fault> {
+) -> Result<GateOutcome, Fault> {
     let gate = Arc::new(alloc, Holder::new(only_first))?;
     let told = Arc::try_clone(&gate)?;
     let crew = serving(alloc, rt, 1)?;
     let got = together(rt, alloc, run, crew, gate)?;
     let wanted = alone(alloc, run)?;
-    Ok(Held {
+    Ok(GateOutcome {
         is_same: is_same(&got, &wanted),
         value: value_of(&got),
         used_up: told.used_up(),

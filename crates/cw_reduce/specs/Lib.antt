@@ -5,7 +5,7 @@ pub mod ListLaws
 pub mod SumsOfIntegers
 pub mod Greatest
 pub mod GreatestLaws
-pub mod Held
+pub mod ReducerState
 pub mod HeldLaws
-pub mod Shown
+pub mod PieceResults
 pub mod ShownLaws

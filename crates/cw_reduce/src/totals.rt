@@ -2,7 +2,7 @@
 
 ghost use Rattle.std.specs.Prelude.{◌≡◌};
 ghost use Rattle.std.specs.Int.{int_wrapping_add, w128};
-ghost use Rattle.cw_reduce.specs.Held.{as_total, held, held_joined, one_held};
+ghost use Rattle.cw_reduce.specs.ReducerState.{as_total, held, held_joined, one_held};
 ghost use Rattle.cw_reduce.specs.Words.{plus, word_of};
 
 use crate::greatest::greater_of;

@@ -1,8 +1,8 @@
 //! The results of a run other than its value.
 
 ghost use Rattle.std.specs.Prelude.{◌≡◌, ◌≤◌, ◌++◌, ◌∷◌, ◌<◌, [], length, map, IfOk, OnOk};
-ghost use Rattle.cw_reduce.specs.Held.{as_total, held};
-ghost use Rattle.cw_reduce.specs.Shown.{nothing_shown, shown_joined, held_of, total_of, AreJoined, SameTotals, TellsTotals, TellsValue};
+ghost use Rattle.cw_reduce.specs.ReducerState.{as_total, held};
+ghost use Rattle.cw_reduce.specs.PieceResults.{nothing_shown, shown_joined, held_of, total_of, AreJoined, SameTotals, TellsTotals, TellsValue};
 
 use crate::lines::Lines;
 use crate::totals::{joined, one_told, read_as};
@@ -22,10 +22,10 @@ pub struct Views {
 
 impl Model for Views {
     ghost use Rattle.std.specs.Prelude.{map};
-    ghost use Rattle.cw_reduce.specs.Held.{held};
-    ghost use Rattle.cw_reduce.specs.Shown.{Shown};
+    ghost use Rattle.cw_reduce.specs.ReducerState.{held};
+    ghost use Rattle.cw_reduce.specs.PieceResults.{PieceResults};
 
-    ghost Value = { Shown };
+    ghost Value = { PieceResults };
 
     ghost view = { λ v. record { totals = map held v.totals.items; lines = v.lines } };
 }
@@ -141,7 +141,7 @@ fn join_all(into: Vec<Total>, from: &Vec<Total>) -> Vec<Total>
 }
 
 impl Monoid for Views {
-    ghost use Rattle.cw_reduce.specs.Shown.{nothing_shown, shown_joined};
+    ghost use Rattle.cw_reduce.specs.PieceResults.{nothing_shown, shown_joined};
     ghost use Rattle.cw_reduce.specs.ShownLaws.{shown-first, shown-last, shown-assoc};
 
     ghost empty = { nothing_shown };

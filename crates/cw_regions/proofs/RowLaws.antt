@@ -6,26 +6,26 @@ use borrow.Author.Tests.{eqb-true}
 use Rattle.cw_facts.specs.Tests.{less_differs, less_where_it_differs, equal}
 use Rattle.cw_measure.specs.Outermost.{unless_at}
 use Rattle.cw_measure.specs.lemmas.Outermost.{unless_nothing}
-use Rattle.cw_regions.specs.declared.rows.Rows.{Rows}
+use Rattle.cw_regions.specs.declared.rows.RowsByTag.{RowsByTag}
 use Rattle.cw_regions.specs.declared.rows.Row.{Row}
 use Rattle.cw_regions.specs.RegionRows.{row_of, zero_row, summed, under, FitsRow, IsGiven, IsReadAs, AddsEach, JoinsRows}
 
 -- the rows below a place were added, and the others not yet
-pub record Added (add : Row → Row → Row) (old shorter now : Rows) (place : ℕ) : Type 0 where
+pub record Added (add : Row → Row → Row) (old shorter now : RowsByTag) (place : ℕ) : Type 0 where
   pub as_long : length now.by_tag.items ≡ length old.by_tag.items
   pub below : (q : ℕ) → q < place → FitsRow (add (row_of old q) (row_of shorter q)) → row_of now q ≡ add (row_of old q) (row_of shorter q)
   pub beyond : (q : ℕ) → place ≤ q → row_of now q ≡ row_of old q
 
-pub none_added : (add : Row → Row → Row) (old shorter : Rows) → Added add old shorter old 0
+pub none_added : (add : Row → Row → Row) (old shorter : RowsByTag) → Added add old shorter old 0
 none_added add old shorter = record { as_long = refl; below = λ q h fits. absurd (omega arith); beyond = λ q h. refl }
 
-given_here : (now new : Rows) (place : ℕ) (sum : Row) → IsGiven now new place sum → row_of new place ≡ sum
+given_here : (now new : RowsByTag) (place : ℕ) (sum : Row) → IsGiven now new place sum → row_of new place ≡ sum
 given_here now new place sum g = g place ∙ ap (λ (b : Bool). if b then sum else row_of now place) (equal place place refl)
 
-given_other : (now new : Rows) (place q : ℕ) (sum : Row) → IsGiven now new place sum → (place == q) ≡ false → row_of new q ≡ row_of now q
+given_other : (now new : RowsByTag) (place q : ℕ) (sum : Row) → IsGiven now new place sum → (place == q) ≡ false → row_of new q ≡ row_of now q
 given_other now new place q sum g e = g q ∙ ap (λ (b : Bool). if b then sum else row_of now q) e
 
-pub one_added : (add : Row → Row → Row) (old shorter now new : Rows) (place : ℕ) (current row sum : Row) → current ≡ row_of now place
+pub one_added : (add : Row → Row → Row) (old shorter now new : RowsByTag) (place : ℕ) (current row sum : Row) → current ≡ row_of now place
     → row ≡ row_of shorter place → (FitsRow (add current row) → sum ≡ add current row) → IsGiven now new place sum
     → length new.by_tag.items ≡ length now.by_tag.items → Added add old shorter now place → Added add old shorter new (place + 1)
 one_added add old shorter now new place current row sum c r s g l h = record {
@@ -45,7 +45,7 @@ one_added add old shorter now new place current row sum c r s g l h = record {
         subst N same (given_here now new place sum g) ∙ (subst S there (subst C here s)) fits
     by_place q less fits false e = given_other now new place q sum g e ∙ h.below q (less_where_it_differs place q less e) fits
 
-pub each_added : (add : Row → Row → Row) (old shorter now : Rows) (place : ℕ) → place ≡ length shorter.by_tag.items → Added add old shorter now place → AddsEach add old shorter now
+pub each_added : (add : Row → Row → Row) (old shorter now : RowsByTag) (place : ℕ) → place ≡ length shorter.by_tag.items → Added add old shorter now place → AddsEach add old shorter now
 each_added add old shorter now place e h = record {
   within = λ q less fits. h.below q (omega arith) fits;
   beyond = λ q more. h.beyond q (omega arith);
@@ -84,7 +84,7 @@ summed_none r = let z = unless_nothing (r.active == 0) in let a : r.work + unles
     omega arith in simp (a, b, c)
 
 -- if we have at least the piece's number of rows, and if we have fewer
-pub joined_into_ours : (old piece new : Rows) → AddsEach summed old piece new → JoinsRows old piece new
+pub joined_into_ours : (old piece new : RowsByTag) → AddsEach summed old piece new → JoinsRows old piece new
 joined_into_ours old piece new a = λ q fits alike.
     elim (cases_lt q (length piece.by_tag.items)) [
       | inl h ↦ read_same (row_of new q) (summed (row_of old q) (row_of piece q)) (a.within q h fits)
@@ -92,7 +92,7 @@ joined_into_ours old piece new a = λ q fits alike.
           (a.beyond q h ∙ sym (summed_none (row_of old q)) ∙ ap (summed (row_of old q)) (sym (get_or_past piece.by_tag.items q zero_row h)))
     ]
 
-pub joined_into_piece : (old piece new : Rows) → AddsEach under piece old new → JoinsRows old piece new
+pub joined_into_piece : (old piece new : RowsByTag) → AddsEach under piece old new → JoinsRows old piece new
 joined_into_piece old piece new a = λ q fits alike.
     elim (cases_lt q (length old.by_tag.items)) [
       | inl h ↦ read_same (row_of new q) (summed (row_of old q) (row_of piece q)) (a.within q h fits)

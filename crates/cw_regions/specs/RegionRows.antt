@@ -2,7 +2,7 @@
 use Rattle.std.specs.Prelude.{◌≡◌, ℕ, ◌+◌, ◌-◌, ◌^◌, ◌<◌, ◌≤◌, ◌==◌, Bool, true, false, length, if◌then◌else◌}
 use Rattle.std.specs.Prelude.{slice_index_or}
 use Rattle.cw_regions.specs.declared.rows.Row.{Row}
-use Rattle.cw_regions.specs.declared.rows.Rows.{Rows}
+use Rattle.cw_regions.specs.declared.rows.RowsByTag.{RowsByTag}
 use Rattle.cw_measure.specs.Outermost.{unless_open, Tally}
 
 -- the row of a tag that is never executed
@@ -10,7 +10,7 @@ abbrev pub zero_row : Row
 zero_row = record { work = 0; span = 0; burdened = 0; active = 0; at_work = 0; at_path = 0; at_burdened = 0 }
 
 -- the row of a tag; zeros if there is none
-abbrev pub row_of : Rows → ℕ → Row
+abbrev pub row_of : RowsByTag → ℕ → Row
 row_of rows tag = slice_index_or rows.by_tag.items tag zero_row
 
 -- an execution begins, at this work and on a path of this weight
@@ -109,7 +109,7 @@ abbrev pub under : Row → Row → Row
 under piece ours = summed ours piece
 
 -- each of the shorter rows is added to the longer ones, and the further ones are unchanged
-pub record AddsEach (add : Row → Row → Row) (longer shorter new : Rows) : Type 0 where
+pub record AddsEach (add : Row → Row → Row) (longer shorter new : RowsByTag) : Type 0 where
   pub within : (q : ℕ) → q < length shorter.by_tag.items → FitsRow (add (row_of longer q) (row_of shorter q))
       → row_of new q ≡ add (row_of longer q) (row_of shorter q)
   pub beyond : (q : ℕ) → length shorter.by_tag.items ≤ q → row_of new q ≡ row_of longer q
@@ -125,31 +125,31 @@ pub record IsReadAs (row other : Row) : Type 0 where
   pub at_burdened : 0 < other.active → row.at_burdened ≡ other.at_burdened
 
 -- each row whose sums fit has the readings of our row with the piece's sums, if the piece has no open execution
-abbrev pub JoinsRows : Rows → (piece : Rows) → Rows → Type 0
+abbrev pub JoinsRows : RowsByTag → (piece : RowsByTag) → RowsByTag → Type 0
 JoinsRows old piece new =
     (q : ℕ) → FitsRow (summed (row_of old q) (row_of piece q)) → (row_of piece q).active ≡ 0
     → IsReadAs (row_of new q) (summed (row_of old q) (row_of piece q))
 
 -- the row of one tag becomes this row, if its sums fit
-abbrev pub Becomes : (Row → Row) → Rows → Rows → (tag : ℕ) → Type 0
+abbrev pub Becomes : (Row → Row) → RowsByTag → RowsByTag → (tag : ℕ) → Type 0
 Becomes f old new tag = FitsRow (f (row_of old tag)) → row_of new tag ≡ f (row_of old tag)
 
 -- the rows of other tags are unchanged
-abbrev pub OthersStay : Rows → Rows → (tag : ℕ) → Type 0
+abbrev pub OthersStay : RowsByTag → RowsByTag → (tag : ℕ) → Type 0
 OthersStay old new tag = (q : ℕ) → (tag == q) ≡ false → row_of new q ≡ row_of old q
 
 -- an execution of a tag begins, at this work and on a path of this weight
-abbrev pub TagBegins : Rows → Rows → (tag count span burdened : ℕ) → Type 0
+abbrev pub TagBegins : RowsByTag → RowsByTag → (tag count span burdened : ℕ) → Type 0
 TagBegins old new tag count span burdened = Becomes (entered count span burdened) old new tag
 
 -- an execution of a tag ends, at this work and on a path of this weight
-abbrev pub TagEnds : Rows → Rows → (tag count span burdened : ℕ) → Type 0
+abbrev pub TagEnds : RowsByTag → RowsByTag → (tag count span burdened : ℕ) → Type 0
 TagEnds old new tag count span burdened = Becomes (left count span burdened) old new tag
 
 -- the row of one tag is set, and the rows of other tags are unchanged
-abbrev pub IsGiven : Rows → Rows → (tag : ℕ) → Row → Type 0
+abbrev pub IsGiven : RowsByTag → RowsByTag → (tag : ℕ) → Row → Type 0
 IsGiven old new tag row = (q : ℕ) → row_of new q ≡ (if tag == q then row else row_of old q)
 
 -- the row of each tag is unchanged
-abbrev pub SayTheSame : Rows → Rows → Type 0
+abbrev pub SayTheSame : RowsByTag → RowsByTag → Type 0
 SayTheSame old new = (q : ℕ) → row_of new q ≡ row_of old q

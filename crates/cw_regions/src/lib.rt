@@ -27,5 +27,5 @@ pub mod laws;
 mod rows;
 mod table;
 
-pub use rows::{Row, Rows};
+pub use rows::{Row, RowsByTag};
 pub use table::{RegionRow, RegionTable};

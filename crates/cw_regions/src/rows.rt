@@ -28,7 +28,7 @@ pub struct Row {
 
 /// The rows by tag number. A tag after the end has a row of zeros.
 #[derive(Debug, Drop)]
-pub struct Rows {
+pub struct RowsByTag {
     pub by_tag: Vec<Row>,
 }
 
@@ -42,12 +42,12 @@ const ZERO: Row = Row {
     at_burdened: 0,
 };
 
-impl Rows {
+impl RowsByTag {
     /// Returns no rows. Allocates no memory.
-    pub fn new(alloc: Global) -> Rows
+    pub fn new(alloc: Global) -> RowsByTag
         ensures { (q : ℕ) → row_of result q ≡ zero_row }
     {
-        Rows {
+        RowsByTag {
             by_tag: Vec::new(alloc),
         }
     }
@@ -134,7 +134,7 @@ impl Rows {
     /// open here, those of the piece are inside them, and are left out.
     ///
     /// Takes one step for each row of the shorter of the two lists, and no memory.
-    pub fn join(&mut self, piece: Rows)
+    pub fn join(&mut self, piece: RowsByTag)
         ensures { JoinsRows self.old piece self.new }
     {
         if piece.by_tag.len() <= self.by_tag.len() {
@@ -146,7 +146,7 @@ impl Rows {
     }
 
     // Adds the sums of a piece whose number of rows is at most ours.
-    fn add(&mut self, piece: &Rows)
+    fn add(&mut self, piece: &RowsByTag)
         requires { length piece.now.by_tag.items ≤ length self.old.by_tag.items }
         ensures { AddsEach rows.summed self.old piece.now self.new }
     {
@@ -157,7 +157,7 @@ impl Rows {
     }
 
     // Adds our rows to these rows of a piece, of which there are at least as many; open executions stay open.
-    fn add_under(&mut self, ours: &Rows)
+    fn add_under(&mut self, ours: &RowsByTag)
         requires { length ours.now.by_tag.items ≤ length self.old.by_tag.items }
         ensures { AddsEach rows.under self.old ours.now self.new }
     {

@@ -3,7 +3,7 @@
 ghost use Rattle.std.specs.Prelude.{ℕ, OnOk};
 ghost use Rattle.cw_regions.specs.Regions.{BeginsRegion, EndsRegion, JoinsRegions, ReadsRegion, StartsRegions};
 
-use crate::rows::Rows;
+use crate::rows::RowsByTag;
 use std::alloc::{AllocError, Global};
 
 /// The measures of each tag over a run so far, by the tag's number in source order.
@@ -12,7 +12,7 @@ use std::alloc::{AllocError, Global};
 /// second.
 #[derive(Debug, Drop)]
 pub struct RegionTable {
-    pub rows: Rows,
+    pub rows: RowsByTag,
 }
 
 impl RegionTable {
@@ -21,7 +21,7 @@ impl RegionTable {
         ensures { StartsRegions result }
     {
         RegionTable {
-            rows: Rows::new(alloc),
+            rows: RowsByTag::new(alloc),
         }
     }
 

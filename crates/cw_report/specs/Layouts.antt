@@ -4,7 +4,7 @@ use Rattle.cw_text.specs.declared.fault.Fault.{Fault}
 use Rattle.cw_runnable.specs.declared.verified.Verified.{Verified}
 use Rattle.cw_machine.specs.declared.alone.Ended.{Ended}
 use Rattle.cw_gains.specs.declared.gains.Gains.{Gains}
-use Rattle.cw_speedup.specs.declared.speedups.Speedup.{Speedup}
+use Rattle.cw_greedy_schedule.specs.declared.speedups.Speedup.{Speedup}
 use Rattle.cw_report.specs.declared.column.Column.{Column}
 use Rattle.cw_report.specs.declared.column.Column.TheVariants.{Word, Label, Number, OfWork, OfSpan}
 use Rattle.cw_report.specs.Aligned.{aligned}

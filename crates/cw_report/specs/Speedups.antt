@@ -3,8 +3,8 @@ use Rattle.std.specs.Prelude.{ℕ, zero, suc, ◌+◌, ◌*◌, ◌/◌, min, Li
 use Rattle.cw_model.specs.Report.{csv_line, end_of_line, parallelism, thousandths}
 use Rattle.cw_text.specs.declared.fault.Fault.{Fault}
 use Rattle.cw_meter.specs.declared.meter.Readings.{Readings}
-use Rattle.cw_speedup.specs.declared.speedups.SpeedupRow.{SpeedupRow}
-use Rattle.cw_speedup.specs.declared.speedups.Speedup.{Speedup}
+use Rattle.cw_greedy_schedule.specs.declared.speedups.SpeedupRow.{SpeedupRow}
+use Rattle.cw_greedy_schedule.specs.declared.speedups.Speedup.{Speedup}
 
 -- the names of the columns
 abbrev pub speedup_header : List ℕ

@@ -19,7 +19,7 @@ use Rattle.cw_runnable.specs.declared.verified.Verified.{Verified}
 use Rattle.cw_machine.specs.declared.alone.Ended.{Ended}
 use Rattle.cw_machine.specs.declared.values.Values.{Values}
 use Rattle.cw_meter.specs.declared.meter.Readings.{Readings}
-use Rattle.cw_schedule.specs.declared.schedules.Schedule.{Schedule}
+use Rattle.cw_greedy_schedule.specs.declared.schedules.Schedule.{Schedule}
 use Rattle.cw_gains.specs.Gains.{root_at}
 use Rattle.cw_gains.specs.declared.counts.Sums.{Sums}
 use Rattle.cw_gains.specs.declared.gains.FunctionGain.{FunctionGain}

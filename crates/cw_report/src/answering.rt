@@ -19,12 +19,12 @@ use crate::tables::{scale_text, schedule_text, sites_text};
 use crate::text::{ended_text, printed_text};
 use crate::writing::write_text;
 use cw_gains::gains::Gains;
+use cw_greedy_schedule::schedules::Schedule;
+use cw_greedy_schedule::speedups::Speedup;
 use cw_machine::alone::Ended;
 use cw_machine::values::Values;
 use cw_model::burden::Burden;
 use cw_runnable::verified::Verified;
-use cw_schedule::schedules::Schedule;
-use cw_speedup::speedups::Speedup;
 use cw_text::Fault;
 use std::alloc::Global;
 
@@ -233,8 +233,7 @@ pub fn page<W: Sink>(
     to: &mut W,
 ) -> Result<(), Fault>
     requires { (W.seen to.old).failures < 2 ^ 64 - 1 }
-    ensures idle {
-        page_report name.now version.now args.now burden source.now code.now drawn.now ≡ []
+    ensures idle { page_report name.now version.now args.now burden source.now code.now drawn.now ≡ []
         → to.new ≡ to.old }
     ensures answers { AnswersText W.seen to.old to.new
         (page_report name.now version.now args.now burden source.now code.now drawn.now) result }

@@ -1,8 +1,8 @@
 //! What a page shows.
 
 use cw_gains::gains::Gains;
+use cw_greedy_schedule::speedups::Speedup;
 use cw_machine::alone::Ended;
-use cw_speedup::speedups::Speedup;
 
 /// The maximum length of the output of a program in a page, in bytes. A longer output is cut after the last line within
 /// this length.

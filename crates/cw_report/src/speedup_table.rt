@@ -7,8 +7,8 @@ ghost use Rattle.cw_report.specs.Texts.{Makes};
 
 use crate::fields::{bound_text, parallelism_text};
 use crate::table::Table;
+use cw_greedy_schedule::speedups::{Speedup, SpeedupRow};
 use cw_meter::Readings;
-use cw_speedup::speedups::{Speedup, SpeedupRow};
 use cw_text::Fault;
 use itoa::Buffer;
 use std::alloc::{AllocError, Global};

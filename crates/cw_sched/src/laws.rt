@@ -42,21 +42,21 @@ pub fn every_run_comes_about()
 pub fn every_effect_means_its_job()
     ensures { EffectsMeanTheirJobs }
 {
-    cw_strand_laws::laws::every_effect_of_a_world_means_its_job();
+    cw_code::crew_laws::every_effect_of_a_world_means_its_job();
 }
 
 /// After any list of events, a job is out at one strand at most.
 pub fn every_job_is_out_once()
     ensures { JobsAreSingle }
 {
-    cw_strand_laws::laws::every_job_is_out_once();
+    cw_code::crew_laws::every_job_is_out_once();
 }
 
 /// After any list of events, the outcome is what the code gives, or memory, only if memory was lacking.
 pub fn every_outcome_is_serial()
     ensures { OutcomesAreSerial }
 {
-    cw_strand_laws::laws::every_world_answers_what_the_code_gives();
+    cw_code::crew_laws::every_world_answers_what_the_code_gives();
 }
 
 /// A continuation that is taken back executes the same instructions as in a strand of its own.
@@ -69,7 +69,7 @@ pub fn a_rest_taken_back_runs_alike()
 pub fn a_rest_taken_back_joins_alike()
     ensures { JoinsAlike }
 {
-    cw_strand_laws::laws::serial_run_is_cut_at_a_spawn();
+    cw_code::crew_laws::serial_run_is_cut_at_a_spawn();
 }
 
 /// After any list of events, the root is with the first worker, and its outcome, once known, does not change.
@@ -86,7 +86,7 @@ pub fn each_event_is_steps_of_worlds()
 pub fn no_strand_of_code_that_fits_gets_stuck()
     ensures { NoneIsUnfitHere }
 {
-    cw_strand_laws::laws::no_strand_of_code_that_fits_gets_stuck();
+    cw_code::crew_laws::no_strand_of_code_that_fits_gets_stuck();
 }
 
 /// After each step, the jobs in a deque, by the ledger of all that was offered there, are the board's list.

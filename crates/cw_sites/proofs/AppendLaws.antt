@@ -2,7 +2,7 @@
 use Rattle.std.specs.Prelude.{◌≡◌, ℕ, ◌+◌, ◌-◌, ◌<◌, ◌≤◌, ◌^◌, Bool, true, false, nat_lt, List, [], ◌∷◌, length, get_or, Option, Some, None, refl}
 use Rattle.std.proofs.Common.{sym, ◌∙◌, ap, subst, arith}
 use Rattle.cw_sites.specs.declared.steps.Steps.{Steps}
-use Rattle.cw_sites.specs.declared.paths.Block.{Block}
+use Rattle.cw_sites.specs.declared.paths.ForkedBlock.{ForkedBlock}
 use Rattle.cw_sites.specs.declared.paths.Paths.{Paths}
 use Rattle.cw_sites.specs.ChosenPaths.{Path, plus}
 use Rattle.cw_sites.specs.StepSums.{upto, whole as all_steps, if_site, Fits}
@@ -14,7 +14,7 @@ use Rattle.cw_sites.proofs.StepSumLaws.{upto-mono, upto-next}
 use Rattle.cw_sites.proofs.PathLaws.{path_with, make, same_path, same_strand_path, strand_path_of, seen_blocks_same}
 
 -- steps were added, without their weight
-pub stepped : (q : ℕ) (steps steps' : List Steps) (weight start site count : ℕ) (fs : List Block)
+pub stepped : (q : ℕ) (steps steps' : List Steps) (weight start site count : ℕ) (fs : List ForkedBlock)
     → ((n : ℕ) → n ≤ start → n ≤ length steps → upto q steps' n ≡ upto q steps n)
     → ((all_steps q steps - upto q steps start) + if_site q site count < 2 ^ 64 → all_steps q steps' ≡ all_steps q steps + if_site q site count)
     → LaidFrom 0 fs start → start ≤ length steps → (strand_path_of q steps weight start fs).now.own + if_site q site count < 2 ^ 64

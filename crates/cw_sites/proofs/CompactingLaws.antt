@@ -8,8 +8,8 @@ use borrow.Author.Tests.{eqb-true}
 use Rattle.cw_facts.specs.Tests.{below, not_below, equal}
 use Rattle.cw_sites.specs.declared.steps.Steps.{Steps}
 use Rattle.cw_measure.specs.Outermost.{one_if}
-use Rattle.cw_pages.specs.Items.{entry, Enters}
-use Rattle.cw_pages.specs.declared.table.Table.{Table}
+use Rattle.cw_facts.specs.Items.{entry, Enters}
+use Rattle.cw_facts.specs.declared.table.Table.{Table}
 use Rattle.cw_sites.specs.Compacting.{placed, Gathered, IsAddedUp, IsAt, IsGathered}
 use Rattle.cw_sites.specs.StepSums.{if_site, upto, sum_at, added, IsCutOut, SumsUp, AllBelow}
 use Rattle.cw_sites.proofs.StepSumLaws.{upto-mono, upto-next, upto-set, upto_to-set, upto_past-set, steps_if, own_next}

@@ -2,7 +2,7 @@
 use Rattle.std.specs.Prelude.{◌≡◌, ℕ, ◌+◌, ◌*◌, ◌≤◌, List, [], ◌∷◌, ◌++◌, length, refl}
 use Rattle.std.proofs.Common.{sym, ◌∙◌, ap, subst, arith}
 use Rattle.cw_sites.specs.declared.steps.Steps.{Steps}
-use Rattle.cw_sites.specs.declared.paths.Block.{Block}
+use Rattle.cw_sites.specs.declared.paths.ForkedBlock.{ForkedBlock}
 use Rattle.cw_sites.specs.declared.paths.Paths.{Paths}
 use Rattle.cw_sites.specs.Compacting.{IsAddedUp, AddsUpWithin}
 use Rattle.cw_sites.specs.StepSums.{upto, AllBelow, IsClosedUp, StaysBelow}
@@ -13,15 +13,15 @@ use Rattle.cw_sites.specs.Laws.{PathsAreFew}
 use Rattle.cw_sites.proofs.PathLaws.{laid_with, kept_path, kept_laid_from, added_up}
 use Rattle.cw_sites.proofs.StepSumLaws.{upto-mono}
 
-pub short_push : (n : ℕ) (fs : List Block) (f : Block) → AreShort n fs → IsShortBlock n f → AreShort n (fs ++ f ∷ [])
+pub short_push : (n : ℕ) (fs : List ForkedBlock) (f : ForkedBlock) → AreShort n fs → IsShortBlock n f → AreShort n (fs ++ f ∷ [])
 short_push n [] f h s = (s, tt)
 short_push n (g ∷ fs) f h s = (h.0, short_push n fs f h.1 s)
 
-pub short_pop : (n : ℕ) (fs : List Block) (f : Block) → AreShort n (fs ++ f ∷ []) → AreShort n fs × IsShortBlock n f
+pub short_pop : (n : ℕ) (fs : List ForkedBlock) (f : ForkedBlock) → AreShort n (fs ++ f ∷ []) → AreShort n fs × IsShortBlock n f
 short_pop n [] f h = (tt, h.0)
 short_pop n (g ∷ fs) f h = let i = short_pop n fs f h.1 in ((h.0, i.0), i.1)
 
-pub short_pushed : (n : ℕ) (fs fs' : List Block) (f : Block) → fs' ≡ fs ++ f ∷ [] → AreShort n fs → IsShortBlock n f → AreShort n fs'
+pub short_pushed : (n : ℕ) (fs fs' : List ForkedBlock) (f : ForkedBlock) → fs' ≡ fs ++ f ∷ [] → AreShort n fs → IsShortBlock n f → AreShort n fs'
 short_pushed n fs fs' f e h s = subst (AreShort n) (sym e) (short_push n fs f h s)
 
 -- a larger bound
@@ -33,7 +33,7 @@ pub tight_within : (room most : ℕ) (paths : Paths) → IsWithinLimit paths →
 tight_within room most paths le h = let l = h.limit in record { laid = h.laid; sites = h.sites; limit = h.limit; blocks = h.blocks; now = omega arith }
 
 -- a block that is taken out of the list
-pub tight_with : (most : ℕ) (r r' : Paths) (f : Block) → r.blocks.items ≡ r'.blocks.items ++ f ∷ [] → r'.start ≡ r.start
+pub tight_with : (most : ℕ) (r r' : Paths) (f : ForkedBlock) → r.blocks.items ≡ r'.blocks.items ++ f ∷ [] → r'.start ≡ r.start
     → r'.steps.items ≡ r.steps.items → r'.limit ≡ r.limit → IsTight most r → IsTightWith most r' f
 tight_with most r r' f e start steps limit h =
     let p = short_pop (most_steps most + 1) r'.blocks.items f (subst (AreShort (most_steps most + 1)) e h.blocks) in
@@ -49,7 +49,7 @@ tight_with most r r' f e start steps limit h =
     }
 
 -- the base of a block without steps after it, and after a part was removed and the rest merged
-pub gathers_none : (steps : List Steps) (f : Block) → InOrder f → f.mid ≡ f.child → Gathers steps steps f f.mid
+pub gathers_none : (steps : List Steps) (f : ForkedBlock) → InOrder f → f.mid ≡ f.child → Gathers steps steps f f.mid
 gathers_none steps f o e =
     let o0 = o.0 in let o1 = o.1 in let o2 = o.2 in
     record {
@@ -60,7 +60,7 @@ gathers_none steps f o e =
       child = λ q. let a = ap (upto q steps) e in omega arith;
     }
 
-pub gathers_closed : (steps steps' : List Steps) (f : Block) (mid : ℕ) → InOrder f → f.child ≤ length steps → IsClosedUp f.mid f.end f.child steps steps' mid → Gathers steps steps' f mid
+pub gathers_closed : (steps steps' : List Steps) (f : ForkedBlock) (mid : ℕ) → InOrder f → f.child ≤ length steps → IsClosedUp f.mid f.end f.child steps steps' mid → Gathers steps steps' f mid
 gathers_closed steps steps' f mid o l h =
     let o0 = o.0 in let o1 = o.1 in let o2 = o.2 in
     let m = h.mid_is in let n = h.count_is in
@@ -72,7 +72,7 @@ gathers_closed steps steps' f mid o l h =
       child = h.last;
     }
 
-pub gathers_added : (steps closed new : List Steps) (f : Block) (mid end : ℕ) → InOrder f → Gathers steps closed f mid → IsAddedUp f.from mid closed new end → Gathers steps new f end
+pub gathers_added : (steps closed new : List Steps) (f : ForkedBlock) (mid end : ℕ) → InOrder f → Gathers steps closed f mid → IsAddedUp f.from mid closed new end → Gathers steps new f end
 gathers_added steps closed new f mid end o g h =
     let o0 = o.0 in let o1 = o.1 in let o2 = o.2 in
     let n = g.count_is in let m = h.count_is in
@@ -122,7 +122,7 @@ shortened_bounded room most old new len end e all short kept limit k b =
     }
 
 -- the paths of the open blocks are consecutive
-few_from : (n lo hi : ℕ) (fs : List Block) → LaidFrom lo fs hi → AreShort n fs → hi ≤ lo + n * (3 * length fs)
+few_from : (n lo hi : ℕ) (fs : List ForkedBlock) → LaidFrom lo fs hi → AreShort n fs → hi ≤ lo + n * (3 * length fs)
 few_from n lo hi [] h s = omega arith
 few_from n lo hi (f ∷ fs) h s =
     let i = few_from n f.child hi fs h.2 s.1 in

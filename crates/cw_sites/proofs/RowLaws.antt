@@ -7,10 +7,10 @@ use borrow.Author.Tests.{eqb-true}
 use Rattle.cw_facts.specs.Tests.{less_differs, less_where_it_differs, taken, not_taken}
 use Rattle.cw_measure.specs.Outermost.{unless_at}
 use Rattle.cw_measure.specs.lemmas.Outermost.{unless_nothing}
-use Rattle.cw_pages.specs.Items.{item, Gives, HasNoPage, HasNoPageFrom, HasNoShelfFrom}
-use Rattle.cw_pages.specs.declared.pages.Pages.{Pages}
-use Rattle.cw_pages.specs.lemmas.Places.{on_page, on_pages_from, on_shelves_from}
-use Rattle.cw_sites.specs.declared.rows.Rows.{Rows}
+use Rattle.cw_facts.specs.Items.{item, Gives, HasNoPage, HasNoPageFrom, HasNoShelfFrom}
+use Rattle.cw_facts.specs.declared.pages.Pages.{Pages}
+use Rattle.cw_facts.specs.lemmas.Places.{on_page, on_pages_from, on_shelves_from}
+use Rattle.cw_sites.specs.declared.rows.RowsBySite.{RowsBySite}
 use Rattle.cw_sites.specs.declared.rows.Row.{Row}
 use Rattle.cw_sites.specs.declared.rows.Kept.{Kept}
 use Rattle.cw_sites.specs.SiteRows.{kept_of, further_of, row_of, zero_row, none_kept, summed, under, FitsRow, Becomes, OthersStay, IsReadAs, JoinsBelow, JoinsFurther, JoinsOn, JoinsRows}
@@ -24,11 +24,11 @@ page_item : (further : Pages Kept) (q : ℕ) → further_of further q ≡ item n
 unfolding further_of
 page_item further q = refl
 
-pub kept_further : (rows : Rows) (q : ℕ) → length rows.by_site.items ≤ q → kept_of rows q ≡ item none_kept rows.further q
+pub kept_further : (rows : RowsBySite) (q : ℕ) → length rows.by_site.items ≤ q → kept_of rows q ≡ item none_kept rows.further q
 kept_further rows q past = get_or_past rows.by_site.items q (further_of rows.further q) past ∙ page_item rows.further q
 
 -- the entries are unchanged, and the vector has this many sites
-pub record IsReached (old now : Rows) (count : ℕ) : Type 0 where
+pub record IsReached (old now : RowsBySite) (count : ℕ) : Type 0 where
   pub same : (q : ℕ) → kept_of now q ≡ kept_of old q
   pub count_is : length now.by_site.items ≡ count
 
@@ -76,17 +76,17 @@ kept_here xs place kept others less q = elim (cases_lt place q) [
 ]
 
 -- a site outside of the vector and of all pages
-free_row : (rows : Rows) (q : ℕ) → length rows.by_site.items ≤ q → item none_kept rows.further q ≡ none_kept → row_of rows q ≡ zero_row
+free_row : (rows : RowsBySite) (q : ℕ) → length rows.by_site.items ≤ q → item none_kept rows.further q ≡ none_kept → row_of rows q ≡ zero_row
 free_row rows q past none = ap (λ (x : Kept). x.row) (kept_further rows q past ∙ none)
 
 pub empty_rows : (by_site : List Kept) (further : Pages Kept) → by_site ≡ [] → ((k : ℕ) → item none_kept further k ≡ none_kept) → (q : ℕ) → (get_or by_site q (further_of further q)).row ≡ zero_row
 empty_rows by_site further e none q = let n = ap length e in ap (λ (x : Kept). x.row) (get_or_past by_site q (further_of further q) (omega arith) ∙ page_item further q ∙ none q)
 
 -- no row is added yet, and one more row is added
-pub none_joined : (piece ours : Rows) → JoinsBelow piece 0 ours ours
+pub none_joined : (piece ours : RowsBySite) → JoinsBelow piece 0 ours ours
 none_joined piece ours = record { within = λ q less fits. absurd (omega arith); beyond = λ q more. refl }
 
-pub one_joined : (piece ours now new : Rows) (n : ℕ) (row : Row) → row ≡ row_of piece n → Becomes (under row) now new n → OthersStay now new n
+pub one_joined : (piece ours now new : RowsBySite) (n : ℕ) (row : Row) → row ≡ row_of piece n → Becomes (under row) now new n → OthersStay now new n
     → JoinsBelow piece n ours now → JoinsBelow piece (n + 1) ours new
 one_joined piece ours now new n row is own others h = record {
   within = λ q less fits. by_site q less fits (n == q) refl;
@@ -103,7 +103,7 @@ one_joined piece ours now new n row is own others h = record {
     by_site q less fits false e = others q e ∙ h.within q (less_where_it_differs n q less e) fits
 
 -- rows of zeros need not be added
-rows_skipped : (piece ours now : Rows) (a b : ℕ) → a ≤ b → ((q : ℕ) → a ≤ q → q < b → row_of piece q ≡ zero_row) → JoinsBelow piece a ours now → JoinsBelow piece b ours now
+rows_skipped : (piece ours now : RowsBySite) (a b : ℕ) → a ≤ b → ((q : ℕ) → a ≤ q → q < b → row_of piece q ≡ zero_row) → JoinsBelow piece a ours now → JoinsBelow piece b ours now
 rows_skipped piece ours now a b order free h = record {
   within = λ q less fits. elim (cases_lt q a) [
     | inl l ↦ h.within q l fits
@@ -113,23 +113,23 @@ rows_skipped piece ours now a b order free h = record {
 }
 
 -- the rows outside of the piece's vector
-pub on_none : (piece old : Rows) (a b : ℕ) → a ≡ b → JoinsOn piece a b old old
+pub on_none : (piece old : RowsBySite) (a b : ℕ) → a ≡ b → JoinsOn piece a b old old
 on_none piece old a b e = λ ours h.
     let B : ℕ → Type 0 = λ n. JoinsBelow piece (max (length piece.by_site.items) n) ours old in
     subst B e h
 
-pub on_more : (piece old mid new : Rows) (a b c d e : ℕ) → b ≡ c → d ≡ e → JoinsOn piece a b old mid → JoinsOn piece c d mid new → JoinsOn piece a e old new
+pub on_more : (piece old mid new : RowsBySite) (a b c d e : ℕ) → b ≡ c → d ≡ e → JoinsOn piece a b old mid → JoinsOn piece c d mid new → JoinsOn piece a e old new
 on_more piece old mid new a b c d e bc de first second = λ ours h.
     let M : ℕ → Type 0 = λ n. JoinsBelow piece (max (length piece.by_site.items) n) ours mid in
     let N : ℕ → Type 0 = λ n. JoinsBelow piece (max (length piece.by_site.items) n) ours new in
     subst N de (second ours (subst M bc (first ours h)))
 
-on_skip : (piece old : Rows) (a b : ℕ) → a ≤ b → ((q : ℕ) → length piece.by_site.items ≤ q → a ≤ q → q < b → row_of piece q ≡ zero_row) → JoinsOn piece a b old old
+on_skip : (piece old : RowsBySite) (a b : ℕ) → a ≤ b → ((q : ℕ) → length piece.by_site.items ≤ q → a ≤ q → q < b → row_of piece q ≡ zero_row) → JoinsOn piece a b old old
 on_skip piece old a b order free = λ ours h.
     let l = length piece.by_site.items in
     rows_skipped piece ours old (max l a) (max l b) (omega arith) (λ q from to. free q (omega arith) (omega arith) (omega arith)) h
 
-pub on_row : (piece old new : Rows) (n : ℕ) (row : Row) → length piece.by_site.items ≤ n → row ≡ row_of piece n → Becomes (under row) old new n → OthersStay old new n → JoinsOn piece n (n + 1) old new
+pub on_row : (piece old new : RowsBySite) (n : ℕ) (row : Row) → length piece.by_site.items ≤ n → row ≡ row_of piece n → Becomes (under row) old new n → OthersStay old new n → JoinsOn piece n (n + 1) old new
 on_row piece old new n row past is own others = λ ours h.
     let l = length piece.by_site.items in
     let at : max l n ≡ n = omega arith in
@@ -138,19 +138,19 @@ on_row piece old new n row past is own others = λ ours h.
     let N : ℕ → Type 0 = λ k. JoinsBelow piece k ours new in
     subst N next (one_joined piece ours old new n row is own others (subst O at h))
 
-pub on_first : (piece old : Rows) (n : ℕ) → n < length piece.by_site.items → JoinsOn piece n (n + 1) old old
+pub on_first : (piece old : RowsBySite) (n : ℕ) → n < length piece.by_site.items → JoinsOn piece n (n + 1) old old
 on_first piece old n within = on_skip piece old n (n + 1) (omega arith) (λ q past from to. absurd (omega arith))
 
-pub on_page_free : (piece old : Rows) (shelf page : ℕ) → page < 32 → HasNoPage piece.further shelf page → JoinsOn piece (shelf * 256 + page * 8) (shelf * 256 + page * 8 + 8) old old
+pub on_page_free : (piece old : RowsBySite) (shelf page : ℕ) → page < 32 → HasNoPage piece.further shelf page → JoinsOn piece (shelf * 256 + page * 8) (shelf * 256 + page * 8 + 8) old old
 on_page_free piece old shelf page less none = on_skip piece old (shelf * 256 + page * 8) (shelf * 256 + page * 8 + 8) (omega arith)
     (λ q past from to. let at = on_page shelf page q less from to in free_row piece q past (none none_kept q at.0 at.1))
 
-pub on_rest_free : (piece old : Rows) (shelf page : ℕ) → page ≤ 32 → HasNoPageFrom piece.further shelf page → JoinsOn piece (shelf * 256 + page * 8) (shelf * 256 + 256) old old
+pub on_rest_free : (piece old : RowsBySite) (shelf page : ℕ) → page ≤ 32 → HasNoPageFrom piece.further shelf page → JoinsOn piece (shelf * 256 + page * 8) (shelf * 256 + 256) old old
 on_rest_free piece old shelf page less none = on_skip piece old (shelf * 256 + page * 8) (shelf * 256 + 256) (omega arith)
     (λ q past from to. let at = on_pages_from shelf page q from to in free_row piece q past (none none_kept q at.0 at.1))
 
 -- all shelves have been added
-pub all_joined : (piece old new : Rows) (shelf shelves : ℕ) → shelf ≡ shelves → HasNoShelfFrom piece.further shelves → JoinsOn piece 0 (shelf * 256) old new → JoinsFurther piece old new
+pub all_joined : (piece old new : RowsBySite) (shelf shelves : ℕ) → shelf ≡ shelves → HasNoShelfFrom piece.further shelves → JoinsOn piece 0 (shelf * 256) old new → JoinsFurther piece old new
 all_joined piece old new shelf shelves is none on = λ ours h q fits.
     let l = length piece.by_site.items in
     let O : ℕ → Type 0 = λ k. JoinsBelow piece k ours old in
@@ -174,5 +174,5 @@ read_same r s e = record {
       λ h. ap (λ (x : Row). x.at_path) e;
 }
 
-pub rows_joined : (old piece mid new : Rows) → JoinsBelow piece (length piece.by_site.items) old mid → JoinsFurther piece mid new → JoinsRows old piece new
+pub rows_joined : (old piece mid new : RowsBySite) → JoinsBelow piece (length piece.by_site.items) old mid → JoinsFurther piece mid new → JoinsRows old piece new
 rows_joined old piece mid new firsts further = λ q fits idle. read_same (row_of new q) (summed (row_of old q) (row_of piece q)) (further old firsts q fits)

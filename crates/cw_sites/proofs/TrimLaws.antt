@@ -3,7 +3,7 @@ use Rattle.std.proofs.Common.{◌≡◌, ◌∙◌, ◌+◌, ◌*◌, ◌≤◌,
 use Rattle.cw_model.specs.Trees.{Event}
 use Rattle.cw_measure.specs.OpenParts.{Open}
 use Rattle.cw_sites.specs.declared.steps.Steps.{Steps}
-use Rattle.cw_sites.specs.declared.paths.Block.{Block}
+use Rattle.cw_sites.specs.declared.paths.ForkedBlock.{ForkedBlock}
 use Rattle.cw_sites.specs.declared.paths.Paths.{Paths}
 use Rattle.cw_sites.specs.declared.table.SiteTable.{SiteTable}
 use Rattle.cw_sites.specs.OpenPaths.{Shows}
@@ -14,7 +14,7 @@ use Rattle.cw_sites.specs.StrandPaths.{StrandPath}
 use Rattle.cw_sites.specs.Tables.{IsBoundedTable, Tells}
 use Rattle.cw_sites.specs.Trimmed.{IsTrimmed}
 
-abbrev path_of : (q : ℕ) → List Steps → (start weight : ℕ) → List Block → StrandPath
+abbrev path_of : (q : ℕ) → List Steps → (start weight : ℕ) → List ForkedBlock → StrandPath
 path_of q steps start weight blocks =
     record { now = part q steps start (length steps) weight; blocks = seen_blocks q steps blocks [] }
 

@@ -2,8 +2,8 @@
 use Rattle.std.specs.Prelude.{◌≡◌, ℕ, zero, suc, ◌+◌, ◌-◌, ◌^◌, ◌<◌, ◌≤◌, nat_lt, List, length, get_or}
 use Rattle.std.specs.Global.{Vec}
 use Rattle.cw_measure.specs.Outermost.{one_if}
-use Rattle.cw_pages.specs.Items.{entry}
-use Rattle.cw_pages.specs.declared.table.Table.{Table}
+use Rattle.cw_facts.specs.Items.{entry}
+use Rattle.cw_facts.specs.declared.table.Table.{Table}
 use Rattle.cw_sites.specs.declared.steps.Steps.{Steps}
 use Rattle.cw_sites.specs.StepSums.{added, sum_at, upto, whole, AllBelow, SumsUp}
 

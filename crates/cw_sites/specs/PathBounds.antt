@@ -1,7 +1,7 @@
 -- The maximum number of steps of the paths of a strand.
 use Rattle.std.specs.Prelude.{ℕ, ◌+◌, ◌*◌, ◌≤◌, ◌<◌, List, [], ◌∷◌, length}
 use Rattle.cw_sites.specs.declared.steps.Steps.{Steps}
-use Rattle.cw_sites.specs.declared.paths.Block.{Block}
+use Rattle.cw_sites.specs.declared.paths.ForkedBlock.{ForkedBlock}
 use Rattle.cw_sites.specs.declared.paths.Paths.{Paths}
 use Rattle.cw_sites.specs.StepSums.{AllBelow}
 use Rattle.cw_sites.specs.StepLists.{Laid, LaidWith}
@@ -11,11 +11,11 @@ abbrev pub most_steps : (most : ℕ) → ℕ
 most_steps most = 2 * most + 64
 
 -- no path of a block has more than `count` steps: its base, its longest child, and the path up to the current child
-abbrev pub IsShortBlock : (count : ℕ) → Block → Type 0
+abbrev pub IsShortBlock : (count : ℕ) → ForkedBlock → Type 0
 IsShortBlock count f = (f.mid ≤ f.from + count) × (f.end ≤ f.mid + count) × (f.child ≤ f.end + count)
 
 -- no path of these blocks has more than `count` steps
-abbrev pub AreShort : (count : ℕ) → List Block → Type 0
+abbrev pub AreShort : (count : ℕ) → List ForkedBlock → Type 0
 AreShort count [] = Unit {0}
 AreShort count (f ∷ fs) = IsShortBlock count f × AreShort count fs
 
@@ -37,7 +37,7 @@ abbrev pub IsBounded : (most : ℕ) → Paths → Type 0
 IsBounded most = IsBoundedBy (2 * (most_steps most + 1)) most
 
 -- the bound after a step, with the innermost block outside of the list
-pub record IsTightWith (most : ℕ) (paths : Paths) (f : Block) : Type 0 where
+pub record IsTightWith (most : ℕ) (paths : Paths) (f : ForkedBlock) : Type 0 where
   pub laid : LaidWith paths f
   pub sites : AllBelow most paths.steps.items
   pub limit : paths.limit ≤ most_steps most
@@ -71,11 +71,11 @@ abbrev pub JoinsTight : Paths → Paths → Type 0
 JoinsTight old new = (most : ℕ) → IsTight most old → IsBounded most new
 
 -- the tight bound is kept, with the innermost block outside of the list before
-abbrev pub StaysTightWith : Paths → Block → Paths → Type 0
+abbrev pub StaysTightWith : Paths → ForkedBlock → Paths → Type 0
 StaysTightWith old f new = (most : ℕ) → IsTightWith most old f → IsTight most new
 
 -- a join concatenates two paths, with the innermost block outside of the list before
-abbrev pub JoinsTightWith : Paths → Block → Paths → Type 0
+abbrev pub JoinsTightWith : Paths → ForkedBlock → Paths → Type 0
 JoinsTightWith old f new = (most : ℕ) → IsTightWith most old f → IsBounded most new
 
 -- the tight bound is kept if the added steps are of sites below the same number
@@ -98,7 +98,7 @@ pub record IsShortBase (most : ℕ) (paths : Paths) (from mid : ℕ) : Type 0 wh
   pub base : mid ≤ from + (most_steps most + 1)
 
 -- the base of a block stays within its bound when it takes a continuation in
-abbrev pub StaysShort : Paths → Paths → Block → (mid : ℕ) → Type 0
+abbrev pub StaysShort : Paths → Paths → ForkedBlock → (mid : ℕ) → Type 0
 StaysShort old new f mid =
     LaidWith old f → (most : ℕ) → AllBelow most old.steps.items → old.limit ≤ most_steps most
     → IsShortBlock (most_steps most + 1) f → IsShortBase most new f.from mid

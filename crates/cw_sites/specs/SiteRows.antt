@@ -5,11 +5,11 @@ use Rattle.cw_model.specs.Trees.{Tree, Event, tree_of, work, span}
 use Rattle.cw_model.specs.Rows.{is_site, leaves, weight_of_site, calls_of}
 use Rattle.cw_measure.specs.OpenParts.{Open, work_in}
 use Rattle.cw_measure.specs.Outermost.{is_counted, one_if, unless_open, Tally, Counts}
-use Rattle.cw_pages.specs.Items.{item}
-use Rattle.cw_pages.specs.declared.pages.Pages.{Pages}
+use Rattle.cw_facts.specs.Items.{item}
+use Rattle.cw_facts.specs.declared.pages.Pages.{Pages}
 use Rattle.cw_sites.specs.declared.rows.Row.{Row}
 use Rattle.cw_sites.specs.declared.rows.Kept.{Kept}
-use Rattle.cw_sites.specs.declared.rows.Rows.{Rows}
+use Rattle.cw_sites.specs.declared.rows.RowsBySite.{RowsBySite}
 use Rattle.cw_sites.specs.OpenPaths.{here_in, path_in}
 
 -- the row of a site that was not met
@@ -25,11 +25,11 @@ unfoldable pub further_of : Pages Kept → ℕ → Kept
 further_of further site = item none_kept further site
 
 -- the entry of a site; zeros if the site was not met
-abbrev pub kept_of : Rows → ℕ → Kept
+abbrev pub kept_of : RowsBySite → ℕ → Kept
 kept_of rows site = slice_index_or rows.by_site.items site (further_of rows.further site)
 
 -- the row of a site
-abbrev pub row_of : Rows → ℕ → Row
+abbrev pub row_of : RowsBySite → ℕ → Row
 row_of rows site = (kept_of rows site).row
 
 -- adds instructions of the site itself
@@ -142,19 +142,19 @@ abbrev pub IsWhereItFits : (wanted row : Row) → Type 0
 IsWhereItFits wanted row = FitsRow wanted → row ≡ wanted
 
 -- the row of one site becomes this row, if its sums fit
-abbrev pub Becomes : (Row → Row) → Rows → Rows → (site : ℕ) → Type 0
+abbrev pub Becomes : (Row → Row) → RowsBySite → RowsBySite → (site : ℕ) → Type 0
 Becomes f old new site = FitsRow (f (row_of old site)) → row_of new site ≡ f (row_of old site)
 
 -- the rows of other sites are unchanged
-abbrev pub OthersStay : Rows → Rows → (site : ℕ) → Type 0
+abbrev pub OthersStay : RowsBySite → RowsBySite → (site : ℕ) → Type 0
 OthersStay old new site = (q : ℕ) → (site == q) ≡ false → row_of new q ≡ row_of old q
 
 -- the entry of each site is unchanged
-abbrev pub KeepTheSame : Rows → Rows → Type 0
+abbrev pub KeepTheSame : RowsBySite → RowsBySite → Type 0
 KeepTheSame old new = (q : ℕ) → kept_of new q ≡ kept_of old q
 
 -- this site has this entry, and the entries of other sites are unchanged
-abbrev pub Keeps : Rows → Rows → (site : ℕ) → Kept → Type 0
+abbrev pub Keeps : RowsBySite → RowsBySite → (site : ℕ) → Kept → Type 0
 Keeps old new site kept = (q : ℕ) → kept_of new q ≡ (if site == q then kept else kept_of old q)
 
 -- the sum of a row and the row of a piece that was executed separately and has no open invocation; if invocations are
@@ -176,33 +176,33 @@ abbrev pub under : Row → Row → Row
 under piece ours = summed ours piece
 
 -- sites below `end` have our rows with the piece's sums added, if the sums fit; the other sites have our rows
-pub record JoinsBelow (piece : Rows) (end : ℕ) (ours new : Rows) : Type 0 where
+pub record JoinsBelow (piece : RowsBySite) (end : ℕ) (ours new : RowsBySite) : Type 0 where
   pub within : (q : ℕ) → q < end → FitsRow (summed (row_of ours q) (row_of piece q))
       → row_of new q ≡ summed (row_of ours q) (row_of piece q)
   pub beyond : (q : ℕ) → end ≤ q → row_of new q ≡ row_of ours q
 
 -- if the rows of the piece's vector and those below `from` were added, those below `to` are added as well
-abbrev pub JoinsOn : (piece : Rows) → (from to : ℕ) → Rows → Rows → Type 0
+abbrev pub JoinsOn : (piece : RowsBySite) → (from to : ℕ) → RowsBySite → RowsBySite → Type 0
 JoinsOn piece from to old new =
-    (ours : Rows) → JoinsBelow piece (max (length piece.by_site.items) from) ours old
+    (ours : RowsBySite) → JoinsBelow piece (max (length piece.by_site.items) from) ours old
     → JoinsBelow piece (max (length piece.by_site.items) to) ours new
 
 -- adds the rows of the piece's vector
-abbrev pub JoinsFirsts : (piece : Rows) → Rows → Rows → Type 0
+abbrev pub JoinsFirsts : (piece : RowsBySite) → RowsBySite → RowsBySite → Type 0
 JoinsFirsts piece old new = JoinsBelow piece (length piece.by_site.items) old new
 
 -- adds the rows of the pages of a shelf
-abbrev pub JoinsShelf : (piece : Rows) → (shelf : ℕ) → Rows → Rows → Type 0
+abbrev pub JoinsShelf : (piece : RowsBySite) → (shelf : ℕ) → RowsBySite → RowsBySite → Type 0
 JoinsShelf piece shelf old new = JoinsOn piece (shelf * 256) (shelf * 256 + 256) old new
 
 -- adds the rows of a page
-abbrev pub JoinsPage : (piece : Rows) → (shelf page : ℕ) → Rows → Rows → Type 0
+abbrev pub JoinsPage : (piece : RowsBySite) → (shelf page : ℕ) → RowsBySite → RowsBySite → Type 0
 JoinsPage piece shelf page old new = JoinsOn piece (shelf * 256 + page * 8) (shelf * 256 + page * 8 + 8) old new
 
 -- if the rows of the piece's vector were added, all rows are added
-abbrev pub JoinsFurther : (piece : Rows) → Rows → Rows → Type 0
+abbrev pub JoinsFurther : (piece : RowsBySite) → RowsBySite → RowsBySite → Type 0
 JoinsFurther piece old new =
-    (ours : Rows) → JoinsBelow piece (length piece.by_site.items) ours old
+    (ours : RowsBySite) → JoinsBelow piece (length piece.by_site.items) ours old
     → (q : ℕ) → FitsRow (summed (row_of ours q) (row_of piece q))
     → row_of new q ≡ summed (row_of ours q) (row_of piece q)
 
@@ -218,7 +218,7 @@ pub record IsReadAs (row other : Row) : Type 0 where
   pub at_path : 0 < other.active → row.at_path ≡ other.at_path
 
 -- each row whose sums fit has the readings of our row with the piece's sums, if the piece has no open invocation
-abbrev pub JoinsRows : Rows → (piece : Rows) → Rows → Type 0
+abbrev pub JoinsRows : RowsBySite → (piece : RowsBySite) → RowsBySite → Type 0
 JoinsRows old piece new =
     (q : ℕ) → FitsRow (summed (row_of old q) (row_of piece q)) → (row_of piece q).active ≡ 0
     → IsReadAs (row_of new q) (summed (row_of old q) (row_of piece q))

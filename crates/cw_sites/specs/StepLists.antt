@@ -3,7 +3,7 @@ use Rattle.std.specs.Prelude.{◌≡◌, ℕ, ◌+◌, ◌-◌, ◌^◌, ◌≤�
 use Rattle.std.specs.Vec.{vec_len, vec_capacity}
 use Rattle.cw_sites.specs.ChosenPaths.{Path, plus, best, steps_of}
 use Rattle.cw_sites.specs.declared.steps.Steps.{Steps}
-use Rattle.cw_sites.specs.declared.paths.Block.{Block}
+use Rattle.cw_sites.specs.declared.paths.ForkedBlock.{ForkedBlock}
 use Rattle.cw_sites.specs.declared.paths.Paths.{Paths}
 use Rattle.cw_sites.specs.StepSums.{upto, whole, if_site, Fits, HasSteps}
 use Rattle.cw_sites.specs.StrandPaths.{SeenBlock, StrandPath, takes, goes_on, longest_path, extends_by, forks}
@@ -14,7 +14,7 @@ abbrev pub part : (site : ℕ) → List Steps → (from to weight : ℕ) → Pat
 part site steps from to weight = record { weight = weight; own = upto site steps to - upto site steps from }
 
 -- an open block, with the instructions of one site
-abbrev pub seen : (site : ℕ) → List Steps → Block → SeenBlock
+abbrev pub seen : (site : ℕ) → List Steps → ForkedBlock → SeenBlock
 seen site steps f =
     record {
       base = part site steps f.from f.mid f.base;
@@ -23,7 +23,7 @@ seen site steps f =
     }
 
 -- open blocks, the innermost first, with the instructions of one site
-abbrev pub seen_blocks : (site : ℕ) → List Steps → List Block → List SeenBlock → List SeenBlock
+abbrev pub seen_blocks : (site : ℕ) → List Steps → List ForkedBlock → List SeenBlock → List SeenBlock
 seen_blocks site steps [] ps = ps
 seen_blocks site steps (f ∷ fs) ps = seen_blocks site steps fs (seen site steps f ∷ ps)
 
@@ -36,11 +36,11 @@ strand_path site r =
     }
 
 -- the parts of a block are in order, and the parts of each block follow the parts of the enclosing block
-abbrev pub InOrder : Block → Type 0
+abbrev pub InOrder : ForkedBlock → Type 0
 InOrder f = (f.from ≤ f.mid) × (f.mid ≤ f.end) × (f.end ≤ f.child)
 
 -- the parts of blocks are consecutive, from a place up to another
-abbrev pub LaidFrom : ℕ → List Block → ℕ → Type 0
+abbrev pub LaidFrom : ℕ → List ForkedBlock → ℕ → Type 0
 LaidFrom lo [] hi = lo ≡ hi
 LaidFrom lo (f ∷ fs) hi = (lo ≡ f.from) × InOrder f × LaidFrom f.child fs hi
 
@@ -50,7 +50,7 @@ pub record Laid (r : Paths) : Type 0 where
   pub start : r.start ≤ length r.steps.items
 
 -- the parts are in order, with the innermost block outside of the list
-pub record LaidWith (r : Paths) (f : Block) : Type 0 where
+pub record LaidWith (r : Paths) (f : ForkedBlock) : Type 0 where
   pub blocks : LaidFrom 0 r.blocks.items f.from
   pub order : InOrder f
   pub child : f.child ≡ r.start
@@ -75,7 +75,7 @@ HasRoomForBlock paths = vec_len paths.blocks < vec_capacity paths.blocks
 
 -- no step of the innermost block is between its base and the current child
 abbrev pub HasFirstChild : Paths → Type 0
-HasFirstChild paths = (f : Block) (fs : List Block) → paths.blocks.items ≡ fs ++ f ∷ [] → f.mid ≡ f.child
+HasFirstChild paths = (f : ForkedBlock) (fs : List ForkedBlock) → paths.blocks.items ≡ fs ++ f ∷ [] → f.mid ≡ f.child
 
 -- at most one step was added
 abbrev pub GrowsByOne : Paths → Paths → Type 0
@@ -88,11 +88,11 @@ pub record KeepsBlocks (old new : Paths) : Type 0 where
   pub start : new.start ≡ old.start
 
 -- the instructions of a site in a block's base and in the path from there to the current child
-abbrev pub rested : (site : ℕ) → List Steps → Block → ℕ
+abbrev pub rested : (site : ℕ) → List Steps → ForkedBlock → ℕ
 rested q steps f = (upto q steps f.mid - upto q steps f.from) + (upto q steps f.child - upto q steps f.end)
 
 -- the base of a block was extended to `mid`, where the current child now begins; the longest child was removed
-pub record Gathers (old new : List Steps) (f : Block) (mid : ℕ) : Type 0 where
+pub record Gathers (old new : List Steps) (f : ForkedBlock) (mid : ℕ) : Type 0 where
   pub from : f.from ≤ mid
   pub count_is : length new + f.child ≡ length old + mid
   pub below : (q n : ℕ) → n ≤ f.from → upto q new n ≡ upto q old n
@@ -101,7 +101,7 @@ pub record Gathers (old new : List Steps) (f : Block) (mid : ℕ) : Type 0 where
   pub child : (q : ℕ) → whole q new + upto q old f.child ≡ upto q new mid + whole q old
 
 -- the base of a block was extended to `mid`, if the parts of the blocks were in order
-abbrev pub GathersBase : Paths → Paths → Block → (mid : ℕ) → Type 0
+abbrev pub GathersBase : Paths → Paths → ForkedBlock → (mid : ℕ) → Type 0
 GathersBase old new f mid = LaidWith old f → Gathers old.steps.items new.steps.items f mid
 
 -- the paths are unchanged for each site whose steps fit 64 bits
@@ -130,7 +130,7 @@ ComesWithin f old new =
     Laid old → (q : ℕ) → Fits (all_of (strand_path q old)) → strand_path q new ≡ f (strand_path q old)
 
 -- the current child became the longest, with the innermost block outside of the list
-abbrev pub TakesChild : Paths → Paths → Block → Type 0
+abbrev pub TakesChild : Paths → Paths → ForkedBlock → Type 0
 TakesChild old new f =
     LaidWith old f → (q : ℕ) → Fits (plus (seen q old.steps.items f).base (seen q old.steps.items f).rest)
     → strand_path q new
@@ -138,12 +138,12 @@ TakesChild old new f =
     (strand_path q old).blocks
 
 -- the current child was dropped, with the innermost block outside of the list
-abbrev pub LetsChildGo : Paths → Paths → Block → Type 0
+abbrev pub LetsChildGo : Paths → Paths → ForkedBlock → Type 0
 LetsChildGo old new f =
     LaidWith old f → (q : ℕ) → strand_path q new ≡ goes_on (seen q old.steps.items f) (strand_path q old).blocks
 
 -- the innermost block joined, which is outside of the list
-abbrev pub JoinsBlock : Paths → Paths → Block → Type 0
+abbrev pub JoinsBlock : Paths → Paths → ForkedBlock → Type 0
 JoinsBlock old new f =
     LaidWith old f → (q : ℕ) → f.base + old.weight < 2 ^ 64
     → f.base + (longest_path (seen q old.steps.items f).longest).weight < 2 ^ 64
@@ -155,7 +155,7 @@ JoinsBlock old new f =
     }
 
 -- the innermost block joined on the continuation, without its longest child
-abbrev pub ClosesBlock : Paths → Paths → Block → Type 0
+abbrev pub ClosesBlock : Paths → Paths → ForkedBlock → Type 0
 ClosesBlock old new f =
     LaidWith old f → (q : ℕ) → f.base + old.weight < 2 ^ 64
     → strand_path q new
@@ -189,7 +189,7 @@ Appends old piece new first =
     → strand_path q new ≡ appends first (strand_path q piece) (strand_path q old)
 
 -- a piece that was executed separately was appended, with the block in which it has spawned outside of its list
-abbrev pub AppendsBlock : Paths → (piece : Paths) → Paths → Block → (first : Bool) → Type 0
+abbrev pub AppendsBlock : Paths → (piece : Paths) → Paths → ForkedBlock → (first : Bool) → Type 0
 AppendsBlock old piece new f first =
     Laid old → LaidWith piece f → (q : ℕ)
     → Fits (plus (all_of (strand_path q old))

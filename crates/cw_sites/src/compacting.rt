@@ -5,7 +5,7 @@ ghost use Rattle.cw_sites.specs.Compacting.{AddsTo, AddsUpWithin, CountsOn, Ends
 ghost use Rattle.cw_sites.specs.StepSums.{sum_at, StaysBelow};
 
 use crate::steps::{Steps, take_out};
-use cw_pages::Table;
+use cw_facts::Table;
 use std::alloc::AllocError;
 
 /// Merges the steps from one place up to another, or up to the end, by site. Returns the place where they then end.

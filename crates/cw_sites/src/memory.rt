@@ -3,9 +3,9 @@
 ghost use Rattle.cw_sites.specs.Trimmed.{IsTrimmed, StaysBounded, TellsAsBefore};
 
 use crate::paths::Paths;
-use crate::rows::Rows;
+use crate::rows::RowsBySite;
 use crate::table::SiteTable;
-use cw_pages::PAGE;
+use cw_facts::PAGE;
 
 /// The bytes of a step, of a block, of what is kept of a site, and of a page that lies on a shelf besides its items.
 const STEP: usize = 16;
@@ -32,7 +32,7 @@ impl Paths {
     }
 }
 
-impl Rows {
+impl RowsBySite {
     /// Returns the memory of its rows, in bytes. Takes a step for each page of a shelf that has any.
     pub fn bytes(&self) -> usize {
         let mut bytes = self.by_site.capacity().saturating_mul(KEPT);

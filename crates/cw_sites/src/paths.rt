@@ -27,7 +27,7 @@ use std::alloc::{AllocError, Global};
 
 /// A block that has spawned since its last join: the weights of its paths, and the places of their steps in the list.
 #[derive(Clone, Copy, Debug)]
-pub struct Block {
+pub struct ForkedBlock {
     /// The path up to the spawn of the longest child; its steps are from `from` to `mid`.
     pub base: u64,
     /// The longest child that has ended, from its spawn on; its steps are from `mid` to `end`.
@@ -50,7 +50,7 @@ pub struct Paths {
     /// The place where the steps of this path begin.
     pub start: usize,
     /// The blocks that have spawned, the innermost last.
-    pub blocks: Vec<Block>,
+    pub blocks: Vec<ForkedBlock>,
     /// The number of steps that a path may have before steps of equal sites are merged.
     pub limit: usize,
 }
@@ -217,7 +217,7 @@ impl Paths {
         ensures strand_path { OnOk result (Comes begins self.old self.new) }
     {
         let len = self.steps.len();
-        self.blocks.push(Block {
+        self.blocks.push(ForkedBlock {
             base: self.weight,
             longest: None,
             rest: 0,
@@ -248,7 +248,7 @@ impl Paths {
         ensures strand_path { Comes begins self.old self.new }
     {
         let len = self.steps.len();
-        self.blocks.push_reserved(Block {
+        self.blocks.push_reserved(ForkedBlock {
             base: self.weight,
             longest: None,
             rest: 0,
@@ -283,7 +283,7 @@ impl Paths {
                 // Removes nothing if the child before has ended.
                 take_out(&mut self.steps, f.end, f.child);
                 let len = self.steps.len();
-                self.blocks.push_reserved(Block {
+                self.blocks.push_reserved(ForkedBlock {
                     base: f.base,
                     longest: f.longest,
                     rest: self.weight,
@@ -375,7 +375,7 @@ impl Paths {
     // Makes the current child the longest of this block, like `take`. The block's base must end where the child
     // begins.
     #[inline(always)]
-    fn take_first(&mut self, f: Block)
+    fn take_first(&mut self, f: ForkedBlock)
         requires room { vec_len self.old.blocks < vec_capacity self.old.blocks }
         requires first { f.mid ≡ f.child }
         ensures laid { LaidWith self.old f → Laid self.new }
@@ -383,7 +383,7 @@ impl Paths {
         ensures strand_path { TakesChild self.old self.new f }
     {
         let len = self.steps.len();
-        self.blocks.push_reserved(Block {
+        self.blocks.push_reserved(ForkedBlock {
             base: f.base.wrapping_add(f.rest),
             longest: Some(self.weight),
             rest: 0,
@@ -398,7 +398,7 @@ impl Paths {
 
     // Makes the current child the longest of this block, and removes the one that was the longest.
     #[inline(always)]
-    fn take(&mut self, f: Block) -> Result<(), AllocError>
+    fn take(&mut self, f: ForkedBlock) -> Result<(), AllocError>
         requires room { vec_len self.old.blocks < vec_capacity self.old.blocks }
         ensures laid { OnOk result (LaidWith self.old f → Laid self.new) }
         ensures bounded { OnOk result (StaysTightWith self.old f self.new) }
@@ -406,7 +406,7 @@ impl Paths {
     {
         let mid = self.gather(f)?;
         let len = self.steps.len();
-        self.blocks.push_reserved(Block {
+        self.blocks.push_reserved(ForkedBlock {
             base: f.base.wrapping_add(f.rest),
             longest: Some(self.weight),
             rest: 0,
@@ -422,7 +422,7 @@ impl Paths {
 
     // Extends the base of this block up to the current child. Returns the place where it ends.
     #[inline(always)]
-    fn gather(&mut self, f: Block) -> Result<usize, AllocError>
+    fn gather(&mut self, f: ForkedBlock) -> Result<usize, AllocError>
         ensures all { IfOk result (λ mid. GathersBase self.old self.new f mid) }
         ensures short { IfOk result (λ mid. StaysShort self.old self.new f mid) }
         ensures rest { OnOk result (KeepsBlocks self.old self.new) }
@@ -433,7 +433,7 @@ impl Paths {
             return Ok(f.mid);
         }
         // This is a copy, so that only a later child's block is in memory for the call.
-        let later = Block {
+        let later = ForkedBlock {
             base: f.base,
             longest: f.longest,
             rest: f.rest,
@@ -449,7 +449,7 @@ impl Paths {
     // Extends the base of this block up to the current child, also if there are steps between them. Returns the place
     // where the base ends.
     #[inline(never)]
-    fn gather_steps(&mut self, f: Block) -> Result<usize, AllocError>
+    fn gather_steps(&mut self, f: ForkedBlock) -> Result<usize, AllocError>
         ensures all { IfOk result (λ mid. GathersBase self.old self.new f mid) }
         ensures short { IfOk result (λ mid. StaysShort self.old self.new f mid) }
         ensures rest { OnOk result (KeepsBlocks self.old self.new) }
@@ -465,14 +465,14 @@ impl Paths {
 
     // Drops the steps of the current child, which is not the longest of this block.
     #[inline(always)]
-    fn let_go(&mut self, f: Block)
+    fn let_go(&mut self, f: ForkedBlock)
         requires room { vec_len self.old.blocks < vec_capacity self.old.blocks }
         ensures laid { LaidWith self.old f → Laid self.new }
         ensures bounded { StaysTightWith self.old f self.new }
         ensures strand_path { LetsChildGo self.old self.new f }
     {
         self.steps.truncate(f.child);
-        self.blocks.push_reserved(Block {
+        self.blocks.push_reserved(ForkedBlock {
             base: f.base,
             longest: f.longest,
             rest: 0,
@@ -525,7 +525,7 @@ impl Paths {
 
     // Joins this block.
     #[inline(always)]
-    fn join_block(&mut self, f: Block)
+    fn join_block(&mut self, f: ForkedBlock)
         ensures laid { LaidWith self.old f → Laid self.new }
         ensures bounded { JoinsTightWith self.old f self.new }
         ensures strand_path { JoinsBlock self.old self.new f }
@@ -544,7 +544,7 @@ impl Paths {
 
     // Joins this block and removes its longest child.
     #[inline(always)]
-    fn close(&mut self, f: Block)
+    fn close(&mut self, f: ForkedBlock)
         ensures laid { LaidWith self.old f → Laid self.new }
         ensures bounded { JoinsTightWith self.old f self.new }
         ensures strand_path { ClosesBlock self.old self.new f }
@@ -592,7 +592,7 @@ impl Paths {
     }
 
     // Appends the path of a piece that has spawned since its last join.
-    fn append_block(&mut self, piece: &Paths, f: Block, first: bool) -> Result<(), AllocError>
+    fn append_block(&mut self, piece: &Paths, f: ForkedBlock, first: bool) -> Result<(), AllocError>
         ensures laid { OnOk result (Laid self.old → Laid self.new) }
         ensures bounded { OnOk result (StaysTightBeside piece.now.steps.items self.old self.new) }
         ensures strand_path { OnOk result (AppendsBlock self.old piece.now self.new f first) }
@@ -672,7 +672,7 @@ impl Paths {
 
 // Returns whether the current child, on a path of this weight, is the longest of its block.
 #[inline(always)]
-fn is_longest(f: Block, child: u64) -> bool
+fn is_longest(f: ForkedBlock, child: u64) -> bool
     ensures { f.rest + child < 2 ^ 64 → result ≡ is_longer f.longest (f.rest + child) }
 {
     match f.longest {

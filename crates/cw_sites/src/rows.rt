@@ -5,7 +5,7 @@ ghost use Rattle.cw_sites.specs.SiteRows as tallies;
 ghost use Rattle.cw_sites.specs.SiteRows.{kept_of, row_of, zero_row, Becomes, IsWhereItFits, OthersStay};
 ghost use Rattle.cw_sites.specs.SiteRows.{JoinsFirsts, JoinsFurther, JoinsOn, JoinsPage, JoinsRows, JoinsShelf, KeepTheSame, Keeps};
 
-use cw_pages::{PAGE, Pages, SHELF};
+use cw_facts::{PAGE, Pages, SHELF};
 use std::alloc::{AllocError, Global};
 
 /// The measures of a site so far.
@@ -38,7 +38,7 @@ pub struct Kept {
 ///
 /// The rows of the first sites are in a vector; the rows of the other sites are in pages.
 #[derive(Debug, Drop)]
-pub struct Rows {
+pub struct RowsBySite {
     pub by_site: Vec<Kept>,
     /// When a site below this number is met, it and all sites before it get rows in the vector.
     pub firsts: usize,
@@ -105,12 +105,12 @@ impl Row {
     }
 }
 
-impl Rows {
+impl RowsBySite {
     /// Returns the empty rows of a whole run. Allocates no memory.
-    pub fn new(alloc: Global) -> Rows
+    pub fn new(alloc: Global) -> RowsBySite
         ensures { (q : ℕ) → row_of result q ≡ zero_row }
     {
-        Rows {
+        RowsBySite {
             by_site: Vec::new(alloc),
             firsts: usize::MAX,
             further: Pages::new(alloc),
@@ -119,10 +119,10 @@ impl Rows {
 
     /// Returns the empty rows of a piece that is executed separately: it will take memory for the sites that it
     /// meets, and for few others. Allocates no memory now.
-    pub fn apart(alloc: Global) -> Rows
+    pub fn apart(alloc: Global) -> RowsBySite
         ensures { (q : ℕ) → row_of result q ≡ zero_row }
     {
-        Rows {
+        RowsBySite {
             by_site: Vec::new(alloc),
             firsts: FIRSTS,
             further: Pages::new(alloc),
@@ -322,7 +322,7 @@ impl Rows {
     /// # Errors
     ///
     /// Returns an `AllocError` if memory runs out.
-    pub fn join(&mut self, piece: Rows) -> Result<(), AllocError>
+    pub fn join(&mut self, piece: RowsBySite) -> Result<(), AllocError>
         ensures { OnOk result (JoinsRows self.old piece self.new) }
     {
         self.join_firsts(&piece)?;
@@ -331,7 +331,7 @@ impl Rows {
     }
 
     // Adds the sums of the rows in the piece's vector.
-    fn join_firsts(&mut self, piece: &Rows) -> Result<(), AllocError>
+    fn join_firsts(&mut self, piece: &RowsBySite) -> Result<(), AllocError>
         ensures { OnOk result (JoinsFirsts piece.now self.old self.new) }
     {
         for place in 0..piece.by_site.len() {
@@ -341,7 +341,7 @@ impl Rows {
     }
 
     // Adds the sums of the rows in the piece's pages.
-    fn join_further(&mut self, piece: &Rows) -> Result<(), AllocError>
+    fn join_further(&mut self, piece: &RowsBySite) -> Result<(), AllocError>
         ensures { OnOk result (JoinsFurther piece.now self.old self.new) }
     {
         for shelf in 0..piece.further.shelves() {
@@ -351,7 +351,7 @@ impl Rows {
     }
 
     // Adds the sums of the rows in the pages of a shelf.
-    fn join_shelf(&mut self, piece: &Rows, shelf: usize) -> Result<(), AllocError>
+    fn join_shelf(&mut self, piece: &RowsBySite, shelf: usize) -> Result<(), AllocError>
         ensures { OnOk result (JoinsShelf piece.now shelf self.old self.new) }
     {
         for page in 0..piece.further.pages(shelf) {
@@ -361,7 +361,7 @@ impl Rows {
     }
 
     // Adds the sums of the rows of a page, if it exists.
-    fn join_page(&mut self, piece: &Rows, shelf: usize, page: usize) -> Result<(), AllocError>
+    fn join_page(&mut self, piece: &RowsBySite, shelf: usize, page: usize) -> Result<(), AllocError>
         requires { page < 32 }
         ensures { OnOk result (JoinsPage piece.now shelf page self.old self.new) }
     {
@@ -376,7 +376,7 @@ impl Rows {
     }
 
     // Adds the sums of the piece's row of a site, unless the row is in the vector and was added before.
-    fn join_beyond(&mut self, piece: &Rows, place: usize) -> Result<(), AllocError>
+    fn join_beyond(&mut self, piece: &RowsBySite, place: usize) -> Result<(), AllocError>
         ensures { OnOk result (JoinsOn piece.now place (place + 1) self.old self.new) }
     {
         if place < piece.by_site.len() {

@@ -11,7 +11,7 @@ ghost use Rattle.cw_sites.specs.Tables.{JoinsPiece, StaysBoundedBeside};
 ghost use Rattle.cw_sites.specs.Tables.{ReadsPath, ReadsSite, Spawns, SpawnsHalf};
 
 use crate::paths::Paths;
-use crate::rows::Rows;
+use crate::rows::RowsBySite;
 use std::alloc::{AllocError, Global};
 
 /// The measures of each site over a run so far.
@@ -19,7 +19,7 @@ use std::alloc::{AllocError, Global};
 /// Each method takes the number of instructions so far, including those of children that other workers executed.
 #[derive(Debug, Drop)]
 pub struct SiteTable {
-    pub rows: Rows,
+    pub rows: RowsBySite,
     pub paths: Paths,
     /// The number of instructions that are included in the rows and the path.
     pub noted: u64,
@@ -34,7 +34,7 @@ impl SiteTable {
         ensures bounded { (most : ℕ) → here < most → IsBoundedTable most result }
     {
         SiteTable {
-            rows: Rows::new(alloc),
+            rows: RowsBySite::new(alloc),
             paths: Paths::new(alloc),
             noted: 0,
             here,
@@ -48,7 +48,7 @@ impl SiteTable {
         ensures bounded { (most : ℕ) → here < most → IsBoundedTable most result }
     {
         SiteTable {
-            rows: Rows::apart(alloc),
+            rows: RowsBySite::apart(alloc),
             paths: Paths::new(alloc),
             noted: 0,
             here,

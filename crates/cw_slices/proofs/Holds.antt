@@ -7,7 +7,7 @@ use denote.Laws.{Is}
 use denote.Struct.Struct.{within}
 use denote.Struct.Owning.{shape}
 use Rattle.core.proofs.slots.Opens.{words_val}
-use Rattle.cw_slices.specs.Held.{held_owned}
+use Rattle.cw_slices.specs.OwnedMemory.{held_owned}
 use Rattle.cw_slices.specs.contracts.cells.Cells as Cells
 use Rattle.cw_slices.specs.contracts.kept.Kept as Kept
 use Rattle.cw_slices.specs.Memory.{kept_owned}

@@ -3,6 +3,6 @@ pub mod Lots
 pub mod Marks
 pub mod Missing
 pub mod Readers
-pub mod Rows
+pub mod RowCalls
 pub mod Runs
 pub mod Steps

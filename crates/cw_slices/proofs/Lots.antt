@@ -24,7 +24,7 @@ use denote.Index.{place, place_is}
 use Rattle.core.proofs.mem.Param.{elτ, Good}
 use Rattle.core.proofs.slice.Rows.{el_out, el_in}
 use Rattle.core.specs.Mem.Slots.Ownership.{slots}
-use Rattle.cw_slices.specs.Held.{halves, part_of_slots, held}
+use Rattle.cw_slices.specs.OwnedMemory.{halves, part_of_slots, held}
 use Rattle.cw_slices.specs.Memory.{span_owned, cell_owned, cells_in, kept_owned}
 use Rattle.cw_slices.specs.Blocks.{ins, outs, patched, marks, Have, AreHalved}
 use Rattle.cw_slices.specs.lemmas.Patches.{middle, alike_middle, length_patched, length_ins, at_place, set_place}

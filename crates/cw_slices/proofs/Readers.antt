@@ -14,7 +14,7 @@ use denote.SharingLaws.{nothing_shr_laws, said_shr_laws, beside_shr_laws}
 use denote.Struct.Laws.{i64-copy}
 use denote.Struct.Lending.{Lends, Lends-false, Lends-said, Lends-nothing, Lends-both, lent_at, lent_at_shr_laws}
 use Rattle.core.specs.Mem.Slots.Ownership.{bytes_of, slot, slots, slot_lent, slots_lent, lent}
-use Rattle.cw_slices.specs.Held.{halves, part_of_slot, part_of_slots, held, held_owned}
+use Rattle.cw_slices.specs.OwnedMemory.{halves, part_of_slot, part_of_slots, held, held_owned}
 use Rattle.cw_slices.specs.Memory.{cell_owned, cells_in, kept_owned}
 use Rattle.cw_slices.specs.Blocks.{numbers, marks}
 use Rattle.cw_slices.proofs.Runs.{number_laws}

@@ -1,5 +1,5 @@
 pub mod Blocks
-pub mod Held
+pub mod OwnedMemory
 pub mod Loose
 pub mod Memory
 pub mod Placed

@@ -19,7 +19,7 @@ use std::{fmt, mem};
 /// Dropping a block frees its memory if nothing is lent or shared. **Otherwise the memory is not freed**, and a part
 /// that never comes back is not freed either: nothing counts what is left of a block. To stop early without a leak,
 /// first return what is lent and shared with `give_back` and `merge`, which take no memory and cannot fail.
-pub struct Block {
+pub struct ArrayBlock {
     kept: Kept,
     frees: usize,
     out: usize,
@@ -27,7 +27,7 @@ pub struct Block {
     alloc: Global,
 }
 
-impl Model for Block {
+impl Model for ArrayBlock {
     ghost use Rattle.cw_slices.specs.Loose.{MayFree, FreesOwn};
     ghost use Rattle.cw_slices.specs.Blocks.{Lodged, lodged_by, lodged_code, Counts};
 
@@ -71,10 +71,10 @@ fn without_shared(out: usize, count: usize) -> usize
     if out < STUCK { out - count } else { out }
 }
 
-impl Block {
+impl ArrayBlock {
     /// Makes a block of a slice, owned or shared. All of its numbers are in, and no share of it is out.
     #[inline(always)]
-    pub fn of(slice: Slice) -> Block
+    pub fn of(slice: Slice) -> ArrayBlock
         ensures cells { result.cells ≡ ins slice.items }
         ensures spot { result.spot ≡ slice.spot }
         ensures whole { IsWhole result }
@@ -87,7 +87,7 @@ impl Block {
             title,
             alloc,
         } = slice.loosen();
-        Block {
+        ArrayBlock {
             kept: Kept::keep(ptr, len, span),
             frees,
             out: 0,
@@ -98,12 +98,12 @@ impl Block {
 
     /// Returns a block without numbers, which takes no memory.
     #[inline(always)]
-    pub fn empty(alloc: Global) -> Block
+    pub fn empty(alloc: Global) -> ArrayBlock
         ensures cells { result.cells ≡ [] }
         ensures whole { IsWhole result }
         ensures own { result.spot.halved ≡ 0 }
     {
-        Block::of(Slice::empty(alloc))
+        ArrayBlock::of(Slice::empty(alloc))
     }
 
     /// Returns a block of `count` zeros, all in. Takes time linear in `count`, at the speed of filling memory. For 0,
@@ -112,13 +112,13 @@ impl Block {
     /// # Errors
     ///
     /// An `AllocError` if there is no memory for the numbers; then nothing is kept.
-    pub fn zeros(alloc: Global, count: usize) -> Result<Block, AllocError>
+    pub fn zeros(alloc: Global, count: usize) -> Result<ArrayBlock, AllocError>
         requires { count < 2 ^ 60 }
         ensures { IfOk result (λ b. (b.cells ≡ ins (replicate count (pos 0))) × IsWhole b
             × (b.spot.halved ≡ 0)) }
     {
         let slice = Slice::zeros(alloc, count)?;
-        Ok(Block::of(slice))
+        Ok(ArrayBlock::of(slice))
     }
 
     /// Returns the numbers of a block with nothing out, as the slice that the block was made of.
@@ -129,7 +129,7 @@ impl Block {
         ensures items { ins result.items ≡ self.cells }
         ensures spot { result.spot ≡ self.spot }
     {
-        let Block {
+        let ArrayBlock {
             kept,
             frees,
             out: _,
@@ -161,7 +161,7 @@ impl Block {
         ensures left_own { self.new.spot.halved ≡ 0 }
     {
         let alloc = self.alloc;
-        mem::replace(self, Block::empty(alloc)).whole()
+        mem::replace(self, ArrayBlock::empty(alloc)).whole()
     }
 
     /// Returns the number of its numbers, including those that are out.
@@ -304,10 +304,10 @@ impl Block {
 }
 
 // A block with nothing out is freed if it begins its memory. If a part or a share is out, the memory is not freed.
-impl Drop for Block {
+impl Drop for ArrayBlock {
     #[tactic(auto, using(crate::proofs::Missing::none_missing))]
     fn drop(self) {
-        let Block {
+        let ArrayBlock {
             kept,
             frees,
             out,
@@ -325,11 +325,11 @@ impl Drop for Block {
     }
 }
 
-impl fmt::Debug for Block {
+impl fmt::Debug for ArrayBlock {
     fn fmt<W: fmt::Write>(&self, f: &mut fmt::Formatter<W>) -> fmt::Result {
-        write!(f, "Block({})", self.len())
+        write!(f, "ArrayBlock({})", self.len())
     }
 }
 
 // Nothing else writes the block's part of the memory while the block exists.
-unsafe impl Send for Block {}
+unsafe impl Send for ArrayBlock {}

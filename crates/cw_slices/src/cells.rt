@@ -3,7 +3,7 @@ ghost use Rattle.std.specs.Prelude.{◌≡◌, ℕ, ℤ, ◌*◌, ◌^◌, ◌<�
 ghost use Rattle.core.specs.Mem.Slots.{slots_items, slots_filled, slots_ptr, slots_len};
 ghost use denote.Builtin.{i64};
 ghost use Rattle.core.specs.Mem.Slots.Ownership.{lent};
-ghost use Rattle.cw_slices.specs.Held.{held_owned};
+ghost use Rattle.cw_slices.specs.OwnedMemory.{held_owned};
 
 use crate::memory::Span;
 use core::slots::Slots;

@@ -5,14 +5,14 @@ use Rattle.cw_model.specs.declared.trap.Trap.{Trap}
 use Rattle.cw_model.specs.Outcome.{Trace}
 use Rattle.cw_code.specs.Code.{Code}
 use Rattle.cw_code.specs.Run.{Slots, State, Transition, On, Ends, Stops, step}
-use Rattle.cw_strand_laws.specs.Jobs.{Extent, ToJoin, WholeCall, joins, has_come, standing, Job, Effect, Ended, Joined, TrapIn, OverLimit, Memory, JobMeaning}
+use Rattle.cw_code.specs.Jobs.{Extent, ToJoin, WholeCall, joins, has_come, standing, Job, Effect, Ended, Joined, TrapIn, OverLimit, Memory, JobMeaning}
 use Rattle.std.specs.Prelude.{slice_get}
-use Rattle.cw_strand_laws.specs.Over.{beneath}
-use Rattle.cw_strand_laws.specs.Strands.{Strand, Going, Waits, Halted, outs_of, spawn_job, Turn, Goes, HandsOut, ComesBack, turn, goes_on}
-use Rattle.cw_strand_laws.specs.Promises.{IsStrandOf}
-use Rattle.cw_strand_laws.specs.Steps.{CallsKeep, AdvanceKeeps, advance, finished, turned, went_on}
-use Rattle.cw_strand_laws.specs.Steps as steps
-use Rattle.cw_strand_laws.specs.lemmas.First.{first_is}
+use Rattle.cw_code.specs.Over.{beneath}
+use Rattle.cw_code.specs.Strands.{Strand, Going, Waits, Halted, outs_of, spawn_job, Turn, Goes, HandsOut, ComesBack, turn, goes_on}
+use Rattle.cw_code.specs.Promises.{IsStrandOf}
+use Rattle.cw_code.specs.Steps.{CallsKeep, AdvanceKeeps, advance, finished, turned, went_on}
+use Rattle.cw_code.specs.Steps as steps
+use Rattle.cw_code.specs.lemmas.First.{first_is}
 use Rattle.cw_runnable.specs.declared.verified.Verified.{Verified}
 use Rattle.cw_jobs.specs.declared.call.Parts.{Parts}
 use Rattle.cw_machine.specs.Arrays.{Out, IsFit}

@@ -8,10 +8,10 @@ use Rattle.cw_code.specs.Code.{Code, code_view}
 use Rattle.cw_code.specs.Fits.{slots_lent}
 use Rattle.cw_code.specs.Run.{Taken, Whole, slot_taken, Waiting, Around, Caller, State, passed_by}
 use Rattle.cw_code.specs.lemmas.Slots.{whole_slots}
-use Rattle.cw_strand_laws.specs.Jobs as jobs
-use Rattle.cw_strand_laws.specs.Over.{beneath, under}
-use Rattle.cw_strand_laws.specs.Strands.{rest_of}
-use Rattle.cw_strand_laws.specs.Steps.{CallsKeep}
+use Rattle.cw_code.specs.Jobs as jobs
+use Rattle.cw_code.specs.Over.{beneath, under}
+use Rattle.cw_code.specs.Strands.{rest_of}
+use Rattle.cw_code.specs.Steps.{CallsKeep}
 use Rattle.cw_runnable.specs.declared.verified.Verified.{Verified}
 use Rattle.cw_jobs.specs.declared.call.Parts.{Parts}
 use Rattle.cw_jobs.specs.Jobs.{IsJob, IsSound}

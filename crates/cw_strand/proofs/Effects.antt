@@ -4,16 +4,16 @@ use Rattle.cw_facts.specs.Tests.{not_below, below}
 use Rattle.cw_slices.specs.Placed.{Placed}
 use Rattle.cw_code.specs.Code.{Code, code_view}
 use Rattle.cw_code.specs.Run.{State}
-use Rattle.cw_strand_laws.specs.Jobs as jobs
-use Rattle.cw_strand_laws.specs.Jobs.{WholeCall, ToJoin, JobMeaning}
-use Rattle.cw_strand_laws.specs.Strands.{Waits, Halted, cost_of}
-use Rattle.cw_strand_laws.specs.Promises.{IsStrandOf}
-use Rattle.cw_strand_laws.specs.Steps.{CallsKeep, give, given_to}
+use Rattle.cw_code.specs.Jobs as jobs
+use Rattle.cw_code.specs.Jobs.{WholeCall, ToJoin, JobMeaning}
+use Rattle.cw_code.specs.Strands.{Waits, Halted, cost_of}
+use Rattle.cw_code.specs.Promises.{IsStrandOf}
+use Rattle.cw_code.specs.Steps.{CallsKeep, give, given_to}
 use Rattle.cw_runnable.specs.declared.verified.Verified.{Verified}
 use Rattle.cw_jobs.specs.declared.call.Parts.{Parts}
 use Rattle.cw_jobs.specs.declared.effect.Effect.{Effect}
 use Rattle.cw_jobs.specs.declared.effect.Effect.TheVariants as effect
-use Rattle.cw_jobs.specs.declared.effect.Shown.{Shown}
+use Rattle.cw_jobs.specs.declared.effect.PieceOutput.{PieceOutput}
 use Rattle.cw_jobs.specs.declared.job.Job.{Job}
 use Rattle.cw_jobs.specs.Jobs.{code_of, IsJob, KeepsHomes}
 use Rattle.cw_jobs.specs.Means.{Tells, MeansIt, IsMeaningOf}
@@ -87,7 +87,7 @@ module _ (v : Verified) (is : IsFit v) (q : Parts) (j : jobs.Job) where
   over_in e o m = over_told e m.effect o m.tells
 
   -- a continuation does not end its call
-  ended_told : (value : _) (shown : Shown) (d : jobs.Effect) → j.extent ≡ ToJoin → Tells (code_view v.code) j q.rest (effect.Ended value shown) d → ⊥
+  ended_told : (value : _) (shown : PieceOutput) (d : jobs.Effect) → j.extent ≡ ToJoin → Tells (code_view v.code) j q.rest (effect.Ended value shown) d → ⊥
   ended_told value shown (jobs.Ended x arrays u k) e t = differ (sym t.0 ∙ e)
     where
       differ : WholeCall ≡ ToJoin → ⊥
@@ -97,7 +97,7 @@ module _ (v : Verified) (is : IsFit v) (q : Parts) (j : jobs.Job) where
   ended_told value shown jobs.OverLimit e t = t
   ended_told value shown jobs.Memory e t = t
 
-  pub never_ends : (value : _) (shown : Shown) → j.extent ≡ ToJoin → MeansIt v is q (effect.Ended value shown) j → ⊥
+  pub never_ends : (value : _) (shown : PieceOutput) → j.extent ≡ ToJoin → MeansIt v is q (effect.Ended value shown) j → ⊥
   never_ends value shown e m = ended_told value shown m.effect e m.tells
 
 -- giving an effect, in the definitions

@@ -7,12 +7,12 @@ use mathlib.Core.HLevel.{⊥_prop}
 use Rattle.cw_model.specs.declared.trap.Trap.{Trap}
 use Rattle.cw_code.specs.Code.{Code, code_view}
 use Rattle.cw_code.specs.Run.{State}
-use Rattle.cw_strand_laws.specs.Jobs as jobs
-use Rattle.cw_strand_laws.specs.Jobs.{Memory, Short}
-use Rattle.cw_strand_laws.specs.Strands as strands
-use Rattle.cw_strand_laws.specs.Strands.{Going, Waits, Halted}
-use Rattle.cw_strand_laws.specs.Promises.{IsStrandOf}
-use Rattle.cw_strand_laws.specs.Steps.{CallsKeep}
+use Rattle.cw_code.specs.Jobs as jobs
+use Rattle.cw_code.specs.Jobs.{Memory, Short}
+use Rattle.cw_code.specs.Strands as strands
+use Rattle.cw_code.specs.Strands.{Going, Waits, Halted}
+use Rattle.cw_code.specs.Promises.{IsStrandOf}
+use Rattle.cw_code.specs.Steps.{CallsKeep}
 use Rattle.cw_slices.specs.Placed.{Placed}
 use Rattle.cw_slices.specs.lemmas.Rights.{whole_prop}
 use Rattle.cw_runnable.specs.declared.verified.Verified.{Verified}

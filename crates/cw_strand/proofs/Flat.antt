@@ -4,7 +4,7 @@ use Rattle.std.proofs.lemmas.List.{append-nil}
 use Rattle.cw_model.specs.Outcome.{Trace, quiet, joined}
 use Rattle.cw_code.specs.Run.{Results, Around, Caller, Block, State}
 use Rattle.cw_code.specs.lemmas.Runs.{same_trace}
-use Rattle.cw_strand_laws.specs.Over.{grown, beneath, results_under, arrived_under, trace_under, under}
+use Rattle.cw_code.specs.Over.{grown, beneath, results_under, arrived_under, trace_under, under}
 use Rattle.cw_jobs.specs.Jobs.{IsOutermost}
 
 module _ (b : State) (out : IsOutermost b) (begins : b.trace ≡ quiet) where

@@ -6,16 +6,16 @@ use mathlib.Core.HLevel.{⊥_prop}
 use Rattle.cw_facts.specs.Tests.{lt_of}
 use Rattle.cw_slices.specs.Placed.{Placed}
 use Rattle.cw_code.specs.Code.{Code, code_view}
-use Rattle.cw_strand_laws.specs.Jobs as jobs
-use Rattle.cw_strand_laws.specs.Over.{under}
-use Rattle.cw_strand_laws.specs.Strands.{Halted, outs_of, rest_of}
-use Rattle.cw_strand_laws.specs.Promises.{IsStrandOf}
-use Rattle.cw_strand_laws.specs.Steps.{CallsKeep}
+use Rattle.cw_code.specs.Jobs as jobs
+use Rattle.cw_code.specs.Over.{under}
+use Rattle.cw_code.specs.Strands.{Halted, outs_of, rest_of}
+use Rattle.cw_code.specs.Promises.{IsStrandOf}
+use Rattle.cw_code.specs.Steps.{CallsKeep}
 use Rattle.cw_runnable.specs.declared.verified.Verified.{Verified}
 use Rattle.cw_jobs.specs.declared.call.Parts.{Parts}
 use Rattle.cw_jobs.specs.declared.effect.Effect.{Effect}
 use Rattle.cw_jobs.specs.declared.effect.Effect.TheVariants as effect
-use Rattle.cw_jobs.specs.declared.effect.Shown.{Shown}
+use Rattle.cw_jobs.specs.declared.effect.PieceOutput.{PieceOutput}
 use Rattle.cw_jobs.specs.declared.job.Job.{Job}
 use Rattle.cw_jobs.specs.Jobs.{code_of, extent_of, IsJob, KeepsHomes}
 use Rattle.cw_jobs.specs.Means.{MeansIt, IsMeaningOf}
@@ -175,7 +175,7 @@ mode_back self back replaced popped home = record {
 }
 
 -- a continuation does not end its call
-pub never_given : (self : Strand) (job : Job) (others : List Job) (newest : Newest self job others) → IsRunning self → (value : _) (shown : Shown) → IsMeaningOf job (effect.Ended value shown) → ⊥
+pub never_given : (self : Strand) (job : Job) (others : List Job) (newest : Newest self job others) → IsRunning self → (value : _) (shown : PieceOutput) → IsMeaningOf job (effect.Ended value shown) → ⊥
 never_given self job others newest running value shown means =
     let joins = (running.rests 0 newest.lent (subst (λ l. slice_get l 0 ≡ Some newest.lent) (sym newest.are) refl)).joins in
     ∥∥₁_elim newest.lent.job.value.sound ⊥_prop (λ s.

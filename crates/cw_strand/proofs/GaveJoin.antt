@@ -12,27 +12,27 @@ use Rattle.cw_code.specs.Fits.{Fits, slots_lent}
 use Rattle.cw_code.specs.Run.{State}
 use Rattle.cw_code.specs.Good.{FitSettles}
 use Rattle.cw_code.specs.Staying.{SeatsLie}
-use Rattle.cw_meter_laws.specs.Strands.{CallsKeepMeters, CountsEffect, TellsAll, site_at, MeansMeasured}
+use Rattle.cw_jobs.specs.Strands.{CallsKeepMeters, CountsEffect, TellsAll, site_at, MeansMeasured}
 use Rattle.cw_meter.specs.declared.detail.Detail.{Detail}
-use Rattle.cw_recorded.specs.declared.recorder.Recorder.{Recorder}
-use Rattle.cw_recorded.specs.Recording.{RecordsIn}
+use Rattle.cw_greedy.specs.declared.recorder.Recorder.{Recorder}
+use Rattle.cw_greedy.specs.Recording.{RecordsIn}
 use Rattle.cw_meter.specs.declared.detail.Detail.TheVariants.{Values, Strands, Measures}
 use Rattle.cw_meter.specs.declared.meter.Meter.{Meter}
 use Rattle.cw_meter.specs.Details.{IsSite}
 use Rattle.cw_meter.specs.Origins as origins
 use Rattle.cw_meter.specs.Meters.{Meters, Rests}
-use Rattle.cw_strand_laws.specs.Jobs as jobs
-use Rattle.cw_strand_laws.specs.Jobs.{Standing, JobMeaning}
-use Rattle.cw_strand_laws.specs.Over.{under}
-use Rattle.cw_strand_laws.specs.Strands.{Going, Waits, resumed}
-use Rattle.cw_strand_laws.specs.Staying.{RestsStayInside}
-use Rattle.cw_strand_laws.specs.Steps.{CallsKeep}
+use Rattle.cw_code.specs.Jobs as jobs
+use Rattle.cw_code.specs.Jobs.{Standing, JobMeaning}
+use Rattle.cw_code.specs.Over.{under}
+use Rattle.cw_code.specs.Strands.{Going, Waits, resumed}
+use Rattle.cw_code.specs.RestsStay.{RestsStayInside}
+use Rattle.cw_code.specs.Steps.{CallsKeep}
 use Rattle.cw_runnable.specs.declared.verified.Verified.{Verified}
 use Rattle.cw_jobs.specs.declared.call.Parts.{Parts}
 use Rattle.cw_jobs.specs.declared.call.Rest.{Rest}
 use Rattle.cw_jobs.specs.declared.effect.Effect.{Effect}
 use Rattle.cw_jobs.specs.declared.effect.Effect.TheVariants as effect
-use Rattle.cw_jobs.specs.declared.effect.Shown.{Shown}
+use Rattle.cw_jobs.specs.declared.effect.PieceOutput.{PieceOutput}
 use Rattle.cw_jobs.specs.declared.job.Job.{Job}
 use Rattle.cw_jobs.specs.Jobs.{origin_of, KeepsHomes, KeepsEmpty, KeepsFixed}
 use Rattle.cw_jobs.specs.Calls.{HoldsFrame}
@@ -82,12 +82,12 @@ at_site code Strands a b frame t cost m e h = λ g q.
 at_site code (Measures burden) a b frame t cost m e h = subst (λ z. CountsEffect code (Measures burden) z (jobs.Joined frame t cost) m) e h
 
 -- an effect holds the frame at a join and what was shown
-abbrev pub IsJoin : Effect → Rest → List (Option Placed) → Shown → Type 0
+abbrev pub IsJoin : Effect → Rest → List (Option Placed) → PieceOutput → Type 0
 IsJoin (effect.Joined f r s) frame replaced shown = (f ≡ frame) × (r.items ≡ replaced) × (s ≡ shown)
 IsJoin _ frame replaced shown = ⊥
 
 -- the facts that the effect states about the continuation
-record Came (v : Verified) (is : IsFit v) (q : Parts) (j : jobs.Job) (back : Rest) (replaced : List (Option Placed)) (shown : Shown) : Type 0 where
+record Came (v : Verified) (is : IsFit v) (q : Parts) (j : jobs.Job) (back : Rest) (replaced : List (Option Placed)) (shown : PieceOutput) : Type 0 where
   pub frame : Standing
   pub trace : Trace
   pub cost : ℕ
@@ -99,7 +99,7 @@ record Came (v : Verified) (is : IsFit v) (q : Parts) (j : jobs.Job) (back : Res
   pub homes : KeepsHomes q.rest.slices.items back.slices.items replaced
   pub fixed : KeepsFixed v is j.place replaced
 
-came_of : (v : Verified) (is : IsFit v) (q : Parts) (j : jobs.Job) (e : Effect) (back : Rest) (replaced : List (Option Placed)) (shown : Shown)
+came_of : (v : Verified) (is : IsFit v) (q : Parts) (j : jobs.Job) (e : Effect) (back : Rest) (replaced : List (Option Placed)) (shown : PieceOutput)
     → IsJoin e back replaced shown → MeansIt v is q e j → Came v is q j back replaced shown
 came_of v is q j (effect.Ended value x) back replaced shown i m = absurd i
 came_of v is q j (effect.Trapped c l ls n b) back replaced shown i m = absurd i
@@ -130,7 +130,7 @@ came_of v is q j (effect.Joined f r x) back replaced shown i m =
 
 module _ (self : Strand) (job : Job) (others : List Job) (newest : Newest self job others) (running : IsRunning self) (waiting : IsWaiting self)
     (stay : RestsStayInside) (seats : (code : Code) (fits : Fits code) → SeatsLie code fits) (settles : FitSettles)
-    (e : Effect) (means : IsMeaningOf job e) (back : Rest) (replaced : List (Option Placed)) (shown : Shown) (told : IsJoin e back replaced shown) where
+    (e : Effect) (means : IsMeaningOf job e) (back : Rest) (replaced : List (Option Placed)) (shown : PieceOutput) (told : IsJoin e back replaced shown) where
   abbrev v : Verified
   v = its_code self
 

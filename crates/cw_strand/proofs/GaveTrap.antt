@@ -6,10 +6,10 @@ use Rattle.cw_facts.specs.Tests.{not_lt_of}
 use Rattle.cw_model.specs.declared.trap.Trap.{Trap}
 use Rattle.cw_slices.specs.Placed.{Placed}
 use Rattle.cw_code.specs.Code.{Code, code_view}
-use Rattle.cw_strand_laws.specs.Jobs as jobs
-use Rattle.cw_strand_laws.specs.Jobs.{JobMeaning}
-use Rattle.cw_strand_laws.specs.Strands.{Halted}
-use Rattle.cw_strand_laws.specs.Steps.{CallsKeep}
+use Rattle.cw_code.specs.Jobs as jobs
+use Rattle.cw_code.specs.Jobs.{JobMeaning}
+use Rattle.cw_code.specs.Strands.{Halted}
+use Rattle.cw_code.specs.Steps.{CallsKeep}
 use Rattle.cw_runnable.specs.declared.verified.Verified.{Verified}
 use Rattle.cw_jobs.specs.declared.call.Parts.{Parts}
 use Rattle.cw_jobs.specs.declared.effect.Effect.{Effect}

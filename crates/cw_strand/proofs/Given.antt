@@ -11,13 +11,13 @@ use Rattle.cw_code.specs.Good.{IsNotAmong, slots_in, ints_round, all_of, Good, G
 use Rattle.cw_code.specs.Staying.{SeatsLie, IsInside}
 use Rattle.cw_code.specs.lemmas.Lying.{outermost_is}
 use Rattle.cw_code.specs.lemmas.Slots.{not_in_first, not_in_second}
-use Rattle.cw_strand_laws.specs.Jobs as jobs
-use Rattle.cw_strand_laws.specs.Jobs.{ToJoin, Standing, Came, Arrives, Returns, Falls, Beyond, Lost, course, IsOf, Same, Passed, Short, job_start, JobMeaning, Joined}
-use Rattle.cw_strand_laws.specs.Over.{beneath, results_under, under}
-use Rattle.cw_strand_laws.specs.Strands.{Waits, rest_of, rest_at, resumed}
-use Rattle.cw_strand_laws.specs.Promises.{IsStrandOf}
-use Rattle.cw_strand_laws.specs.Staying.{RestsStayInside}
-use Rattle.cw_strand_laws.specs.lemmas.JobsFit.{Upon, Arrived, arrived, gives_fit}
+use Rattle.cw_code.specs.Jobs as jobs
+use Rattle.cw_code.specs.Jobs.{ToJoin, Standing, Came, Arrives, Returns, Falls, Beyond, Lost, course, IsOf, Same, Passed, Short, job_start, JobMeaning, Joined}
+use Rattle.cw_code.specs.Over.{beneath, results_under, under}
+use Rattle.cw_code.specs.Strands.{Waits, rest_of, rest_at, resumed}
+use Rattle.cw_code.specs.Promises.{IsStrandOf}
+use Rattle.cw_code.specs.RestsStay.{RestsStayInside}
+use Rattle.cw_code.specs.lemmas.JobsFit.{Upon, Arrived, arrived, gives_fit}
 use Rattle.cw_runnable.specs.declared.verified.Verified.{Verified}
 use Rattle.cw_jobs.specs.declared.call.Parts.{Parts}
 use Rattle.cw_jobs.specs.declared.call.Rest.{Rest}

@@ -4,12 +4,12 @@ use Rattle.std.specs.Prelude.{reverse, Some, slice_get}
 use Rattle.std.proofs.Math.Logic.{∥∥₁_map}
 use Rattle.cw_model.specs.declared.trap.Trap.{Trap}
 use Rattle.cw_code.specs.Code.{Code, code_view}
-use Rattle.cw_strand_laws.specs.Jobs as jobs
-use Rattle.cw_strand_laws.specs.Jobs.{has_come}
-use Rattle.cw_strand_laws.specs.Over.{beneath, under}
-use Rattle.cw_strand_laws.specs.Strands as strands
-use Rattle.cw_strand_laws.specs.Strands.{Going, Waits, Halted, ComesBack, outs_of}
-use Rattle.cw_strand_laws.specs.Steps.{CallsKeep}
+use Rattle.cw_code.specs.Jobs as jobs
+use Rattle.cw_code.specs.Jobs.{has_come}
+use Rattle.cw_code.specs.Over.{beneath, under}
+use Rattle.cw_code.specs.Strands as strands
+use Rattle.cw_code.specs.Strands.{Going, Waits, Halted, ComesBack, outs_of}
+use Rattle.cw_code.specs.Steps.{CallsKeep}
 use Rattle.cw_runnable.specs.declared.verified.Verified.{Verified}
 use Rattle.cw_jobs.specs.declared.call.Parts.{Parts}
 use Rattle.cw_jobs.specs.Jobs.{extent_of, code_of}
@@ -27,7 +27,7 @@ use Rattle.cw_strand.specs.Levels.{levels_of}
 use Rattle.cw_strand.specs.Holds.{given_up as up_of}
 use Rattle.cw_strand.specs.Holds.{its_parts, its_code, floor_in, Ground, IsRest, ok_with, Lends, AreOut, AreBack, Stands, HeldIn, Holds, KeepsJob, IsRunning, stops}
 use Rattle.cw_strand.specs.Moves.{CameTo, HasCome, HasSpared}
-use Rattle.cw_meter_laws.specs.lemmas.Spawns.{HasSpawnedWhere, waiters_have_spawned}
+use Rattle.cw_jobs.specs.lemmas.Spawns.{HasSpawnedWhere, waiters_have_spawned}
 use Rattle.cw_strand.proofs.Levels.{HasReturned, LevelsAfter, levels_move}
 use Rattle.cw_strand.proofs.WhichOut.{is_back, NewestOut, newest_out}
 use Rattle.cw_strand.proofs.Same.{same_strand}

@@ -8,12 +8,12 @@ use Rattle.cw_code.specs.Code.{Code, code_view}
 use Rattle.cw_code.specs.Fits.{slots_lent}
 use Rattle.cw_code.specs.Run.{Whole, passed_by}
 use Rattle.cw_meter.specs.Details.{IsSite}
-use Rattle.cw_meter_laws.specs.Strands.{TellsAll, site_at}
-use Rattle.cw_strand_laws.specs.Jobs as jobs
-use Rattle.cw_strand_laws.specs.Jobs.{has_come}
-use Rattle.cw_strand_laws.specs.Over.{beneath, under}
-use Rattle.cw_strand_laws.specs.Strands.{Going, HandsOut, rest_of, spawn_job}
-use Rattle.cw_strand_laws.specs.Steps.{CallsKeep}
+use Rattle.cw_jobs.specs.Strands.{TellsAll, site_at}
+use Rattle.cw_code.specs.Jobs as jobs
+use Rattle.cw_code.specs.Jobs.{has_come}
+use Rattle.cw_code.specs.Over.{beneath, under}
+use Rattle.cw_code.specs.Strands.{Going, HandsOut, rest_of, spawn_job}
+use Rattle.cw_code.specs.Steps.{CallsKeep}
 use Rattle.cw_runnable.specs.declared.verified.Verified.{Verified}
 use Rattle.cw_jobs.specs.declared.call.Parts.{Parts}
 use Rattle.cw_jobs.specs.Jobs.{origin_of}

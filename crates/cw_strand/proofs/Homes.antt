@@ -6,9 +6,9 @@ use Rattle.std.proofs.lemmas.Bool.{true≢false}
 use Rattle.cw_code.specs.Fits.{slots_lent}
 use Rattle.cw_code.specs.Run.{State}
 use Rattle.cw_slices.specs.Placed.{Placed}
-use Rattle.cw_strand_laws.specs.Jobs as jobs
-use Rattle.cw_strand_laws.specs.Strands as strands
-use Rattle.cw_strand_laws.specs.Strands.{Going, Waits, Halted}
+use Rattle.cw_code.specs.Jobs as jobs
+use Rattle.cw_code.specs.Strands as strands
+use Rattle.cw_code.specs.Strands.{Going, Waits, Halted}
 use Rattle.cw_runnable.specs.declared.verified.Verified.{Verified}
 use Rattle.cw_jobs.specs.declared.call.Parts.{Parts}
 use Rattle.cw_jobs.specs.declared.job.Job.{Job}

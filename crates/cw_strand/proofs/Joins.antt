@@ -12,22 +12,22 @@ use Rattle.cw_code.specs.Staying.{SeatsLie, IsInside}
 use Rattle.cw_code.specs.lemmas.Lying.{outermost_is}
 use Rattle.cw_meter.specs.Meters.{Meters, TellsAsBefore}
 use Rattle.cw_meter.specs.Origins.{Main, Rest}
-use Rattle.cw_meter_laws.specs.Opens.{whole}
-use Rattle.cw_meter_laws.specs.Strands.{CallsKeepMeters, TellsAll}
-use Rattle.cw_strand_laws.specs.Jobs as jobs
-use Rattle.cw_strand_laws.specs.Jobs.{ToJoin, has_come, standing, JobMeaning}
-use Rattle.cw_strand_laws.specs.Over.{under}
-use Rattle.cw_strand_laws.specs.Strands.{Going}
-use Rattle.cw_strand_laws.specs.Promises.{IsStrandOf}
-use Rattle.cw_strand_laws.specs.Staying.{RestsStayInside}
-use Rattle.cw_strand_laws.specs.Steps.{CallsKeep}
+use Rattle.cw_jobs.specs.Opens.{whole}
+use Rattle.cw_jobs.specs.Strands.{CallsKeepMeters, TellsAll}
+use Rattle.cw_code.specs.Jobs as jobs
+use Rattle.cw_code.specs.Jobs.{ToJoin, has_come, standing, JobMeaning}
+use Rattle.cw_code.specs.Over.{under}
+use Rattle.cw_code.specs.Strands.{Going}
+use Rattle.cw_code.specs.Promises.{IsStrandOf}
+use Rattle.cw_code.specs.RestsStay.{RestsStayInside}
+use Rattle.cw_code.specs.Steps.{CallsKeep}
 use Rattle.cw_runnable.specs.declared.verified.Verified.{Verified}
 use Rattle.cw_jobs.specs.declared.call.Extent.{Extent}
 use Rattle.cw_jobs.specs.declared.call.Extent.TheVariants as extent
 use Rattle.cw_jobs.specs.declared.call.Parts.{Parts}
 use Rattle.cw_jobs.specs.declared.effect.Effect.{Effect}
 use Rattle.cw_jobs.specs.declared.effect.Effect.TheVariants as effect
-use Rattle.cw_jobs.specs.declared.effect.Shown.{Shown}
+use Rattle.cw_jobs.specs.declared.effect.PieceOutput.{PieceOutput}
 use Rattle.cw_jobs.specs.Totals.{HoldsTotals}
 use Rattle.cw_jobs.specs.Jobs.{extent_of, begins_at}
 use Rattle.cw_jobs.specs.Means.{HasShown, MeansIt, IsMeaningOf}
@@ -46,7 +46,7 @@ use Rattle.cw_strand.proofs.Course.{ended, arrived, come_alone, come_joins}
 use Rattle.cw_strand.proofs.Ends.{is_nil, no_lent}
 use Rattle.cw_strand.proofs.RunsOn.{sound_of}
 
-shown_as : (code : Code) (r : Run) (cost count : ℕ) (x : Shown) (t : Trace) → IsShown r cost x → cost ≡ count → r.machine.lines.items ≡ t.lines
+shown_as : (code : Code) (r : Run) (cost count : ℕ) (x : PieceOutput) (t : Trace) → IsShown r cost x → cost ≡ count → r.machine.lines.items ≡ t.lines
     → HoldsTotals code r.machine.totals.items t.updates → HasShown code x t count
 shown_as code r cost count x t is e lines totals = record {
   cost = is.counted ∙ e;

@@ -9,8 +9,8 @@ use Rattle.cw_code.specs.declared.code.Instr.{Instr}
 use Rattle.cw_code.specs.Code.{Code}
 use Rattle.cw_code.specs.Run.{Slots, Results, Taken, Waiting, Around, Caller, Block, State, Transition, On, Ends, Stops, Stuck, is_full, settled}
 use Rattle.cw_code.specs.Run.{synced, Entering, waiting_at, begun, given_back, going_on, result_of, returns_to, back, act, step}
-use Rattle.cw_strand_laws.specs.Strands.{rest_of, spawn_job, Turn, Goes, HandsOut, ComesBack, turn, turn_back, turn_in, turn_call, turn_of}
-use Rattle.cw_strand_laws.specs.lemmas.Acts.{acts_by}
+use Rattle.cw_code.specs.Strands.{rest_of, spawn_job, Turn, Goes, HandsOut, ComesBack, turn, turn_back, turn_in, turn_call, turn_of}
+use Rattle.cw_code.specs.lemmas.StrandActs.{acts_by}
 use Rattle.cw_strand.specs.Levels.{Level, level_if, levels_of, ResultWaits, IsBackAt}
 
 -- a spawned call has begun, for this slot, and took these arrays

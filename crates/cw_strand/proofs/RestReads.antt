@@ -11,11 +11,11 @@ use Rattle.cw_code.specs.Run.{Readers, Around, State, Transition, On, Ends, Stop
 use Rattle.cw_code.specs.Good.{GoodState, FitSteps, FitSettles}
 use Rattle.cw_code.specs.Frozen.{IsFrozenAt, JoinsInside, FrozenStay, outermost_arrays}
 use Rattle.cw_code.specs.Staying.{outermost}
-use Rattle.cw_strand_laws.specs.Jobs.{ToJoin, joins, is_first, has_come, Standing, standing, Came, Arrives, Beyond, moved, travel}
-use Rattle.cw_strand_laws.specs.Over.{beneath, under, transition_under}
-use Rattle.cw_strand_laws.specs.lemmas.Budgets.{come_at, none_left, go_one}
-use Rattle.cw_strand_laws.specs.lemmas.JobsFit.{Upon, LiftedTransition, lifted_step}
-use Rattle.cw_strand_laws.specs.lemmas.Under.{act_under}
+use Rattle.cw_code.specs.Jobs.{ToJoin, joins, is_first, has_come, Standing, standing, Came, Arrives, Beyond, moved, travel}
+use Rattle.cw_code.specs.Over.{beneath, under, transition_under}
+use Rattle.cw_code.specs.lemmas.Budgets.{come_at, none_left, go_one}
+use Rattle.cw_code.specs.lemmas.JobsFit.{Upon, LiftedTransition, lifted_step}
+use Rattle.cw_code.specs.lemmas.Under.{act_under}
 use Rattle.cw_jobs.specs.Calls.{placed, IsShare, HasReaders}
 use Rattle.cw_jobs.specs.Jobs.{own_or, KeepsHomes}
 use Rattle.cw_jobs.specs.lemmas.Homes.{own_home}

@@ -7,12 +7,12 @@ use mathlib.Core.HLevel.{⊥_prop}
 use Rattle.std.proofs.lemmas.Bool.{true≢false}
 use Rattle.cw_code.specs.Code.{Code, code_view}
 use Rattle.cw_code.specs.Run.{State}
-use Rattle.cw_strand_laws.specs.Jobs as jobs
-use Rattle.cw_strand_laws.specs.Jobs.{has_come}
-use Rattle.cw_strand_laws.specs.Strands as strands
-use Rattle.cw_strand_laws.specs.Strands.{Going, Waits, Halted}
-use Rattle.cw_strand_laws.specs.Promises.{IsStrandOf}
-use Rattle.cw_strand_laws.specs.Steps.{CallsKeep}
+use Rattle.cw_code.specs.Jobs as jobs
+use Rattle.cw_code.specs.Jobs.{has_come}
+use Rattle.cw_code.specs.Strands as strands
+use Rattle.cw_code.specs.Strands.{Going, Waits, Halted}
+use Rattle.cw_code.specs.Promises.{IsStrandOf}
+use Rattle.cw_code.specs.Steps.{CallsKeep}
 use Rattle.cw_jobs.specs.declared.call.Extent.TheVariants as extent
 use Rattle.cw_jobs.specs.Jobs.{extent_of, IsSound}
 use Rattle.cw_machine.specs.declared.run.Run.{Run}

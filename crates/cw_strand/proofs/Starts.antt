@@ -7,12 +7,12 @@ use Rattle.cw_meter.specs.declared.detail.Detail.{Detail}
 use Rattle.cw_meter.specs.declared.detail.Detail.TheVariants.{Values, Strands, Measures}
 use Rattle.cw_meter.specs.Details.{IsLight}
 use Rattle.cw_code.specs.Code.{Code, code_view}
-use Rattle.cw_strand_laws.specs.Jobs as jobs
-use Rattle.cw_strand_laws.specs.Jobs.{job_start}
-use Rattle.cw_strand_laws.specs.Over.{under}
-use Rattle.cw_strand_laws.specs.Strands.{Going}
-use Rattle.cw_strand_laws.specs.Steps.{CallsKeep}
-use Rattle.cw_meter_laws.specs.Strands.{CallsKeepMeters, StartsFrom, TellsAll}
+use Rattle.cw_code.specs.Jobs as jobs
+use Rattle.cw_code.specs.Jobs.{job_start}
+use Rattle.cw_code.specs.Over.{under}
+use Rattle.cw_code.specs.Strands.{Going}
+use Rattle.cw_code.specs.Steps.{CallsKeep}
+use Rattle.cw_jobs.specs.Strands.{CallsKeepMeters, StartsFrom, TellsAll}
 use Rattle.cw_runnable.specs.declared.verified.Verified.{Verified}
 use Rattle.cw_jobs.specs.declared.call.Extent.{Extent}
 use Rattle.cw_jobs.specs.declared.call.Extent.TheVariants as extent

@@ -17,10 +17,10 @@ use Rattle.cw_code.specs.Code.{Code, code_view}
 use Rattle.cw_code.specs.Run.{Around, State}
 use Rattle.cw_code.specs.Good.{GoodState}
 use Rattle.cw_code.specs.Fits.{Fits}
-use Rattle.cw_strand_laws.specs.Jobs.{Extent, WholeCall, ToJoin, Standing}
-use Rattle.cw_strand_laws.specs.Over.{trace_under, under}
-use Rattle.cw_strand_laws.specs.Strands.{resumed}
-use Rattle.cw_strand_laws.specs.lemmas.Under.{lines_under}
+use Rattle.cw_code.specs.Jobs.{Extent, WholeCall, ToJoin, Standing}
+use Rattle.cw_code.specs.Over.{trace_under, under}
+use Rattle.cw_code.specs.Strands.{resumed}
+use Rattle.cw_code.specs.lemmas.Under.{lines_under}
 use Rattle.cw_runnable.specs.declared.verified.Verified.{Verified}
 use Rattle.cw_jobs.specs.Totals.{greater, joined_total, kept, wrapped, AllFit, HoldsTotals}
 use Rattle.cw_jobs.specs.lemmas.Totals.{sum_append}

@@ -5,11 +5,11 @@ use Rattle.std.proofs.Math.Logic.{∥∥₁_elim, ∥∥₁_map}
 use Rattle.cw_code.specs.Code.{Code, code_view}
 use Rattle.cw_code.specs.Fits.{slots_lent}
 use Rattle.cw_code.specs.Run.{State}
-use Rattle.cw_strand_laws.specs.Jobs as jobs
-use Rattle.cw_strand_laws.specs.Over.{beneath, under}
-use Rattle.cw_strand_laws.specs.Strands.{Going, Waits}
-use Rattle.cw_strand_laws.specs.Promises.{IsStrandOf}
-use Rattle.cw_strand_laws.specs.Steps.{CallsKeep}
+use Rattle.cw_code.specs.Jobs as jobs
+use Rattle.cw_code.specs.Over.{beneath, under}
+use Rattle.cw_code.specs.Strands.{Going, Waits}
+use Rattle.cw_code.specs.Promises.{IsStrandOf}
+use Rattle.cw_code.specs.Steps.{CallsKeep}
 use Rattle.cw_runnable.specs.declared.verified.Verified.{Verified}
 use Rattle.cw_jobs.specs.declared.call.Parts.{Parts}
 use Rattle.cw_jobs.specs.declared.job.Job.{Job}

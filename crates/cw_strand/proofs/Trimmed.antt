@@ -4,12 +4,12 @@ use Rattle.std.specs.Prelude.{slice_get, Some}
 use Rattle.std.proofs.Math.Logic.{∥∥₁_map}
 use Rattle.cw_code.specs.Code.{code_view}
 use Rattle.cw_code.specs.Run.{State}
-use Rattle.cw_strand_laws.specs.Jobs as jobs
-use Rattle.cw_strand_laws.specs.Over.{under}
-use Rattle.cw_strand_laws.specs.Strands as strands
-use Rattle.cw_strand_laws.specs.Strands.{Going, Waits, Halted}
+use Rattle.cw_code.specs.Jobs as jobs
+use Rattle.cw_code.specs.Over.{under}
+use Rattle.cw_code.specs.Strands as strands
+use Rattle.cw_code.specs.Strands.{Going, Waits, Halted}
 use Rattle.cw_meter.specs.Meters.{TellsAsBefore}
-use Rattle.cw_meter_laws.specs.Opens.{opens_round}
+use Rattle.cw_jobs.specs.Opens.{opens_round}
 use Rattle.cw_jobs.specs.Jobs.{code_of, origin_of}
 use Rattle.cw_machine.specs.Arrays.{IsFit, RemainsIn}
 use Rattle.cw_machine.specs.Trims.{Trims}

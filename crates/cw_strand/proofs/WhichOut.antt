@@ -5,8 +5,8 @@ use Rattle.std.proofs.lemmas.List.{length-reverse}
 use Rattle.cw_model.specs.declared.syntax.CallKind.{CallKind}
 use Rattle.cw_model.specs.declared.syntax.CallKind.TheVariants.{Plain, Spawned}
 use Rattle.cw_code.specs.Run.{Waiting, Around, Caller, Block, State}
-use Rattle.cw_strand_laws.specs.Jobs as jobs
-use Rattle.cw_strand_laws.specs.Over.{beneath}
+use Rattle.cw_code.specs.Jobs as jobs
+use Rattle.cw_code.specs.Over.{beneath}
 use Rattle.cw_runnable.specs.declared.verified.Verified.{Verified}
 use Rattle.cw_jobs.specs.declared.call.Parts.{Parts}
 use Rattle.cw_machine.specs.declared.machine.Machine.{Machine}

@@ -7,7 +7,7 @@ use Rattle.cw_meter.specs.Meters.{Rests}
 use Rattle.cw_jobs.specs.declared.call.Rest.{Rest}
 use Rattle.cw_jobs.specs.declared.effect.Effect.{Effect}
 use Rattle.cw_jobs.specs.declared.effect.Effect.TheVariants as effect
-use Rattle.cw_jobs.specs.declared.effect.Shown.{Shown}
+use Rattle.cw_jobs.specs.declared.effect.PieceOutput.{PieceOutput}
 use Rattle.cw_jobs.specs.declared.job.Job.{Job}
 use Rattle.cw_jobs.specs.Means.{IsMeaningOf}
 use Rattle.cw_jobs.specs.Totals.{joined_total}
@@ -86,7 +86,7 @@ pub record HasTaken (m : Machine) (lines : List ℤ) (totals : List Total) (m' :
 -- the continuation of a block returned to a run: the machine continues at the join and has taken over what the
 -- continuation has shown, and the meter includes what the other meter counted
 pub record HasJoined (r : Run) (v : Verified) (count : ℕ) (frame : Rest) (replaced : List (Option Placed)) (h : Home)
-    (shown : Shown) (r' : Run) : Type 0 where
+    (shown : PieceOutput) (r' : Run) : Type 0 where
   pub given : Machine
   pub gives : Gives r.machine frame replaced h.lender.slots (slots_lent (loans_of v h.lent)) h.target given
   pub takes : HasTaken given shown.lines.items shown.totals.items r'.machine

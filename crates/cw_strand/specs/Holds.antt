@@ -6,13 +6,13 @@ use Rattle.cw_measure.specs.OpenParts.{has_spawned}
 use Rattle.cw_meter.specs.Details.{IsLight, IsSite}
 use Rattle.cw_code.specs.Code.{code_view}
 use Rattle.cw_code.specs.Run.{State}
-use Rattle.cw_strand_laws.specs.Jobs as jobs
-use Rattle.cw_strand_laws.specs.Jobs.{ToJoin}
-use Rattle.cw_strand_laws.specs.Over.{beneath, under}
-use Rattle.cw_strand_laws.specs.Strands as strands
-use Rattle.cw_strand_laws.specs.Strands.{Going, Waits, Halted, rest_of}
-use Rattle.cw_strand_laws.specs.Promises.{IsStrandOf}
-use Rattle.cw_meter_laws.specs.Strands.{IsFrom, site_at}
+use Rattle.cw_code.specs.Jobs as jobs
+use Rattle.cw_code.specs.Jobs.{ToJoin}
+use Rattle.cw_code.specs.Over.{beneath, under}
+use Rattle.cw_code.specs.Strands as strands
+use Rattle.cw_code.specs.Strands.{Going, Waits, Halted, rest_of}
+use Rattle.cw_code.specs.Promises.{IsStrandOf}
+use Rattle.cw_jobs.specs.Strands.{IsFrom, site_at}
 use Rattle.cw_code.specs.Fits.{slots_lent}
 use Rattle.cw_machine.specs.Calls.{loans_of}
 use Rattle.cw_runnable.specs.declared.verified.Verified.{Verified}

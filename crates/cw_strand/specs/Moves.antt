@@ -4,15 +4,15 @@ use Rattle.std.specs.Prelude.{None}
 use Rattle.cw_code.specs.Code.{code_view}
 use Rattle.cw_code.specs.Run.{State}
 use Rattle.cw_slices.specs.Placed.{Placed}
-use Rattle.cw_strand_laws.specs.Jobs as jobs
-use Rattle.cw_strand_laws.specs.Strands.{Going}
-use Rattle.cw_strand_laws.specs.Promises.{IsStrandOf}
-use Rattle.cw_meter_laws.specs.Strands.{StartsFrom}
+use Rattle.cw_code.specs.Jobs as jobs
+use Rattle.cw_code.specs.Strands.{Going}
+use Rattle.cw_code.specs.Promises.{IsStrandOf}
+use Rattle.cw_jobs.specs.Strands.{StartsFrom}
 use Rattle.cw_jobs.specs.declared.call.Parts.{Parts}
 use Rattle.cw_jobs.specs.declared.call.Extent.TheVariants as extent
 use Rattle.cw_jobs.specs.declared.effect.Effect.{Effect}
 use Rattle.cw_jobs.specs.declared.effect.Effect.TheVariants as effect
-use Rattle.cw_jobs.specs.declared.effect.Shown.{Shown}
+use Rattle.cw_jobs.specs.declared.effect.PieceOutput.{PieceOutput}
 use Rattle.cw_jobs.specs.declared.job.Job.{Job}
 use Rattle.cw_jobs.specs.Jobs.{code_of, origin_of, IsJob}
 use Rattle.cw_jobs.specs.Means.{IsMeaningOf}
@@ -239,7 +239,7 @@ LeadsTo (advance.Came (step.Ended e)) old new = KeptBy (step.Ended e) old new ×
 LeadsTo _ old new = ⊥
 
 -- what a run has shown and counted
-pub record IsShown (r : Run) (cost : ℕ) (shown : Shown) : Type 0 where
+pub record IsShown (r : Run) (cost : ℕ) (shown : PieceOutput) : Type 0 where
   pub lines : shown.lines ≡ r.machine.lines
   pub totals : shown.totals ≡ r.machine.totals
   pub meter : shown.meter ≡ r.meter

@@ -7,9 +7,9 @@ ghost use Rattle.cw_strand.specs.Losing.{Leaves, LeavesBy};
 ghost use Rattle.cw_strand.specs.Moves.{AdvancesBy, CountsBy, DoesOne, EndsAt, IsBefore, IsUnended, KeptBy, LeadsTo};
 
 use crate::strand::{Advance, End, Event, Mode, Spawns, Step, Strand};
+use cw_code::crew_laws::calls_on_a_strand_keep_its_job;
 use cw_machine::laws::machines_that_stop_remain;
 use cw_machine::run::Stop;
-use cw_strand_laws::laws::calls_on_a_strand_keep_its_job;
 
 impl Strand {
     // Returns the event of a strand that is not running: a join, or its end.

@@ -10,25 +10,25 @@ ghost use Rattle.cw_strand.specs.Moves.{EndsCall, EndsStill, HasCome, IsShown};
 
 use crate::lending::empty_rest;
 use crate::strand::{Mode, Strand};
+use cw_code::crew_laws::{calls_on_a_strand_keep_its_job, rests_stay_in_their_functions};
 use cw_code::laws::runs_stay_in_their_functions;
 use cw_jobs::call::Rest;
-use cw_jobs::effect::{Effect, Shown};
+use cw_jobs::effect::{Effect, PieceOutput};
+use cw_jobs::laws::calls_keep_what_meters_tell;
 use cw_machine::laws::machines_that_stop_remain;
 use cw_machine::machine::Machine;
 use cw_machine::run::Run;
 use cw_meter::{Detail, Meter};
-use cw_meter_laws::laws::calls_keep_what_meters_tell;
 use cw_slices::Slice;
-use cw_strand_laws::laws::{calls_on_a_strand_keep_its_job, rests_stay_in_their_functions};
 use std::collections::VecDeque;
 use std::mem;
 
 // What a run has shown and counted in so many instructions.
-fn shown(run: &mut Run, cost: u64) -> Shown
+fn shown(run: &mut Run, cost: u64) -> PieceOutput
     ensures { IsShown run.old cost result }
 {
     let alloc = *run.machine.lines.allocator();
-    Shown {
+    PieceOutput {
         lines: mem::replace(&mut run.machine.lines, VecDeque::new(alloc)),
         totals: mem::replace(&mut run.machine.totals, Vec::new(alloc)),
         meter: mem::replace(&mut run.meter, Meter::apart(alloc, 0, Detail::Values)),

@@ -12,19 +12,19 @@ ghost use Rattle.cw_strand.specs.declared.strand.Mode.TheVariants as mode;
 use crate::lending::loans_named;
 use crate::stopping::home_of;
 use crate::strand::{Home, Mode, Strand};
+use cw_code::crew_laws::{calls_on_a_strand_keep_its_job, rests_stay_in_their_functions};
 use cw_code::laws::{results_may_go_back, runs_stay_in_their_functions};
 use cw_jobs::call::Rest;
-use cw_jobs::effect::{Effect, Shown};
+use cw_jobs::effect::{Effect, PieceOutput};
+use cw_jobs::laws::calls_keep_what_meters_tell;
 use cw_jobs::totals::joined;
 use cw_machine::laws::machines_that_stop_remain;
 use cw_machine::machine::Machine;
 use cw_machine::run::Run;
-use cw_meter_laws::laws::calls_keep_what_meters_tell;
 use cw_model::total::Total;
 use cw_model::trap::Trap;
 use cw_runnable::verified::Verified;
 use cw_slices::Slice;
-use cw_strand_laws::laws::{calls_on_a_strand_keep_its_job, rests_stay_in_their_functions};
 use std::alloc::{AllocError, Global};
 use std::collections::VecDeque;
 
@@ -92,13 +92,13 @@ fn join_rest(
     frame: &mut Rest,
     replaced: &mut Vec<Option<Slice>>,
     home: Home,
-    shown: Shown,
+    shown: PieceOutput,
 ) -> Result<(), AllocError>
     requires { ∥ giving.MayJoin run.old.machine code.now frame.old replaced.old.items home ∥₁ }
     ensures { OnOk result (HasJoined run.old code.now count frame.old replaced.old.items home shown
         run.new) }
 {
-    let Shown {
+    let PieceOutput {
         lines,
         totals,
         meter,
@@ -147,7 +147,7 @@ impl Strand {
     }
 
     // The effect of a rest that came to its join, given to a strand that waits for it.
-    fn give_joined(&mut self, frame: Rest, replaced: Vec<Option<Slice>>, shown: Shown)
+    fn give_joined(&mut self, frame: Rest, replaced: Vec<Option<Slice>>, shown: PieceOutput)
         requires running { IsRunning self.old }
         requires waiting { IsWaiting self.old }
         requires given { IsGiven self.old (effect.Joined frame replaced shown) }

@@ -10,10 +10,10 @@ ghost use Rattle.cw_strand.specs.Moves as moves;
 ghost use Rattle.cw_strand.specs.Moves.{EndsBy, HandsNothing, HandsOutAt, HasCome, IsSame, JoinsBy, KeptBy, ComesOr, ComesTo, ComesWithin, EndsAt, RunsOn, StaysWithin, StopsFor};
 
 use crate::strand::{End, Event, Mode, Spawns, Step, Strand};
+use cw_code::crew_laws::calls_on_a_strand_keep_its_job;
 use cw_jobs::effect::Effect;
 use cw_machine::laws::machines_that_stop_remain;
 use cw_machine::run::Stop;
-use cw_strand_laws::laws::calls_on_a_strand_keep_its_job;
 
 // Whether a job goes on behind so many instructions.
 #[inline(always)]

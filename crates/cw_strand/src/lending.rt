@@ -12,13 +12,13 @@ ghost use Rattle.cw_strand.specs.Moves.{HasCome, ComesTo, HasCut, HasSpared, IsA
 
 use crate::strand::{Event, Home, Lent, Mode, Strand};
 use cw_code::code::Loan;
+use cw_code::crew_laws::calls_on_a_strand_keep_its_job;
 use cw_jobs::call::{Extent, Parts, Rest};
 use cw_jobs::job::Job;
 use cw_machine::hands::Lender;
 use cw_machine::laws::machines_that_stop_remain;
 use cw_machine::run::Spawn;
 use cw_runnable::verified::Verified;
-use cw_strand_laws::laws::calls_on_a_strand_keep_its_job;
 use std::alloc::{AllocError, Global};
 use std::snapshot::Snapshot;
 

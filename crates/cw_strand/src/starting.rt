@@ -2,17 +2,17 @@
 
 ghost use Rattle.std.specs.Prelude.{◌≡◌, IfOk, IfErr, MatchResult};
 ghost use Rattle.cw_jobs.specs.Jobs.{begins_at, IsSound};
-ghost use Rattle.cw_meter_laws.specs.Strands.{StartsFrom};
+ghost use Rattle.cw_jobs.specs.Strands.{StartsFrom};
 ghost use Rattle.cw_strand.specs.Moves.{Begins, BeginsRun};
 
 use crate::strand::{Mode, Strand};
+use cw_code::crew_laws::calls_on_a_strand_keep_its_job;
 use cw_jobs::call::{Extent, Parts};
 use cw_jobs::job::Job;
+use cw_jobs::laws::calls_keep_what_meters_tell;
 use cw_machine::machine::Machine;
 use cw_machine::run::Run;
 use cw_meter::{Detail, Meter};
-use cw_meter_laws::laws::calls_keep_what_meters_tell;
-use cw_strand_laws::laws::calls_on_a_strand_keep_its_job;
 use std::alloc::{AllocError, Global};
 use std::snapshot::Snapshot;
 

@@ -10,13 +10,13 @@ ghost use Rattle.cw_strand.specs.Moves.{HasLost, HasPoppedHome, MayPopHome};
 
 use crate::lending::loans_named;
 use crate::strand::{Home, Lent, Mode, Strand};
+use cw_code::crew_laws::calls_on_a_strand_keep_its_job;
 use cw_jobs::job::Job;
 use cw_machine::hands::Lender;
 use cw_machine::laws::machines_that_stop_remain;
 use cw_machine::machine::Machine;
 use cw_runnable::verified::Verified;
 use cw_slices::Slice;
-use cw_strand_laws::laws::calls_on_a_strand_keep_its_job;
 
 // Where a job that was out comes back to.
 pub(crate) fn home_of(lent: Option<Lent>) -> Home

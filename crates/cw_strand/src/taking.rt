@@ -8,9 +8,9 @@ ghost use Rattle.cw_strand.specs.Moves.{HasSpared};
 
 use crate::lending::loans_named;
 use crate::strand::{Mode, Strand};
+use cw_code::crew_laws::calls_on_a_strand_keep_its_job;
 use cw_jobs::call::Parts;
 use cw_jobs::job::Job;
-use cw_strand_laws::laws::calls_on_a_strand_keep_its_job;
 
 // Frees a box for which there is no room.
 #[cold]

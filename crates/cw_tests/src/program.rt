@@ -16,13 +16,13 @@ pub type Row = (&'static str, &'static str, u8, &'static str, &'static str);
 
 /// The exit status, standard output and standard error.
 #[derive(Drop)]
-pub struct Told {
+pub struct Output {
     pub status: u8,
     pub out: Vec<u8>,
     pub err: Vec<u8>,
 }
 
-impl Told {
+impl Output {
     /// Returns whether the status is `status`, standard output is `head` followed by `out`, and standard error is
     /// `err`.
     pub fn is(&self, status: u8, head: &str, out: &str, err: &str) -> bool {
@@ -50,7 +50,7 @@ pub fn asked(alloc: Global, line: &str) -> Result<Request, Fail> {
 
 // Returns what the program prints instead of running, with an explanation of a fault of these words if `explain`
 // holds.
-fn said(alloc: Global, said: &Said, words: &[String], explain: bool) -> Told {
+fn said(alloc: Global, said: &Said, words: &[String], explain: bool) -> Output {
     let mut out = Counted::new(Vec::new(alloc));
     let mut err = Counted::new(Vec::new(alloc));
     let status = if explain {
@@ -58,7 +58,7 @@ fn said(alloc: Global, said: &Said, words: &[String], explain: bool) -> Told {
     } else {
         say(said, &mut out, &mut err)
     };
-    Told {
+    Output {
         status,
         out: out.into_inner(),
         err: err.into_inner(),
@@ -70,7 +70,7 @@ fn told_of<R: AllocGlobal + Threads + Wait + Copy + Drop + Send + 'static>(
     rt: R,
     asked: &Request,
     source: &[u8],
-) -> Result<Told, Fail> {
+) -> Result<Output, Fail> {
     let crew = crew_of(rt.alloc(), rt, asked.workers)?;
     told_by(rt, asked, source, crew)
 }
@@ -81,7 +81,7 @@ pub fn told_by<R: AllocGlobal + Threads + Wait + Copy + Drop + Send + 'static>(
     asked: &Request,
     source: &[u8],
     crew: Vec<Serving<R>>,
-) -> Result<Told, Fail> {
+) -> Result<Output, Fail> {
     let alloc = rt.alloc();
     let gate = Arc::new(alloc, Quiet)?;
     let mut source = Counted::new(source);
@@ -97,7 +97,7 @@ pub fn told_by<R: AllocGlobal + Threads + Wait + Copy + Drop + Send + 'static>(
         &mut out,
         &mut err,
     );
-    Ok(Told {
+    Ok(Output {
         status,
         out: out.into_inner(),
         err: err.into_inner(),
@@ -109,7 +109,7 @@ pub fn answer<R: AllocGlobal + Threads + Wait + Copy + Drop + Send + 'static>(
     rt: R,
     line: &str,
     source: &[u8],
-) -> Result<Told, Fail> {
+) -> Result<Output, Fail> {
     let alloc = rt.alloc();
     let mut words = words_of(alloc, line)?;
     let explain = take_explain(&mut words);

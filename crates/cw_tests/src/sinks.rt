@@ -70,7 +70,7 @@ fn tool_by_crew<
 
 // The outcome of a report to a narrow sink.
 #[derive(Drop)]
-struct Told {
+struct SinkOutcome {
     status: u8,
     failures: u64,
     out: Vec<u8>,
@@ -87,7 +87,7 @@ fn report<R: AllocGlobal + Threads + Wait + Copy + Drop + Send + 'static>(
     words: &str,
     room: usize,
     fails: bool,
-) -> Result<Told, Fail> {
+) -> Result<SinkOutcome, Fail> {
     let alloc = rt.alloc();
     let asked = asked(alloc, words)?;
     let mut source = Counted::new(SPAWNS);
@@ -95,7 +95,7 @@ fn report<R: AllocGlobal + Threads + Wait + Copy + Drop + Send + 'static>(
     let mut out = Counted::new(Narrow { taken, room, fails });
     let mut err = Counted::new(Vec::new(alloc));
     let status = tool_by_crew(rt, &asked, &mut source, &mut out, &mut err)?;
-    Ok(Told {
+    Ok(SinkOutcome {
         status,
         failures: out.failures(),
         out: out.into_inner().taken,
@@ -103,7 +103,7 @@ fn report<R: AllocGlobal + Threads + Wait + Copy + Drop + Send + 'static>(
     })
 }
 
-impl Told {
+impl SinkOutcome {
     // Returns whether the outcome is this one.
     fn is(&self, status: u8, failures: u64, out: &[u8], err: &str) -> bool {
         self.status == status
@@ -219,7 +219,7 @@ fn tells_of_want_of_memory(rt: HostRuntime) -> Result<(), Fail> {
 // Returns the status for an empty source, and what standard error takes of its line with room for 9 bytes.
 fn refused_narrowly<R: AllocGlobal + Threads + Wait + Copy + Drop + Send + 'static>(
     rt: R,
-) -> Result<Told, Fail> {
+) -> Result<SinkOutcome, Fail> {
     let alloc = rt.alloc();
     let asked = asked(alloc, "run f")?;
     let mut out = Counted::new(Vec::new(alloc));
@@ -230,7 +230,7 @@ fn refused_narrowly<R: AllocGlobal + Threads + Wait + Copy + Drop + Send + 'stat
     });
     let mut source = Counted::new(b"".as_slice());
     let status = tool_by_crew(rt, &asked, &mut source, &mut out, &mut err)?;
-    Ok(Told {
+    Ok(SinkOutcome {
         status,
         failures: err.failures(),
         out: out.into_inner(),

@@ -1,3 +1,7 @@
 pub mod Faults
 pub mod Sources
 pub mod Noted
+pub mod Rising
+pub mod RecordedReasons
+pub mod Laws
+pub mod lemmas

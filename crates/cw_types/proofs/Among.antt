@@ -7,11 +7,11 @@ use Rattle.cw_types.specs.declared.reason.IllTyped.{IllTyped}
 use Rattle.cw_types.specs.Reasons.{IsBroken}
 use Rattle.cw_types.specs.Scope.{Declared}
 use Rattle.cw_types.specs.Standing.{Standing, standing_at}
-use Rattle.cw_reasons.specs.declared.reasons.Reasons.{Reasons}
-use Rattle.cw_reasons.specs.Told.{Tells}
-use Rattle.cw_types.specs.Told.{Breaks, Ends, IsNeverReached}
+use Rattle.cw_text.specs.declared.reasons.Reasons.{Reasons}
+use Rattle.cw_text.specs.RecordedReasons.{Tells}
+use Rattle.cw_types.specs.ReasonMeaning.{Breaks, Ends, IsNeverReached}
 use Rattle.cw_types.specs.Within.{IsAmong, NeverReached, program_in}
-use Rattle.cw_reasons.specs.lemmas.Telling.{weaken}
+use Rattle.cw_text.specs.lemmas.Telling.{weaken}
 
 pub broken_among : (globals : Globals) (s : Standing) (all : List Standing) (found : Option IllTyped) → Contains all s →
     IfSome found (IsBroken (program_in globals) s.returns s.locals s.stmt) → IfSome found (IsAmong globals all s.line)

@@ -11,9 +11,9 @@ use Rattle.cw_model.specs.Meaning.{function_named}
 use Rattle.cw_model.specs.Syntax.{Name, Expr, Param, Function, Reducer, Program, Stmt, Declare, DeclareArray, Assign, AssignElement, Reduce}
 use Rattle.cw_model.specs.Syntax.{Call, Start, Begin, Sync, If, IfElse, While, For, Scope, Cut, Region, Print, Return}
 use Rattle.cw_model.specs.Typing.{Known, Returns, ends_block, faults_in, called, reducer_called, is_argument, are_arguments, block_returns, surely_returns}
-use Rattle.cw_reasons.specs.Rising.{kept}
-use Rattle.cw_reasons.specs.Told.{itself}
-use Rattle.cw_reasons.specs.lemmas.Kept.{kept-append}
+use Rattle.cw_text.specs.Rising.{kept}
+use Rattle.cw_text.specs.RecordedReasons.{itself}
+use Rattle.cw_text.specs.lemmas.Kept.{kept-append}
 use Rattle.cw_tree.specs.declared.syntax.Function.{Function as CodeFunction}
 use Rattle.cw_tree.specs.declared.syntax.Reducer.{Reducer as CodeReducer}
 use Rattle.cw_tree.specs.declared.syntax.Line.{Line, the_lemmas}

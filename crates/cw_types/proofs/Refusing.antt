@@ -5,23 +5,23 @@ use Rattle.cw_model.specs.Sizes.{limit_faults}
 use Rattle.cw_model.specs.Syntax.{Program}
 use Rattle.cw_model.specs.Typing.{type_faults}
 use Rattle.cw_model.specs.lemmas.Lowest.{least_line, no_least, no_lines}
-use Rattle.cw_reasons.specs.Rising.{first_of, kept, there}
-use Rattle.cw_reasons.specs.Told.{itself, least_lines, line_of, lines_at, lines_of, no_place}
-use Rattle.cw_reasons.specs.declared.reasons.At.{At}
-use Rattle.cw_reasons.specs.declared.reasons.Reasons.{Reasons}
-use Rattle.cw_reasons.specs.lemmas.Kept.{first-lowest, first-map, there-map, there-rising}
+use Rattle.cw_text.specs.Rising.{first_of, kept, there}
+use Rattle.cw_text.specs.RecordedReasons.{itself, least_lines, line_of, lines_at, lines_of, no_place}
+use Rattle.cw_text.specs.declared.reasons.At.{At}
+use Rattle.cw_text.specs.declared.reasons.Reasons.{Reasons}
+use Rattle.cw_text.specs.lemmas.Kept.{first-lowest, first-map, there-map, there-rising}
 use Rattle.cw_types.specs.Faults.{IsPassedAt, IsWithin, refused_lines, where_none}
 use Rattle.cw_types.specs.Limits.{IsPassedByParts}
 use Rattle.cw_types.specs.Named.{functions_named, reducers_named}
 use Rattle.cw_types.specs.Telling.{IsOf, line_told}
-use Rattle.cw_types.specs.Told.{IsNoMain, IsRepeatedIn, IsTold, OfNames, OfProgram}
+use Rattle.cw_types.specs.ReasonMeaning.{IsNoMain, IsRepeatedIn, IsTold, OfNames, OfProgram}
 use Rattle.cw_types.specs.declared.reason.IllTyped.{IllTyped}
 use Rattle.cw_types.specs.declared.reason.TooLarge.{TooLarge}
-use Rattle.cw_types.specs.declared.told.Told.{Told}
+use Rattle.cw_types.specs.declared.told.LeastReason.{LeastReason}
 use Rattle.cw_types.proofs.Repeating.{behind, in_front}
 
 -- the recorded limit is exceeded in the least line
-pub limit_told : (program : Program) (told : Told TooLarge) → line_told told ≡ lowest None (limit_faults program) →
+pub limit_told : (program : Program) (told : LeastReason TooLarge) → line_told told ≡ lowest None (limit_faults program) →
     IsOf (IsPassedByParts program) told → MatchOption told.first (IsWithin program) (IsPassedAt program)
 limit_told program told lines holds = by_case told.first lines holds
   where

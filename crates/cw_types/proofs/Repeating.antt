@@ -9,7 +9,7 @@ use Rattle.cw_model.specs.Names.{is_among, same_name}
 use Rattle.cw_model.specs.Syntax.{Name}
 use Rattle.cw_types.specs.Typing.{earlier_line, later_line}
 use Rattle.cw_types.specs.Scope.{Declared}
-use Rattle.cw_types.specs.Told.{AreBothIn, IsRepeatedIn, IsRepeatedOf, IsRepeating}
+use Rattle.cw_types.specs.ReasonMeaning.{AreBothIn, IsRepeatedIn, IsRepeatedOf, IsRepeating}
 use Rattle.cw_types.specs.declared.reason.IllTyped.{IllTyped}
 
 -- an element at a position and an element before it are both in the list

@@ -4,12 +4,12 @@ use Rattle.std.proofs.lemmas.Bool.Decides.{nat_tests}
 use Rattle.std.specs.Option.{option_to_list}
 use Rattle.cw_model.specs.Lines.{lesser, lowest}
 use Rattle.cw_model.specs.lemmas.Lowest.{least_line}
-use Rattle.cw_reasons.specs.declared.reasons.At.{At}
+use Rattle.cw_text.specs.declared.reasons.At.{At}
 use Rattle.cw_types.specs.Telling.{AsBefore, Anew, IsOf, IsTheLeast, IsTheOne, Tells}
-use Rattle.cw_types.specs.declared.told.Told.{Told}
+use Rattle.cw_types.specs.declared.told.LeastReason.{LeastReason}
 
 -- a condition on recorded entries may be weakened
-pub weaken : {R : Type 0} (Such More : ℕ → R → Type 0) (a b : Told R) → ((line : ℕ) (r : R) → Such line r → More line r) → Tells Such a b → Tells More a b
+pub weaken : {R : Type 0} (Such More : ℕ → R → Type 0) (a b : LeastReason R) → ((line : ℕ) (r : R) → Such line r → More line r) → Tells Such a b → Tells More a b
 weaken {R} Such More a b f (AsBefore same) = AsBefore same
 weaken {R} Such More a b f (Anew holds) = Anew (lift b.first holds)
   where
@@ -18,17 +18,17 @@ weaken {R} Such More a b f (Anew holds) = Anew (lift b.first holds)
     lift (Some at) h = f at.line at.reason h
 
 -- an unchanged record satisfies the same conditions
-pub still : {R : Type 0} (Such : ℕ → R → Type 0) (a b : Told R) → b.first ≡ a.first → IsOf Such a → IsOf Such b
+pub still : {R : Type 0} (Such : ℕ → R → Type 0) (a b : LeastReason R) → b.first ≡ a.first → IsOf Such a → IsOf Such b
 still {R} Such a b same holds = subst (λ (o : Option (At R)). IfSome o (λ at. Such at.line at.reason)) (sym same) holds
 
 -- two recordings of entries that satisfy `Such` compose
-pub and_then : {R : Type 0} (Such : ℕ → R → Type 0) (a b c : Told R) → Tells Such a b → Tells Such b c → Tells Such a c
+pub and_then : {R : Type 0} (Such : ℕ → R → Type 0) (a b c : LeastReason R) → Tells Such a b → Tells Such b c → Tells Such a c
 and_then {R} Such a b c (AsBefore first) (AsBefore second) = AsBefore (second ∙ first)
 and_then {R} Such a b c (Anew first) (AsBefore second) = Anew (still Such b c second first)
 and_then {R} Such a b c first (Anew second) = Anew second
 
 -- if the reason found for a line satisfies `Such`, recording it keeps `Tells Such`
-pub found_true : {R : Type 0} (Such : ℕ → R → Type 0) (a b : Told R) (line : ℕ) (found : Option R) → IfSome found (Such line) →
+pub found_true : {R : Type 0} (Such : ℕ → R → Type 0) (a b : LeastReason R) (line : ℕ) (found : Option R) → IfSome found (Such line) →
     Tells (IsTheOne line found) a b → Tells Such a b
 found_true {R} Such a b line None holds told = weaken (IsTheOne line None) Such a b (λ at r h. cc (h.1)) told
 found_true {R} Such a b line (Some reason) holds told = weaken (IsTheOne line (Some reason)) Such a b (λ at r h. rw h.0 (same r h.1)) told
@@ -39,13 +39,13 @@ found_true {R} Such a b line (Some reason) holds told = weaken (IsTheOne line (S
         subst (λ (q : R). Such line q) is holds
 
 -- recording the least of some lines keeps `Tells Such`, because it is one of them
-pub least_true : {R : Type 0} (Such : ℕ → R → Type 0) (a b : Told R) (least : Option ℕ) (lines : List ℕ) (reason : R) → least ≡ lowest None lines →
+pub least_true : {R : Type 0} (Such : ℕ → R → Type 0) (a b : LeastReason R) (least : Option ℕ) (lines : List ℕ) (reason : R) → least ≡ lowest None lines →
     ((line : ℕ) → Contains lines line → Such line reason) → Tells (IsTheLeast least reason) a b → Tells Such a b
 least_true {R} Such a b least lines reason is holds told =
     weaken (IsTheLeast least reason) Such a b (λ at r h. rw h.1 (holds at (least_line lines at (sym is ∙ h.0)).there)) told
 
 -- if nothing was recorded before, the recorded entry satisfies `Such`
-pub all_true : {R : Type 0} (Such : ℕ → R → Type 0) (a b : Told R) → a.first ≡ None → Tells Such a b → IsOf Such b
+pub all_true : {R : Type 0} (Such : ℕ → R → Type 0) (a b : LeastReason R) → a.first ≡ None → Tells Such a b → IsOf Such b
 all_true {R} Such a b none (AsBefore same) = subst (λ (o : Option (At R)). IfSome o (λ at. Such at.line at.reason)) (sym (same ∙ none)) tt
 all_true {R} Such a b none (Anew holds) = holds
 

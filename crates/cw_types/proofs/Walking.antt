@@ -6,7 +6,7 @@ use Rattle.cw_model.specs.Syntax.{Name, Stmt, Declare, DeclareArray, Assign, Ass
 use Rattle.cw_model.specs.Typing.{Known, declares, globals, known_of}
 use Rattle.cw_types.specs.Names.{known_names, param_names}
 use Rattle.cw_types.specs.Scope.{Declared, after_stmt, kinds, oldest, with_local, with_params}
-use Rattle.cw_types.specs.Told.{BeginsAt}
+use Rattle.cw_types.specs.ReasonMeaning.{BeginsAt}
 use Rattle.cw_types.specs.Typing.{are_new}
 use Rattle.cw_tree.specs.declared.syntax.Line.{Line, the_lemmas}
 use Rattle.cw_tree.specs.SyntaxView.{block_of}

@@ -9,7 +9,7 @@ use Rattle.cw_tree.specs.declared.typed.Typed.{Typed}
 use Rattle.cw_tree.specs.ResolvedView.{program_of}
 use Rattle.cw_text.specs.declared.fault.Fault.{Fault}
 use Rattle.cw_text.specs.declared.fault.Fault.TheVariants as fault
-use Rattle.cw_reasons.specs.declared.reasons.At.{At}
+use Rattle.cw_text.specs.declared.reasons.At.{At}
 use Rattle.cw_types.specs.Limits.{IsPassedByParts}
 use Rattle.cw_types.specs.declared.reason.TooLarge.{TooLarge}
 

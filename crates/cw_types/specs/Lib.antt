@@ -14,7 +14,7 @@ pub mod Named
 pub mod Reasons
 pub mod Parts
 pub mod Standing
-pub mod Told
+pub mod ReasonMeaning
 pub mod Telling
 pub mod Noted
 pub mod Limits

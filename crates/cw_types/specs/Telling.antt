@@ -2,26 +2,26 @@
 use Rattle.std.specs.Prelude.{◌≡◌, ℕ, List, Option, Some, IfSome, option_map}
 use Rattle.std.specs.Option.{option_to_list}
 use Rattle.cw_model.specs.Lines.{lowest}
-use Rattle.cw_types.specs.declared.told.Told.{Told}
+use Rattle.cw_types.specs.declared.told.LeastReason.{LeastReason}
 
 -- the least line so far
-abbrev pub line_told : {R : Type 0} → Told R → Option ℕ
+abbrev pub line_told : {R : Type 0} → LeastReason R → Option ℕ
 line_told told = option_map (λ at. at.line) told.first
 
 -- `after` is `before` with these lines recorded
-abbrev pub Noted : {R : Type 0} → List ℕ → (before after : Told R) → Type 0
+abbrev pub Noted : {R : Type 0} → List ℕ → (before after : LeastReason R) → Type 0
 Noted lines before after = line_told after ≡ lowest (line_told before) lines
 
 -- the least of these lines is recorded, if there is one
-abbrev pub NotesLeast : {R : Type 0} → Option ℕ → (before after : Told R) → Type 0
+abbrev pub NotesLeast : {R : Type 0} → Option ℕ → (before after : LeastReason R) → Type 0
 NotesLeast least before after = Noted (option_to_list least) before after
 
 -- the recorded line and reason, if there are any, satisfy `Such`
-abbrev pub IsOf : {R : Type 0} → (ℕ → R → Type 0) → Told R → Type 0
+abbrev pub IsOf : {R : Type 0} → (ℕ → R → Type 0) → LeastReason R → Type 0
 IsOf Such told = IfSome told.first (λ at. Such at.line at.reason)
 
 -- the record is unchanged, or its line and reason satisfy `Such`
-pub data Tells {R : Type 0} (Such : ℕ → R → Type 0) (before after : Told R) : Type 0 where
+pub data Tells {R : Type 0} (Such : ℕ → R → Type 0) (before after : LeastReason R) : Type 0 where
   AsBefore : after.first ≡ before.first → Tells Such before after
   Anew : IsOf Such after → Tells Such before after
 

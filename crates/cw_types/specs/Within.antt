@@ -6,15 +6,15 @@ use Rattle.cw_model.specs.Typing.{faults_of, faults_in_block}
 use Rattle.cw_tree.specs.declared.syntax.Function.{Function}
 use Rattle.cw_tree.specs.declared.syntax.Line.{Line}
 use Rattle.cw_tree.specs.SyntaxView.{program_of, function_of, stmt_of, block_of}
-use Rattle.cw_reasons.specs.Told.{Notes, Tells}
-use Rattle.cw_reasons.specs.declared.reasons.Reasons.{Reasons}
+use Rattle.cw_text.specs.RecordedReasons.{Notes, Tells}
+use Rattle.cw_text.specs.declared.reasons.Reasons.{Reasons}
 use Rattle.cw_types.specs.declared.globals.Globals.{Globals}
 use Rattle.cw_types.specs.declared.reason.IllTyped.{IllTyped}
 use Rattle.cw_types.specs.declared.rules.Returns.{Returns}
 use Rattle.cw_types.specs.Returned.{returns_of}
 use Rattle.cw_types.specs.Scope.{Declared, kinds}
 use Rattle.cw_types.specs.Standing.{Standing, standing_at, standing_in, standing_inside}
-use Rattle.cw_types.specs.Told.{IsNeverReached, IsToldAmong, IsToldOf}
+use Rattle.cw_types.specs.ReasonMeaning.{IsNeverReached, IsToldAmong, IsToldOf}
 use Rattle.cw_types.specs.Typing.{faults_inside}
 
 -- the program that the code holds

@@ -11,7 +11,7 @@ use crate::known::Known;
 use crate::reason::IllTyped;
 use crate::rules::{Returns, of_stmt, surely_returns};
 use cw_model::syntax::NameKind;
-use cw_reasons::Reasons;
+use cw_text::Reasons;
 use cw_tree::syntax::{Line, Stmt};
 use std::alloc::AllocError;
 

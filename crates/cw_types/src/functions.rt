@@ -9,8 +9,8 @@ ghost use Rattle.cw_tree.specs.SyntaxView.{function_of, param_of, program_of};
 ghost use Rattle.cw_types.specs.Names.{param_names};
 ghost use Rattle.cw_types.specs.Returned as returned;
 ghost use Rattle.cw_types.specs.Scope.{with_params};
-ghost use Rattle.cw_reasons.specs.Told.{Notes, Tells};
-ghost use Rattle.cw_types.specs.Told.{IsTold, IsWrongFunction, IsWrongMain, IsWrongParams, are_arrays};
+ghost use Rattle.cw_text.specs.RecordedReasons.{Notes, Tells};
+ghost use Rattle.cw_types.specs.ReasonMeaning.{IsTold, IsWrongFunction, IsWrongMain, IsWrongParams, are_arrays};
 ghost use Rattle.cw_types.specs.Typing.{are_new, is_right_main, returns_well};
 ghost use Rattle.cw_types.specs.Within.{IsToldIn, faults_in_function, faults_of_all, program_in};
 
@@ -19,7 +19,7 @@ use crate::globals::Globals;
 use crate::known::Known;
 use crate::reason::IllTyped;
 use crate::rules::{Returns, block_returns, is_array, is_main, of_global};
-use cw_reasons::Reasons;
+use cw_text::Reasons;
 use cw_tree::syntax::{Function, Name, Param};
 use std::alloc::{AllocError, Global};
 

@@ -16,7 +16,7 @@ ghost use Rattle.cw_types.specs.Telling.{IsOf, Noted, Tells, line_told};
 use crate::known::Known;
 use crate::reason::TooLarge;
 use crate::regions::{Marked, regions};
-use crate::told::Told;
+use crate::told::LeastReason;
 use cw_model::limits::{
     MOST_DECLARED, MOST_FUNCTIONS, MOST_PARAMETERS, MOST_REDUCERS, MOST_TAG_BYTES, MOST_TAGS,
 };
@@ -35,12 +35,12 @@ use std::alloc::{AllocError, Global};
 /// # Errors
 ///
 /// Returns an error if memory runs out.
-pub fn limits<'a>(alloc: Global, ast: &'a Ast) -> Result<Told<TooLarge<'a>>, AllocError>
+pub fn limits<'a>(alloc: Global, ast: &'a Ast) -> Result<LeastReason<TooLarge<'a>>, AllocError>
     ensures lines { IfOk result (λ told.
         line_told told ≡ lowest None (limit_faults (program_of ast.now))) }
     ensures holds { IfOk result (λ told. IsOf (IsPassedByParts (program_of ast.now)) told) }
 {
-    let mut told = Told::new();
+    let mut told = LeastReason::new();
     told.note_least(functions_beyond(&ast.functions), TooLarge::Functions);
     told.note_least(reducers_beyond(&ast.reducers), TooLarge::Reducers);
     functions_limits(&ast.functions, &mut told);
@@ -75,7 +75,7 @@ fn reducers_beyond(reducers: &[Reducer]) -> LeastLine
 }
 
 // Records the lines at which a function exceeds a limit.
-fn functions_limits<'a>(functions: &'a [Function], told: &mut Told<TooLarge<'a>>)
+fn functions_limits<'a>(functions: &'a [Function], told: &mut LeastReason<TooLarge<'a>>)
     ensures lines { Noted (flat_map limits_of (map function_of functions.now)) told.old told.new }
     ensures told { Tells (IsPassedByOne (map function_of functions.now)) told.old told.new }
 {
@@ -85,7 +85,7 @@ fn functions_limits<'a>(functions: &'a [Function], told: &mut Told<TooLarge<'a>>
 }
 
 // Records the lines at which this function exceeds a limit.
-fn function_limits<'a>(function: &'a Function, told: &mut Told<TooLarge<'a>>)
+fn function_limits<'a>(function: &'a Function, told: &mut LeastReason<TooLarge<'a>>)
     ensures lines { Noted (limits_of (function_of function.now)) told.old told.new }
     ensures told { Tells (IsPassedByFunction (function_of function.now)) told.old told.new }
 {
@@ -178,7 +178,7 @@ fn statement_beyond(room: usize, line: u32, stmt: &Stmt, least: &mut LeastLine) 
 }
 
 // Records the lines of regions whose tags are too long.
-fn long_tags<'a>(regions: &[Marked<'a>], told: &mut Told<TooLarge<'a>>)
+fn long_tags<'a>(regions: &[Marked<'a>], told: &mut LeastReason<TooLarge<'a>>)
     ensures lines { Noted (flat_map long_tag (regions_of regions.now)) told.old told.new }
     ensures told { Tells (IsPassedByRegions (regions_of regions.now)) told.old told.new }
 {

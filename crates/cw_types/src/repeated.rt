@@ -7,14 +7,14 @@ ghost use Rattle.cw_model.specs.Typing.{repeated};
 ghost use Rattle.cw_types.specs.Named.{listed_functions, listed_reducers, shared_lines, lines_shared_by};
 ghost use Rattle.cw_types.specs.Names.{known_names};
 ghost use Rattle.cw_types.specs.Scope.{kinds};
-ghost use Rattle.cw_reasons.specs.Told.{Noted, Notes, Tells};
-ghost use Rattle.cw_types.specs.Told.{IsRepeatedIn, IsRepeatedOf, IsRepeating};
+ghost use Rattle.cw_text.specs.RecordedReasons.{Noted, Notes, Tells};
+ghost use Rattle.cw_types.specs.ReasonMeaning.{IsRepeatedIn, IsRepeatedOf, IsRepeating};
 ghost use Rattle.cw_types.specs.Typing.{earlier_line, later_line};
 
 use crate::known::Known;
 use crate::reason::IllTyped;
 use cw_model::syntax::NameKind;
-use cw_reasons::Reasons;
+use cw_text::Reasons;
 use cw_tree::syntax::{Function, Name, Reducer};
 use std::alloc::{AllocError, Global};
 

@@ -4,21 +4,20 @@ ghost use Rattle.std.specs.Prelude.{◌≡◌, None, is_some, not};
 ghost use Rattle.cw_model.specs.Lines.{unless};
 ghost use Rattle.cw_types.specs.Telling.{IsTheLeast, IsTheOne, Noted, NotesLeast, Tells};
 
-use cw_reasons::At;
-use cw_text::LeastLine;
+use cw_text::{At, LeastLine};
 
 /// Holds the least line so far that exceeds a limit, with the first limit found for it.
 #[derive(Clone, Copy)]
-pub struct Told<R> {
+pub struct LeastReason<R> {
     pub first: Option<At<R>>,
 }
 
-impl<R: Copy> Told<R> {
-    /// Returns a `Told` that holds no line.
-    pub fn new() -> Told<R>
+impl<R: Copy> LeastReason<R> {
+    /// Returns a `LeastReason` that holds no line.
+    pub fn new() -> LeastReason<R>
         ensures { result.first ≡ None }
     {
-        Told { first: None }
+        LeastReason { first: None }
     }
 
     /// Records a line, if there is a reason against it.

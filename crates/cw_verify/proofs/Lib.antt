@@ -2,7 +2,7 @@ pub mod Decided
 pub mod Lists
 pub mod Naming
 pub mod Rounds
-pub mod Rows
+pub mod SlotMarks
 pub mod Tables
 pub mod Noting
 pub mod Numbering

@@ -4,7 +4,7 @@ use Rattle.std.proofs.lemmas.Bool.{or_parts}
 use Rattle.cw_facts.specs.Tests.{first_true, second_true}
 use Rattle.cw_code.specs.Fits.{Outer, Shape}
 use Rattle.cw_verify.specs.Table.{blocks_of, can_meet, either_empty, either_round, either_each, brings, round_brings, each_brings, is_alike, are_alike, unmarked_round, unmarked_each, IsEach}
-use Rattle.cw_verify.proofs.Rows.{either_stays, either_within, either_fewer, either_comes}
+use Rattle.cw_verify.proofs.SlotMarks.{either_stays, either_within, either_fewer, either_comes}
 use Rattle.cw_verify.proofs.Tables.{alike}
 
 -- a merge with a block that marks no more leaves the block unchanged

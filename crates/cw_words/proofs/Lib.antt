@@ -4,7 +4,7 @@ mod Texts
 mod Filled
 mod Reading
 mod Taken
-mod Told
+mod CommandFaults
 mod Scheduling
 mod Gaining
 mod Speeding

@@ -1,6 +1,6 @@
 pub mod Numbers
 pub mod Command
 pub mod Requests
-pub mod Rows
+pub mod NumberOptions
 pub mod WordLaws
 pub mod Explaining

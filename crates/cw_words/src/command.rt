@@ -18,7 +18,7 @@ ghost use Rattle.cw_words.specs.Command.{
   table_rule,
 };
 ghost use Rattle.cw_words.specs.declared.verb.Verb.TheVariants as verb;
-ghost use Rattle.cw_words.specs.Rows.{row_of};
+ghost use Rattle.cw_words.specs.NumberOptions.{row_of};
 
 use crate::edges::{EDGES, USUAL_EDGES};
 use crate::help::{

@@ -29,7 +29,7 @@ ghost use Rattle.cw_words.specs.Requests.{
   faults,
   value_of,
 };
-ghost use Rattle.cw_words.specs.Rows.{IsGivenNumber};
+ghost use Rattle.cw_words.specs.NumberOptions.{IsGivenNumber};
 
 use crate::asked::{Options, Request, Said};
 use crate::command::{TABLE, command};

@@ -9,9 +9,9 @@ use Rattle.cw_code.specs.Run.{Slots, Results, Around, Caller, Block, State, is_f
 use Rattle.cw_code.specs.Good.{IsNotAmong, slots_in, ints_round, all_of}
 use Rattle.cw_code.specs.lemmas.Slots.{not_in_first, not_in_second}
 use Rattle.cw_code.specs.lemmas.Runs.{joined_quiet}
-use Rattle.cw_strand_laws.specs.Jobs.{Standing}
-use Rattle.cw_strand_laws.specs.Over.{trace_under, under}
-use Rattle.cw_strand_laws.specs.Strands.{resumed}
+use Rattle.cw_code.specs.Jobs.{Standing}
+use Rattle.cw_code.specs.Over.{trace_under, under}
+use Rattle.cw_code.specs.Strands.{resumed}
 use Rattle.cw_machine.specs.Shows.{cell, Comes}
 use Rattle.cw_machine.specs.Gives.{Waits, went_on, ComesBut, RoundComesBut}
 use Rattle.cw_machine.specs.Hands.{ComesRound}

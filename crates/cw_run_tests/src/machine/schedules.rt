@@ -3,7 +3,7 @@
 use crate::machine::measures::INTO_FIRST;
 use crate::machine::{MOST, Setting, code_in};
 use cw_code::code::Instr;
-use cw_schedule::schedules::{Schedule, schedule_alone};
+use cw_greedy_schedule::schedules::{Schedule, schedule_alone};
 use cw_text::Fault;
 use std::alloc::Global;
 

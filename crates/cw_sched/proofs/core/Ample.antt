@@ -4,11 +4,11 @@ use Rattle.std.specs.Prelude.{slice_get, if◌then◌else◌}
 use Rattle.std.proofs.lemmas.Option.{same_Some}
 use Rattle.cw_facts.specs.Lists.{added_gives}
 use Rattle.cw_code.specs.Code.{Code}
-use Rattle.cw_strand_laws.specs.Jobs.{Job, Effect, Joined, has_come, standing}
-use Rattle.cw_strand_laws.specs.Strands.{Strand, Going, Waits, Halted}
-use Rattle.cw_strand_laws.specs.Steps.{started, Advanced, Ran, Handed, AtSync, Finished, Unfit, advance, give}
-use Rattle.cw_strand_laws.specs.Worlds.{Place, Undecided, Kept, Offered, Runs, Made, Settled, Spent, World, placed, joined_by}
-use Rattle.cw_strand_laws.specs.lemmas.Ample.{Ample, AmpleStrand, AmplePlace, AmpleWorld, AmpleStep, advances, gives, set_ample}
+use Rattle.cw_code.specs.Jobs.{Job, Effect, Joined, has_come, standing}
+use Rattle.cw_code.specs.Strands.{Strand, Going, Waits, Halted}
+use Rattle.cw_code.specs.Steps.{started, Advanced, Ran, Handed, AtSync, Finished, Unfit, advance, give}
+use Rattle.cw_code.specs.Worlds.{Place, Undecided, Kept, Offered, Runs, Made, Settled, Spent, World, placed, joined_by}
+use Rattle.cw_code.specs.lemmas.Ample.{Ample, AmpleStrand, AmplePlace, AmpleWorld, AmpleStep, advances, gives, set_ample}
 use Rattle.cw_sched.specs.core.Board.{oldest, of_worker}
 use Rattle.cw_sched.specs.core.Table.{Event, Run, Offer, Inline, Retake, Steal, Settle, Collect, Sched, Idle, Busy, Over, top, effect_of, run_or_made, put, advanced}
 use Rattle.cw_sched.specs.core.Table.{got_back, stole, stolen_by, collected, effect_at, does, perform, is_possible, tried, world_run, first_sched}

@@ -7,12 +7,12 @@ use Rattle.std.specs.Prelude.{slice_get, slice_set, nat_eq, is_some, ◌&&◌, �
 use Rattle.std.proofs.lemmas.Option.{same_Some}
 use Rattle.cw_facts.specs.Lists.{get_before}
 use Rattle.cw_code.specs.Code.{Code}
-use Rattle.cw_strand_laws.specs.Jobs.{Job, Effect, Joined, has_come, standing}
-use Rattle.cw_strand_laws.specs.Strands.{Strand, Going, Waits, Halted}
-use Rattle.cw_strand_laws.specs.Steps.{started, Advanced, Ran, Handed, AtSync, Finished, Unfit, advance, give, out_of_memory}
-use Rattle.cw_strand_laws.specs.Worlds.{Place, Undecided, Kept, Offered, Runs, Made, Settled, Spent, World, IsUnrun, IsWaiting, placed, joined_by, Has, Next}
-use Rattle.cw_strand_laws.specs.Worlds.{Run as Runs_on, Spawn as Spawns, Offer as Offers, Inline as Inlines, Begin as Begins, Skip as Skips, Resume as Resumes}
-use Rattle.cw_strand_laws.specs.Worlds.{End as Ends, Settle as Settles, Give as Gives, Want as Wants, After, Now, Later, world_of}
+use Rattle.cw_code.specs.Jobs.{Job, Effect, Joined, has_come, standing}
+use Rattle.cw_code.specs.Strands.{Strand, Going, Waits, Halted}
+use Rattle.cw_code.specs.Steps.{started, Advanced, Ran, Handed, AtSync, Finished, Unfit, advance, give, out_of_memory}
+use Rattle.cw_code.specs.Worlds.{Place, Undecided, Kept, Offered, Runs, Made, Settled, Spent, World, IsUnrun, IsWaiting, placed, joined_by, Has, WorldStep}
+use Rattle.cw_code.specs.Worlds.{Run as Runs_on, Spawn as Spawns, Offer as Offers, Inline as Inlines, Begin as Begins, Skip as Skips, Resume as Resumes}
+use Rattle.cw_code.specs.Worlds.{End as Ends, Settle as Settles, Give as Gives, Want as Wants, After, Now, Later, world_of}
 use Rattle.cw_sched.specs.core.Board.{Board, newest, oldest, but_oldest, but_newest, of_worker, or_none, offer, retake, collect}
 use Rattle.cw_sched.specs.core.Table.{Event, Run, Offer, Inline, Retake, Steal, Settle, Collect, Sched, Top, Idle, Busy, Over, top_at, top_of, top, at_join, is_at_join, is_undecided, is_at_spawn}
 use Rattle.cw_sched.specs.core.Table.{is_kept_by, is_settled, is_same, can_retake, is_possible, effect_of, run_or_made, put, told, noted, advanced, ran, got_back, retaken, short_of, stole}
@@ -103,7 +103,7 @@ module _ (code : Code) where
   after_then first mid last h Now = h
   after_then first mid last h (Later world _ after next) = Later world last (after_then first mid world h after) next
 
-  step : (world next : World) → Next code world next → After code world next
+  step : (world next : World) → WorldStep code world next → After code world next
   step world next n = Later world next Now n
 
   ended_finishes : (job : Job) (strand : Strand) (e : Effect) → effect_of code job strand ≡ Some e → advance code job strand ≡ Finished e

@@ -2,9 +2,9 @@
 use Rattle.std.proofs.Common.{◌≡◌, ◌⊎◌, Bool, true, false, Option, Some, None, refl, subst, inl, inr}
 use Rattle.std.specs.Prelude.{slice_get}
 use Rattle.cw_code.specs.Run.{code_serial}
-use Rattle.cw_strand_laws.specs.Jobs.{Job, root_job, Memory, answered}
-use Rattle.cw_strand_laws.specs.Worlds.{Place, effect_in, WorldsAreSerial, OwnersAreSingle, EffectsMean, NoneIsUnfit}
-use Rattle.cw_strand_laws.specs.lemmas.Ample.{Ample, made_ample}
+use Rattle.cw_code.specs.Jobs.{Job, root_job, Memory, answered}
+use Rattle.cw_code.specs.Worlds.{Place, effect_in, WorldsAreSerial, OwnersAreSingle, EffectsMean, NoneIsUnfit}
+use Rattle.cw_code.specs.lemmas.Ample.{Ample, made_ample}
 use Rattle.cw_sched.specs.core.Table.{Sched, world_run, first_sched, effect_at}
 use Rattle.cw_sched.specs.core.Laws.{is_short, OutcomesAreSerial, EffectsMeanTheirJobs, JobsAreSingle, NoneIsUnfitHere}
 use Rattle.cw_sched.proofs.core.Events.{begins, runs_come}

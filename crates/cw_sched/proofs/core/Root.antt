@@ -5,10 +5,10 @@ use Rattle.std.proofs.lemmas.Bool.Decides.{eqb_tells}
 use Rattle.std.proofs.lemmas.Bool.{both_ways}
 use Rattle.cw_facts.specs.Lists.{get_before}
 use Rattle.cw_code.specs.Code.{Code}
-use Rattle.cw_strand_laws.specs.Jobs.{Job, Effect}
-use Rattle.cw_strand_laws.specs.Strands.{Strand}
-use Rattle.cw_strand_laws.specs.Steps.{started, Advanced, Ran, Handed, AtSync, Finished, Unfit, advance, give, out_of_memory}
-use Rattle.cw_strand_laws.specs.Worlds.{Place, Undecided, Kept, Offered, Runs, Made, Settled, Spent, effect_in, Has}
+use Rattle.cw_code.specs.Jobs.{Job, Effect}
+use Rattle.cw_code.specs.Strands.{Strand}
+use Rattle.cw_code.specs.Steps.{started, Advanced, Ran, Handed, AtSync, Finished, Unfit, advance, give, out_of_memory}
+use Rattle.cw_code.specs.Worlds.{Place, Undecided, Kept, Offered, Runs, Made, Settled, Spent, effect_in, Has}
 use Rattle.cw_sched.specs.core.Board.{State, Unoffered, newest, oldest, of_worker}
 use Rattle.cw_sched.specs.core.Table.{Event, Run, Offer, Inline, Retake, Steal, Settle, Collect, Sched, Busy, Over, top, at_join, is_at_join, is_at_spawn, is_kept_by}
 use Rattle.cw_sched.specs.core.Table.{is_settled, is_same, can_retake, is_possible, is_stolen, is_out, effect_of, run_or_made, advanced, ran, got_back, retaken, short_of}

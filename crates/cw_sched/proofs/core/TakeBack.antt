@@ -7,13 +7,13 @@ use Rattle.cw_code.specs.declared.code.Instr.{Instr}
 use Rattle.cw_code.specs.declared.code.Instr.TheVariants as instr
 use Rattle.cw_code.specs.Code.{Code}
 use Rattle.cw_code.specs.Run.{Around, Caller, Block, State, Transition, On, Ends, Stops, Stuck, step}
-use Rattle.cw_strand_laws.specs.Jobs.{Extent, WholeCall, ToJoin, joins, is_first, has_come, Job, Joined, OverLimit, TrapIn, standing}
-use Rattle.cw_strand_laws.specs.Over.{beneath, under, transition_under}
-use Rattle.cw_strand_laws.specs.Strands.{Going, Halted, Turn, Goes, HandsOut, ComesBack, turn_of, turn}
-use Rattle.cw_strand_laws.specs.Steps.{Advanced, Ran, advance, finished, turned, went_on}
-use Rattle.cw_strand_laws.specs.RestLaws.{Cut, onwards}
-use Rattle.cw_strand_laws.specs.lemmas.Under.{act_under}
-use Rattle.cw_strand_laws.specs.lemmas.Rests.{GoesOn, act_goes}
+use Rattle.cw_code.specs.Jobs.{Extent, WholeCall, ToJoin, joins, is_first, has_come, Job, Joined, OverLimit, TrapIn, standing}
+use Rattle.cw_code.specs.Over.{beneath, under, transition_under}
+use Rattle.cw_code.specs.Strands.{Going, Halted, Turn, Goes, HandsOut, ComesBack, turn_of, turn}
+use Rattle.cw_code.specs.Steps.{Advanced, Ran, advance, finished, turned, went_on}
+use Rattle.cw_code.specs.RestLaws.{Cut, onwards}
+use Rattle.cw_code.specs.lemmas.Under.{act_under}
+use Rattle.cw_code.specs.lemmas.Rests.{GoesOn, act_goes}
 use Rattle.cw_sched.specs.core.TakeBack.{Alike, RunsAlike, JoinsAlike}
 
 turn_under : (code : Code) (b : State) (o : Option Instr) (around : List Around) → (is_first around && joins o) ≡ false → turn_of code o (beneath b around) ≡ turn_of code o around

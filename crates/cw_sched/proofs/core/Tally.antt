@@ -4,7 +4,7 @@ use Rattle.std.specs.Prelude.{slice_get, slice_set, nat_eq, is_some}
 use Rattle.std.proofs.lemmas.Bool.Decides.{eqb_tells}
 use Rattle.std.proofs.lemmas.Option.{same_Some}
 use Rattle.cw_facts.specs.Tests.{not_equal, equal}
-use Rattle.cw_strand_laws.specs.Worlds.{Place}
+use Rattle.cw_code.specs.Worlds.{Place}
 use Rattle.cw_sched.specs.core.Board.{pushed, newest, but_newest, oldest, but_oldest, of_worker, or_none}
 use Rattle.cw_sched.specs.core.Laws.{one_if, times}
 

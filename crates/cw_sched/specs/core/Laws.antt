@@ -5,10 +5,10 @@ use Rattle.cw_code.specs.declared.code.Func.{Func}
 use Rattle.cw_code.specs.Code.{Code}
 use Rattle.cw_code.specs.Fits.{Fits}
 use Rattle.cw_code.specs.Run.{On, first_state, first_transition, code_serial}
-use Rattle.cw_strand_laws.specs.Jobs.{Job, root_job, Effect, Memory, JobMeaning, answered}
-use Rattle.cw_strand_laws.specs.Worlds.{Place, Offered, Runs, Made, effect_in, Has, world_of, After, OneOwner}
-use Rattle.cw_strand_laws.specs.Strands.{Strand}
-use Rattle.cw_strand_laws.specs.Steps.{Unfit, advance}
+use Rattle.cw_code.specs.Jobs.{Job, root_job, Effect, Memory, JobMeaning, answered}
+use Rattle.cw_code.specs.Worlds.{Place, Offered, Runs, Made, effect_in, Has, world_of, After, OneOwner}
+use Rattle.cw_code.specs.Strands.{Strand}
+use Rattle.cw_code.specs.Steps.{Unfit, advance}
 use Rattle.cw_sched.specs.core.Board.{of_worker}
 use Rattle.cw_sched.specs.core.Table.{Event, Sched, world_run, first_sched, outcome, is_possible, perform}
 

@@ -2,12 +2,12 @@
 use Rattle.std.specs.Prelude.{ℕ, zero, suc, Bool, true, false, ◌&&◌, ◌||◌, not, if◌then◌else◌, nat_eq, List, [], ◌∷◌}
 use Rattle.std.specs.Prelude.{◌++◌, length, Option, Some, None, is_some, slice_get, slice_set}
 use Rattle.cw_code.specs.Code.{Code}
-use Rattle.cw_strand_laws.specs.Jobs.{has_come, standing, Job, Effect, Joined}
-use Rattle.cw_strand_laws.specs.Strands.{Strand, Going, Waits, Halted}
-use Rattle.cw_strand_laws.specs.Steps.{started, Advanced, Ran, Handed, AtSync, Finished, Unfit, advance, give, skip}
-use Rattle.cw_strand_laws.specs.Steps.{take_back, out_of_memory}
-use Rattle.cw_strand_laws.specs.Worlds.{Place, Undecided, Kept, Offered, Runs, Made, Settled, Spent, World, effect_in}
-use Rattle.cw_strand_laws.specs.Worlds.{placed, joined_by, world_of}
+use Rattle.cw_code.specs.Jobs.{has_come, standing, Job, Effect, Joined}
+use Rattle.cw_code.specs.Strands.{Strand, Going, Waits, Halted}
+use Rattle.cw_code.specs.Steps.{started, Advanced, Ran, Handed, AtSync, Finished, Unfit, advance, give, skip}
+use Rattle.cw_code.specs.Steps.{take_back, out_of_memory}
+use Rattle.cw_code.specs.Worlds.{Place, Undecided, Kept, Offered, Runs, Made, Settled, Spent, World, effect_in}
+use Rattle.cw_code.specs.Worlds.{placed, joined_by, world_of}
 use Rattle.cw_sched.specs.core.Board.{Board, State, Unoffered, Out, newest, oldest, but_oldest, of_worker, offer, retake}
 use Rattle.cw_sched.specs.core.Board.{steal, settle, collect}
 

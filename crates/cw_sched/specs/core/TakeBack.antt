@@ -2,11 +2,11 @@
 use Rattle.std.specs.Prelude.{◌≡◌, ℕ, ◌+◌, ◌≤◌, false, List, []}
 use Rattle.cw_code.specs.Code.{Code}
 use Rattle.cw_code.specs.Run.{State}
-use Rattle.cw_strand_laws.specs.Jobs.{Extent, ToJoin, has_come, Standing, Arrives, travel, Job, course}
+use Rattle.cw_code.specs.Jobs.{Extent, ToJoin, has_come, Standing, Arrives, travel, Job, course}
 use Rattle.cw_model.specs.Outcome.{Trace}
-use Rattle.cw_strand_laws.specs.Over.{under}
-use Rattle.cw_strand_laws.specs.Strands.{Going, Waits, Halted, rest_at, resumed, stopped_after}
-use Rattle.cw_strand_laws.specs.Steps.{Advanced, Ran, Handed, Unfit, advance}
+use Rattle.cw_code.specs.Over.{under}
+use Rattle.cw_code.specs.Strands.{Going, Waits, Halted, rest_at, resumed, stopped_after}
+use Rattle.cw_code.specs.Steps.{Advanced, Ran, Handed, Unfit, advance}
 
 -- the same job, except for the cost before it and the limit
 pub record SameWork (a b : Job) : Type 0 where

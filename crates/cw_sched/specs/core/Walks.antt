@@ -2,8 +2,8 @@
 use Rattle.std.specs.Prelude.{◌≡◌, ℕ, pos, Bool, true, false, List, [], ◌∷◌, map, Option, Some, None}
 use Rattle.cw_model.specs.Answers.{Answer}
 use Rattle.cw_code.specs.Run.{code_serial}
-use Rattle.cw_strand_laws.specs.Jobs.{Effect, root_job, answered}
-use Rattle.cw_strand_laws.specs.Walks.{printing, prints, failing, fails, lines_of}
+use Rattle.cw_code.specs.Jobs.{Effect, root_job, answered}
+use Rattle.cw_code.specs.Walks.{printing, prints, failing, fails, lines_of}
 use Rattle.cw_sched.specs.core.Table.{Event, Run, Offer, Inline, Retake, Steal, Settle, Collect, Sched, is_possible}
 use Rattle.cw_sched.specs.core.Table.{world_run, first_sched, outcome, all_possible}
 

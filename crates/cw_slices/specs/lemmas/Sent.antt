@@ -15,7 +15,7 @@ use Rattle.cw_slices.specs.contracts.memory.Title as Title
 use Rattle.cw_slices.specs.contracts.slice.Slice as C
 use Rattle.cw_slices.specs.contracts.slice.Slice.TheInside as Inside
 use Rattle.cw_slices.specs.Placed.{Placed, placed_code}
-use Rattle.cw_slices.specs.Held.{halves, part_of_slot, part_of_slots, held, held_owned}
+use Rattle.cw_slices.specs.OwnedMemory.{halves, part_of_slot, part_of_slots, held, held_owned}
 use denote.Param.Send.{view_send, recorded_send, struct_send}
 use denote.Struct.Declared as declared
 use Rattle.std_heap.specs.contracts.Global as G
@@ -24,8 +24,8 @@ use Rattle.std.proofs.Crossing.{frees}
 use Rattle.cw_slices.specs.Memory.{right_owned, cell_owned, cells_in}
 use Rattle.cw_slices.specs.Blocks.{Lodged, lodged_code}
 use Rattle.cw_slices.specs.contracts.kept.Kept as Kept
-use Rattle.cw_slices.specs.contracts.block.Block as Block
-use Rattle.cw_slices.specs.contracts.block.Block.TheInside as BlockInside
+use Rattle.cw_slices.specs.contracts.block.ArrayBlock as Block
+use Rattle.cw_slices.specs.contracts.block.ArrayBlock.TheInside as BlockInside
 use Rattle.cw_slices.specs.contracts.cells.Cells as Hold
 
 number_send : IsSend i64

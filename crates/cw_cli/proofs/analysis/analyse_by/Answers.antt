@@ -1,6 +1,6 @@
 use Rattle.std.proofs.Common.{rules, ◌≢◌, subst}
 use Rattle.cw_words.specs.declared.asked.Mode.TheVariants as mode
-use Rattle.cw_cli.specs.Told.{HasTables}
+use Rattle.cw_cli.specs.ModeTexts.{HasTables}
 use Rattle.cw_cli.proofs.Modes.{gain_is_no_check, has_tables, page_is_no_check, run_is_no_check, running, schedule_is_no_check, speedup_is_no_check}
 use Rattle.cw_cli.proofs.Runs.{checked, refusal, run_is, sites_numbered}
 use Rattle.cw_cli.proofs.analysis.analyse_by.Goals as goal

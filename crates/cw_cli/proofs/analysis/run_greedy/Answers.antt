@@ -3,7 +3,7 @@ use Rattle.cw_facts.specs.Options.{handed_on}
 use Rattle.cw_code.specs.Code.{code_view}
 use Rattle.cw_model.specs.declared.limits.TheConstants.{MOST_BURDEN}
 use Rattle.cw_runnable.specs.declared.verified.Verified.{Verified}
-use Rattle.cw_schedule.specs.Schedules.{SchedulesAsCode}
+use Rattle.cw_greedy_schedule.specs.Schedules.{SchedulesAsCode}
 use Rattle.cw_compile.specs.Compiled.{IsCompiled}
 use Rattle.cw_cli.proofs.Runs.{schedule_tells, finished, stopped, unwritten}
 use Rattle.cw_cli.proofs.analysis.run_greedy.Goals as goal

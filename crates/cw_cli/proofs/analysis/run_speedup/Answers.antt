@@ -2,7 +2,7 @@ use Rattle.std.proofs.Common.{◌≡◌, Ok, Err, sym, subst}
 use Rattle.cw_facts.specs.Options.{handed_on}
 use Rattle.cw_code.specs.Code.{code_view}
 use Rattle.cw_runnable.specs.declared.verified.Verified.{Verified}
-use Rattle.cw_speedup.specs.Speedups.{SpeedsUpAsCode}
+use Rattle.cw_greedy_schedule.specs.Speedups.{SpeedsUpAsCode}
 use Rattle.cw_compile.specs.Compiled.{IsCompiled}
 use Rattle.cw_cli.proofs.Runs.{speedups_tell, finished, stopped, unwritten}
 use Rattle.cw_cli.proofs.analysis.run_speedup.Goals as goal

@@ -1,7 +1,7 @@
 use Rattle.std.proofs.Common.{◌≡◌, true, rules, subst}
 use Rattle.cw_facts.specs.Options.{handed_on}
 use Rattle.cw_code.specs.Code.{code_view}
-use Rattle.cw_speedup.specs.Speedups.{IsNotSpedUp}
+use Rattle.cw_greedy_schedule.specs.Speedups.{IsNotSpedUp}
 use Rattle.cw_cli.specs.Pages.{asked_for, is_asked}
 use Rattle.cw_cli.proofs.Drawing.{unsped}
 use Rattle.cw_cli.proofs.paging.drawn_by.Goals as goal

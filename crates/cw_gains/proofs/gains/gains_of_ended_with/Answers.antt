@@ -1,5 +1,5 @@
 use Rattle.std.proofs.Common.{refl, ◌∙◌}
-use Rattle.cw_gains.proofs.Told.{gained, stopped}
+use Rattle.cw_gains.proofs.GainTable.{gained, stopped}
 use Rattle.cw_gains.proofs.gains.gains_of_ended_with.Goals as goal
 
 pub returns-in_err-functions : goal.returns-in_err-functions

@@ -8,7 +8,7 @@ use Rattle.cw_loops.specs.Slotted.{Then}
 use Rattle.cw_loops.specs.Moved.{arrays_after, made_stmt, made_block}
 use Rattle.cw_loops.specs.Moving.{moves_view}
 use Rattle.cw_loops.specs.View.{block_of, loop_of}
-use Rattle.cw_loops.proofs.Rows.{joined, joined_end, joined_push}
+use Rattle.cw_loops.proofs.BlockSequence.{joined, joined_end, joined_push}
 use Rattle.cw_loops.proofs.bodies.+bodies.Goals as goal
 
 pub block-loop-line-preserved : goal.block-loop-line-preserved

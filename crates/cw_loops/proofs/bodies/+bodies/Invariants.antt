@@ -3,7 +3,7 @@ use Rattle.cw_tree.specs.ResolvedView as source
 use Rattle.cw_loops.specs.Moved.{made_block}
 use Rattle.cw_loops.specs.Moving.{moves_view}
 use Rattle.cw_loops.specs.View.{block_of, loop_of}
-use Rattle.cw_loops.proofs.Rows.{joined}
+use Rattle.cw_loops.proofs.BlockSequence.{joined}
 use Rattle.cw_loops.proofs.bodies.+bodies.Given as goal
 
 abbrev pub invariant-block-loop-line : goal.invariant-block-loop-line

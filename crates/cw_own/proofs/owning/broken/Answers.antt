@@ -4,7 +4,7 @@ use Rattle.cw_tree.specs.ResolvedView.{resolved_of, function_of}
 use Rattle.cw_own.specs.Bounds.{small_function}
 use Rattle.cw_own.specs.Reasons.{function_reasons, line_in}
 use Rattle.cw_own.specs.Views.{AreNoted, places_told}
-use Rattle.cw_reasons.specs.Rising.{kept}
+use Rattle.cw_text.specs.Rising.{kept}
 use Rattle.cw_own.proofs.Fitting.{tree_small}
 use Rattle.cw_own.proofs.Refusing.{all_right, first_right}
 use Rattle.cw_own.proofs.owning.broken.Goals as goal

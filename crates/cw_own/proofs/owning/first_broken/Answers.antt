@@ -1,7 +1,7 @@
 use Rattle.std.proofs.Common.{Option, MatchOption, sym, subst}
 use Rattle.cw_model.specs.Ownership.{KeepsOwnership}
 use Rattle.cw_tree.specs.ResolvedView.{program_of}
-use Rattle.cw_reasons.specs.declared.reasons.At.{At}
+use Rattle.cw_text.specs.declared.reasons.At.{At}
 use Rattle.cw_own.specs.Faults.{IsTold}
 use Rattle.cw_own.specs.declared.reason.Disowned.{Disowned}
 use Rattle.cw_own.proofs.owning.first_broken.Goals as goal

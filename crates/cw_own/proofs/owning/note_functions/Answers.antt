@@ -6,7 +6,7 @@ use Rattle.cw_tree.specs.Resolved as spec
 use Rattle.cw_tree.specs.ResolvedView.{function_of}
 use Rattle.cw_own.specs.Bounds.{small_function}
 use Rattle.cw_own.specs.Reasons.{function_reasons, line_in}
-use Rattle.cw_reasons.specs.Rising.{kept}
+use Rattle.cw_text.specs.Rising.{kept}
 use Rattle.cw_own.specs.Views.{places_told}
 use Rattle.cw_own.proofs.Small.{kept_append}
 use Rattle.cw_own.proofs.owning.note_functions.Goals as goal

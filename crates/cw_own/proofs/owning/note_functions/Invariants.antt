@@ -3,7 +3,7 @@ use Rattle.std.specs.List.{list_all}
 use Rattle.cw_tree.specs.ResolvedView.{function_of}
 use Rattle.cw_own.specs.Bounds.{small_function}
 use Rattle.cw_own.specs.Reasons.{function_reasons, line_in}
-use Rattle.cw_reasons.specs.Rising.{kept}
+use Rattle.cw_text.specs.Rising.{kept}
 use Rattle.cw_own.specs.Views.{places_told}
 use Rattle.cw_own.proofs.owning.note_functions.Given as goal
 

@@ -10,7 +10,7 @@ use Rattle.cw_own.specs.Sets.{row_of}
 use Rattle.cw_own.specs.Taken.{held_of, taken_of, taken_after, taken_after_all, left_by, known_after, turns, turns_in, turns_within}
 use Rattle.cw_own.specs.Rules.{seen_by}
 use Rattle.cw_own.specs.Reasons.{block_reasons, reasons_at, reasons_in, reasons_within, why, line_in}
-use Rattle.cw_reasons.specs.Rising.{kept}
+use Rattle.cw_text.specs.Rising.{kept}
 use Rattle.cw_own.specs.Views.{places_told, turn_of}
 use Rattle.cw_own.proofs.Small.{appended, kept_append}
 use Rattle.cw_own.proofs.Branches.{if_else_is, line_is}

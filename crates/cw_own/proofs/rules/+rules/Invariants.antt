@@ -4,7 +4,7 @@ use Rattle.cw_own.specs.Bounds.{small_block}
 use Rattle.cw_own.specs.Sets.{row_of}
 use Rattle.cw_own.specs.Taken.{held_of, taken_of, taken_after_all, turns_in}
 use Rattle.cw_own.specs.Reasons.{reasons_in, line_in}
-use Rattle.cw_reasons.specs.Rising.{kept}
+use Rattle.cw_text.specs.Rising.{kept}
 use Rattle.cw_own.specs.Views.{places_told, turn_of}
 use Rattle.cw_own.proofs.rules.+rules.Given as goal
 

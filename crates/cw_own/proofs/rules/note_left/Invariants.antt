@@ -2,7 +2,7 @@ use Rattle.std.proofs.Common.{◌≡◌, drop}
 use Rattle.cw_tree.specs.ResolvedView.{block_of}
 use Rattle.cw_own.specs.Taken.{taken_of}
 use Rattle.cw_own.specs.Reasons.{left_reasons, line_in}
-use Rattle.cw_reasons.specs.Rising.{kept}
+use Rattle.cw_text.specs.Rising.{kept}
 use Rattle.cw_own.specs.Views.{places_told}
 use Rattle.cw_own.proofs.rules.note_left.Given as goal
 

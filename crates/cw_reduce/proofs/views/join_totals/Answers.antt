@@ -1,5 +1,5 @@
 use Rattle.std.proofs.Common.{map, ◌∙◌}
-use Rattle.cw_reduce.specs.Held.{held}
+use Rattle.cw_reduce.specs.ReducerState.{held}
 use Rattle.cw_reduce.specs.ShownLaws.{totals-comm}
 use Rattle.cw_reduce.proofs.views.join_totals.Goals as goal
 

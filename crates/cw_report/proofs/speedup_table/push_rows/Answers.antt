@@ -1,6 +1,6 @@
 use Rattle.std.proofs.Common.{◌≡◌, ◌++◌, ◌∷◌, None, drop, get_or, ◌+◌, ap, subst, add-one, drop-cons}
 use Rattle.std.proofs.lemmas.List.{drop_all}
-use Rattle.cw_speedup.specs.declared.speedups.SpeedupRow.{SpeedupRow}
+use Rattle.cw_greedy_schedule.specs.declared.speedups.SpeedupRow.{SpeedupRow}
 use Rattle.cw_report.specs.Speedups.{speedup_line, speedup_lines}
 use Rattle.cw_report.proofs.Lines.{Towards, arrived, onward}
 use Rattle.cw_report.proofs.speedup_table.push_rows.Goals as goal

@@ -3,7 +3,7 @@ use Rattle.std.proofs.lemmas.Grind.{common_steps}
 use Rattle.std.proofs.lemmas.List.{take_rest}
 use Rattle.std.proofs.lemmas.List.Elements.{Contains-append_left, Contains-append_right}
 use Rattle.cw_model.specs.Lines.{unless}
-use Rattle.cw_reasons.specs.Rising.{kept}
+use Rattle.cw_text.specs.Rising.{kept}
 use Rattle.cw_model.specs.Syntax as model
 use Rattle.cw_model.specs.Typing.{Nowhere, faults_in_block, declares, surely_returns, ends_block}
 use Rattle.cw_tree.specs.declared.syntax.Line.{Line, the_lemmas}
@@ -12,13 +12,13 @@ use Rattle.cw_tree.specs.SyntaxView.{program_of, block_of, stmt_of, expr_of}
 use Rattle.cw_types.specs.Returned.{returns_of}
 use Rattle.cw_types.specs.Scope.{Declared, after_stmt, kinds, oldest}
 use Rattle.cw_types.specs.Standing.{Standing, in_cut, in_loop, standing_in, standing_inside}
-use Rattle.cw_reasons.specs.Told.{itself, lines_at}
+use Rattle.cw_text.specs.RecordedReasons.{itself, lines_at}
 use Rattle.cw_types.specs.Typing.{keeps_rules, faults_inside}
 use Rattle.cw_types.specs.Within.{IsAmong, NeverReached, TellsAmong}
-use Rattle.cw_reasons.specs.lemmas.Kept.{kept-append}
+use Rattle.cw_text.specs.lemmas.Kept.{kept-append}
 use Rattle.cw_types.proofs.Among.{among_more, broken_among, denied, ended_among, ended_there}
 use Rattle.cw_types.proofs.Noting.{by_parts, noted}
-use Rattle.cw_reasons.specs.lemmas.Telling.{and_then, found_true}
+use Rattle.cw_text.specs.lemmas.Telling.{and_then, found_true}
 use Rattle.cw_types.proofs.Walking.{kinds_after, longer_after, oldest_after}
 use Rattle.cw_types.proofs.bodies.+bodies.Goals as goal
 

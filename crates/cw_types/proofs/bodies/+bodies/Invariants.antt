@@ -1,11 +1,11 @@
 use Rattle.std.proofs.Common.{◌≡◌, ◌≤◌, Contains, drop, length}
-use Rattle.cw_reasons.specs.Rising.{kept}
+use Rattle.cw_text.specs.Rising.{kept}
 use Rattle.cw_model.specs.Typing.{faults_in_block}
 use Rattle.cw_tree.specs.SyntaxView.{program_of, block_of}
 use Rattle.cw_types.specs.Returned.{returns_of}
 use Rattle.cw_types.specs.Scope.{kinds, oldest}
 use Rattle.cw_types.specs.Standing.{Standing, standing_in}
-use Rattle.cw_reasons.specs.Told.{itself, lines_at}
+use Rattle.cw_text.specs.RecordedReasons.{itself, lines_at}
 use Rattle.cw_types.specs.Within.{TellsAmong}
 use Rattle.cw_types.proofs.bodies.+bodies.Given as goal
 

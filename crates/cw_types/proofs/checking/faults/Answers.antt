@@ -2,23 +2,23 @@ use Rattle.std.proofs.Common.{◌≡◌, ℕ, ◌++◌, List, [], map, flat_map,
 use Rattle.std.proofs.lemmas.List.{length-map}
 use Rattle.cw_model.specs.Answers.{main_name}
 use Rattle.cw_model.specs.Lines.{unless}
-use Rattle.cw_reasons.specs.Rising.{kept}
+use Rattle.cw_text.specs.Rising.{kept}
 use Rattle.cw_model.specs.Names.{is_among}
 use Rattle.cw_model.specs.Syntax.{Program}
 use Rattle.cw_model.specs.Typing.{repeated, of_both_kinds, faults_of}
-use Rattle.cw_reasons.specs.lemmas.Kept.{kept-append}
+use Rattle.cw_text.specs.lemmas.Kept.{kept-append}
 use Rattle.cw_tree.specs.declared.syntax.Function.{Function as CodeFunction}
 use Rattle.cw_tree.specs.declared.syntax.Reducer.{Reducer as CodeReducer}
 use Rattle.cw_tree.specs.SyntaxView.{program_of, function_of, reducer_of}
 use Rattle.cw_types.specs.Named.{functions_named, reducers_named}
 use Rattle.cw_types.specs.Names.{function_names}
-use Rattle.cw_reasons.specs.Told.{Tells, itself, lines_at, no_place}
-use Rattle.cw_types.specs.Told.{IsNoMain, IsRepeatedIn, IsTold, OfNames}
+use Rattle.cw_text.specs.RecordedReasons.{Tells, itself, lines_at, no_place}
+use Rattle.cw_types.specs.ReasonMeaning.{IsNoMain, IsRepeatedIn, IsTold, OfNames}
 use Rattle.cw_types.specs.Within.{faults_of_all}
 use Rattle.cw_tree.specs.lemmas.Few.{functions_few, reducers_few}
 use Rattle.cw_types.proofs.Among.{denied}
 use Rattle.cw_types.proofs.Refusing.{no_main_true, of_functions, of_reducers}
-use Rattle.cw_reasons.specs.lemmas.Telling.{all_true, and_then, found_true, weaken}
+use Rattle.cw_text.specs.lemmas.Telling.{all_true, and_then, found_true, weaken}
 use Rattle.cw_types.proofs.checking.faults.Goals as goal
 
 pub new-requires-clause-few_functions : goal.new-requires-clause-few_functions

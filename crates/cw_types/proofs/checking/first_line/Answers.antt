@@ -1,7 +1,7 @@
 use Rattle.std.proofs.Common.{sym, ap, option_map, ◌∙◌}
 use Rattle.cw_model.specs.Typing.{type_faults}
 use Rattle.cw_tree.specs.SyntaxView.{program_of}
-use Rattle.cw_reasons.specs.Told.{line_of}
+use Rattle.cw_text.specs.RecordedReasons.{line_of}
 use Rattle.cw_types.proofs.Refusing.{first_told}
 use Rattle.cw_types.proofs.checking.first_line.Goals as goal
 

@@ -1,9 +1,9 @@
 use Rattle.std.proofs.Common.{map, List, Option, MatchOption, sym, ap, subst, ◌∙◌}
 use Rattle.cw_model.specs.Typing.{type_faults}
 use Rattle.cw_tree.specs.SyntaxView.{program_of}
-use Rattle.cw_reasons.specs.Rising.{Has, there}
-use Rattle.cw_reasons.specs.Told.{least_lines, line_of}
-use Rattle.cw_reasons.specs.declared.reasons.At.{At}
+use Rattle.cw_text.specs.Rising.{Has, there}
+use Rattle.cw_text.specs.RecordedReasons.{least_lines, line_of}
+use Rattle.cw_text.specs.declared.reasons.At.{At}
 use Rattle.cw_types.specs.Faults.{IsPassedAt, IsWithin}
 use Rattle.cw_types.specs.declared.reason.IllTyped.{IllTyped}
 use Rattle.cw_types.specs.declared.reason.TooLarge.{TooLarge}

@@ -2,7 +2,7 @@ use Rattle.std.proofs.Common.{◌≡◌, Bool, Contains, map, subst, sym, true}
 use Rattle.cw_model.specs.Syntax.{wants_array}
 use Rattle.cw_tree.specs.SyntaxView.{param_of}
 use Rattle.cw_types.specs.Reasons.{named_array}
-use Rattle.cw_types.specs.Told.{are_arrays}
+use Rattle.cw_types.specs.ReasonMeaning.{are_arrays}
 use Rattle.cw_types.proofs.Repeating.{in_maps}
 use Rattle.cw_types.proofs.functions.first_array.Goals as goal
 

@@ -1,21 +1,21 @@
 use Rattle.std.proofs.Common.{◌≡◌, ◌∙◌, [], List, Option, Some, None, IfSome, is_some, map, ap, sym, subst, refl}
 use Rattle.std.proofs.lemmas.List.{append-nil}
 use Rattle.cw_model.specs.Lines.{unless}
-use Rattle.cw_reasons.specs.Rising.{kept}
+use Rattle.cw_text.specs.Rising.{kept}
 use Rattle.cw_model.specs.Typing as rule
 use Rattle.cw_model.specs.Typing.{known_of, faults_in_block, is_head}
-use Rattle.cw_reasons.specs.lemmas.Kept.{kept-append}
+use Rattle.cw_text.specs.lemmas.Kept.{kept-append}
 use Rattle.cw_tree.specs.declared.syntax.Line.{Line}
 use Rattle.cw_tree.specs.SyntaxView.{program_of, function_of, param_of, block_of}
 use Rattle.cw_types.specs.declared.reason.IllTyped.{IllTyped}
 use Rattle.cw_types.specs.Returned.{returns_in}
 use Rattle.cw_types.specs.Scope.{Declared, kinds, with_params}
 use Rattle.cw_types.specs.Standing.{standing_in, standing_of}
-use Rattle.cw_reasons.specs.Told.{itself, lines_at}
-use Rattle.cw_types.specs.Told.{IsWrongFunction, OfHead, OfStatement}
+use Rattle.cw_text.specs.RecordedReasons.{itself, lines_at}
+use Rattle.cw_types.specs.ReasonMeaning.{IsWrongFunction, OfHead, OfStatement}
 use Rattle.cw_types.specs.Within.{IsAmong, IsToldIn, TellsAmong}
 use Rattle.cw_types.proofs.Among.{denied}
-use Rattle.cw_reasons.specs.lemmas.Telling.{and_then, found_true, weaken}
+use Rattle.cw_text.specs.lemmas.Telling.{and_then, found_true, weaken}
 use Rattle.cw_types.proofs.Walking.{kinds_of_params}
 use Rattle.cw_types.proofs.functions.function_faults.Goals as goal
 

@@ -1,16 +1,16 @@
 use Rattle.std.proofs.Common.{◌≡◌, ◌∷◌, ◌+◌, List, Contains, drop, map, flat_map, ap, sym, subst, ◌∙◌, arith}
 use Rattle.std.proofs.lemmas.Grind.{common_steps}
-use Rattle.cw_reasons.specs.Rising.{kept}
+use Rattle.cw_text.specs.Rising.{kept}
 use Rattle.cw_model.specs.Syntax.{Function}
 use Rattle.cw_model.specs.Typing.{faults_of}
-use Rattle.cw_reasons.specs.lemmas.Kept.{kept-append}
+use Rattle.cw_text.specs.lemmas.Kept.{kept-append}
 use Rattle.cw_tree.specs.declared.syntax.Function.{Function as CodeFunction}
 use Rattle.cw_tree.specs.SyntaxView.{program_of, function_of}
-use Rattle.cw_reasons.specs.Told.{itself, lines_at}
-use Rattle.cw_types.specs.Told.{IsTold, OfFunction}
+use Rattle.cw_text.specs.RecordedReasons.{itself, lines_at}
+use Rattle.cw_types.specs.ReasonMeaning.{IsTold, OfFunction}
 use Rattle.cw_types.specs.Within.{IsToldIn}
 use Rattle.cw_types.proofs.Repeating.{in_map}
-use Rattle.cw_reasons.specs.lemmas.Telling.{and_then, weaken}
+use Rattle.cw_text.specs.lemmas.Telling.{and_then, weaken}
 use Rattle.cw_types.proofs.functions.functions_faults.Goals as goal
 
 pub loop-function-preserved : goal.loop-function-preserved

@@ -1,9 +1,9 @@
 use Rattle.std.proofs.Common.{◌≡◌, drop, map, flat_map}
-use Rattle.cw_reasons.specs.Rising.{kept}
+use Rattle.cw_text.specs.Rising.{kept}
 use Rattle.cw_model.specs.Typing.{faults_of}
 use Rattle.cw_tree.specs.SyntaxView.{program_of, function_of}
-use Rattle.cw_reasons.specs.Told.{Tells, itself, lines_at}
-use Rattle.cw_types.specs.Told.{IsTold}
+use Rattle.cw_text.specs.RecordedReasons.{Tells, itself, lines_at}
+use Rattle.cw_types.specs.ReasonMeaning.{IsTold}
 use Rattle.cw_types.proofs.functions.functions_faults.Given as goal
 
 abbrev pub invariant-loop-function : goal.invariant-loop-function

@@ -3,7 +3,7 @@ use Rattle.std.proofs.lemmas.Grind.{common_steps}
 use Rattle.cw_tree.specs.SyntaxView.{function_of, param_of, program_of}
 use Rattle.cw_model.specs.Typing.{block_returns}
 use Rattle.cw_tree.specs.declared.syntax.Param.{Param}
-use Rattle.cw_types.specs.Told.{OfReturns}
+use Rattle.cw_types.specs.ReasonMeaning.{OfReturns}
 use Rattle.cw_types.specs.Typing.{are_new, is_right_main, returns_well}
 use Rattle.cw_types.proofs.Heading.{head_by_parts}
 use Rattle.cw_types.proofs.Telling.{both_sides, broken, kept}

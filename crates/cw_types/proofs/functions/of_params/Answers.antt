@@ -6,7 +6,7 @@ use Rattle.cw_model.specs.Typing.{globals, known_of}
 use Rattle.cw_tree.specs.SyntaxView.{param_of, program_of}
 use Rattle.cw_types.specs.Names.{param_names}
 use Rattle.cw_types.specs.Typing.{are_new}
-use Rattle.cw_types.specs.Told.{AreAlike, IsGlobal}
+use Rattle.cw_types.specs.ReasonMeaning.{AreAlike, IsGlobal}
 use Rattle.cw_types.proofs.Walking.{new_step}
 use Rattle.cw_types.proofs.Repeating.{among_there, both_mapped, in_maps, one_more}
 use Rattle.cw_types.proofs.functions.of_params.Goals as goal

@@ -1,20 +1,20 @@
 use Rattle.std.proofs.Common.{◌≡◌, ℕ, ◌∷◌, ◌+◌, List, Contains, is_some, not, drop, map, ap, sym, subst, refl, ◌∙◌, arith}
 use Rattle.std.proofs.lemmas.Grind.{common_steps}
 use Rattle.cw_model.specs.Lines.{unless}
-use Rattle.cw_reasons.specs.Rising.{kept}
+use Rattle.cw_text.specs.Rising.{kept}
 use Rattle.cw_model.specs.Names.{is_among}
 use Rattle.cw_model.specs.Syntax.{Name, Function}
 use Rattle.cw_model.specs.Typing.{repeated}
 use Rattle.cw_model.specs.declared.syntax.NameKind.TheVariants as name_kind
-use Rattle.cw_reasons.specs.lemmas.Kept.{kept-append}
+use Rattle.cw_text.specs.lemmas.Kept.{kept-append}
 use Rattle.cw_tree.specs.SyntaxView.{function_of}
 use Rattle.cw_types.specs.Named.{functions_named}
 use Rattle.cw_types.specs.Names.{known_names}
 use Rattle.cw_types.specs.Scope.{Declared, kinds, with_local}
-use Rattle.cw_reasons.specs.Told.{itself, lines_at}
-use Rattle.cw_types.specs.Told.{IsRepeatedIn}
+use Rattle.cw_text.specs.RecordedReasons.{itself, lines_at}
+use Rattle.cw_types.specs.ReasonMeaning.{IsRepeatedIn}
 use Rattle.cw_types.proofs.Repeating.{both_mapped, more_earlier, repeated_true}
-use Rattle.cw_reasons.specs.lemmas.Telling.{and_then, found_true}
+use Rattle.cw_text.specs.lemmas.Telling.{and_then, found_true}
 use Rattle.cw_types.proofs.repeated.repeated_functions.Goals as goal
 
 pub loop-function-preserved : goal.loop-function-preserved

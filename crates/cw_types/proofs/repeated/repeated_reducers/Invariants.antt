@@ -1,13 +1,13 @@
 use Rattle.std.proofs.Common.{◌≡◌, ℕ, Contains, drop, take, map, []}
-use Rattle.cw_reasons.specs.Rising.{kept}
+use Rattle.cw_text.specs.Rising.{kept}
 use Rattle.cw_model.specs.Syntax.{Name}
 use Rattle.cw_model.specs.Typing.{repeated}
 use Rattle.cw_tree.specs.SyntaxView.{reducer_of}
 use Rattle.cw_types.specs.Named.{reducers_named}
 use Rattle.cw_types.specs.Names.{known_names}
 use Rattle.cw_types.specs.Scope.{kinds}
-use Rattle.cw_reasons.specs.Told.{Tells, itself, lines_at}
-use Rattle.cw_types.specs.Told.{IsRepeatedIn}
+use Rattle.cw_text.specs.RecordedReasons.{Tells, itself, lines_at}
+use Rattle.cw_types.specs.ReasonMeaning.{IsRepeatedIn}
 use Rattle.cw_types.proofs.repeated.repeated_reducers.Given as goal
 
 abbrev pub invariant-loop-reducer : goal.invariant-loop-reducer

@@ -1,5 +1,5 @@
 use Rattle.std.proofs.Common.{ℕ, refl, sym, subst}
-use Rattle.cw_types.specs.Told.{AreBothIn}
+use Rattle.cw_types.specs.ReasonMeaning.{AreBothIn}
 use Rattle.cw_types.proofs.repeated.shared.Goals as goal
 
 pub returns-clause-holds : goal.returns-clause-holds

@@ -2,18 +2,18 @@ use Rattle.std.proofs.Common.{true, not, ◌≡◌, ℕ, ◌∷◌, ◌++◌, �
 use Rattle.std.proofs.lemmas.Grind.{common_steps}
 use Rattle.std.proofs.lemmas.Slice.Eq.{bytes_eq-Decides}
 use Rattle.cw_model.specs.Lines.{unless}
-use Rattle.cw_reasons.specs.Rising.{kept}
+use Rattle.cw_text.specs.Rising.{kept}
 use Rattle.cw_model.specs.Names.{same_name}
 use Rattle.cw_model.specs.Syntax.{Name, Function}
 use Rattle.cw_model.specs.Typing.{of_both_kinds}
-use Rattle.cw_reasons.specs.lemmas.Kept.{kept-append}
+use Rattle.cw_text.specs.lemmas.Kept.{kept-append}
 use Rattle.cw_tree.specs.SyntaxView.{function_of}
 use Rattle.cw_types.specs.Named.{functions_named}
-use Rattle.cw_reasons.specs.Told.{itself, lines_at}
-use Rattle.cw_types.specs.Told.{AreBothIn, IsRepeatedIn}
+use Rattle.cw_text.specs.RecordedReasons.{itself, lines_at}
+use Rattle.cw_types.specs.ReasonMeaning.{AreBothIn, IsRepeatedIn}
 use Rattle.cw_types.specs.Typing.{earlier_line, later_line}
 use Rattle.cw_types.proofs.Repeating.{in_maps, shared_both, shared_true}
-use Rattle.cw_reasons.specs.lemmas.Telling.{and_then, found_true}
+use Rattle.cw_text.specs.lemmas.Telling.{and_then, found_true}
 use Rattle.cw_types.proofs.repeated.shared_name.Goals as goal
 
 pub loop-function-preserved : goal.loop-function-preserved

@@ -1,15 +1,15 @@
 use Rattle.std.proofs.Common.{◌≡◌, ℕ, ◌∷◌, ◌++◌, ◌+◌, List, drop, map, flat_map, ap, sym, ◌∙◌, arith}
 use Rattle.std.proofs.lemmas.Grind.{common_steps}
-use Rattle.cw_reasons.specs.Rising.{kept}
+use Rattle.cw_text.specs.Rising.{kept}
 use Rattle.cw_model.specs.Syntax.{Name, Reducer}
 use Rattle.cw_model.specs.Typing.{of_both_kinds}
-use Rattle.cw_reasons.specs.lemmas.Kept.{kept-append}
+use Rattle.cw_text.specs.lemmas.Kept.{kept-append}
 use Rattle.cw_tree.specs.SyntaxView.{function_of, reducer_of}
 use Rattle.cw_types.specs.Named.{functions_named, reducers_named}
-use Rattle.cw_reasons.specs.Told.{itself, lines_at}
-use Rattle.cw_types.specs.Told.{IsRepeatedIn}
+use Rattle.cw_text.specs.RecordedReasons.{itself, lines_at}
+use Rattle.cw_types.specs.ReasonMeaning.{IsRepeatedIn}
 use Rattle.cw_types.proofs.Repeating.{in_maps}
-use Rattle.cw_reasons.specs.lemmas.Telling.{and_then}
+use Rattle.cw_text.specs.lemmas.Telling.{and_then}
 use Rattle.cw_types.proofs.repeated.shared_names.Goals as goal
 
 pub loop-reducer-preserved : goal.loop-reducer-preserved

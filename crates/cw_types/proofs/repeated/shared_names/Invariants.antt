@@ -1,10 +1,10 @@
 use Rattle.std.proofs.Common.{◌≡◌, ◌++◌, drop, map, flat_map}
-use Rattle.cw_reasons.specs.Rising.{kept}
+use Rattle.cw_text.specs.Rising.{kept}
 use Rattle.cw_model.specs.Typing.{of_both_kinds}
 use Rattle.cw_tree.specs.SyntaxView.{function_of, reducer_of}
 use Rattle.cw_types.specs.Named.{functions_named, reducers_named}
-use Rattle.cw_reasons.specs.Told.{Tells, itself, lines_at}
-use Rattle.cw_types.specs.Told.{IsRepeatedIn}
+use Rattle.cw_text.specs.RecordedReasons.{Tells, itself, lines_at}
+use Rattle.cw_types.specs.ReasonMeaning.{IsRepeatedIn}
 use Rattle.cw_types.proofs.repeated.shared_names.Given as goal
 
 abbrev pub invariant-loop-reducer : goal.invariant-loop-reducer

@@ -1,7 +1,7 @@
 use Rattle.std.proofs.Common.{get_or, refl, sym, ◌∙◌}
 use Rattle.std.proofs.lemmas.Option.{slice_get-get_or}
 use Rattle.cw_verify.specs.Table.{shape_view, is_thawed_slot, are_thawed}
-use Rattle.cw_verify.proofs.Rows.{all_not, all_on}
+use Rattle.cw_verify.proofs.SlotMarks.{all_not, all_on}
 use Rattle.cw_verify.proofs.found.are_thawed.Goals as goal
 
 pub returns-then-not-is_thawed_slot : goal.returns-then-not-is_thawed_slot

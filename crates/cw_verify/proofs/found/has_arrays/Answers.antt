@@ -1,7 +1,7 @@
 use Rattle.std.proofs.Common.{get_or, sym, ◌∙◌}
 use Rattle.std.proofs.lemmas.Option.{slice_get-get_or}
 use Rattle.cw_verify.specs.Table.{shape_view}
-use Rattle.cw_verify.proofs.Rows.{arrays_not, arrays_on}
+use Rattle.cw_verify.proofs.SlotMarks.{arrays_not, arrays_on}
 use Rattle.cw_verify.proofs.found.has_arrays.Goals as goal
 
 pub returns-then-not-has_array : goal.returns-then-not-has_array

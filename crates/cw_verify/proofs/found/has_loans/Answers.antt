@@ -2,7 +2,7 @@ use Rattle.std.proofs.Common.{refl, sym, ◌∙◌}
 use Rattle.std.proofs.lemmas.Option.{slice_get-get_or}
 use Rattle.cw_code.specs.Fits.{has_loan, has_loans}
 use Rattle.cw_verify.specs.Table.{shape_view}
-use Rattle.cw_verify.proofs.Rows.{all_not, all_on}
+use Rattle.cw_verify.proofs.SlotMarks.{all_not, all_on}
 use Rattle.cw_verify.proofs.found.has_loans.Goals as goal
 
 pub returns-then-not-has_loan : goal.returns-then-not-has_loan

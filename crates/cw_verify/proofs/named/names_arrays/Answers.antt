@@ -1,6 +1,6 @@
 use Rattle.std.proofs.Common.{ap, ◌∙◌}
 use Rattle.cw_verify.specs.Table.{are_unmarked}
-use Rattle.cw_verify.proofs.Rows.{unmarked_from_none}
+use Rattle.cw_verify.proofs.SlotMarks.{unmarked_from_none}
 use Rattle.cw_verify.proofs.named.names_arrays.Goals as goal
 
 pub returns : goal.returns

@@ -1,7 +1,7 @@
 use Rattle.std.proofs.Common.{refl, sym, ◌∙◌}
 use Rattle.std.proofs.lemmas.Option.{slice_get-get_or}
 use Rattle.cw_code.specs.Fits.{names_loan, names_loans}
-use Rattle.cw_verify.proofs.Rows.{all_not, all_on}
+use Rattle.cw_verify.proofs.SlotMarks.{all_not, all_on}
 use Rattle.cw_verify.proofs.named.names_loans.Goals as goal
 
 pub returns-then-not-names_loan : goal.returns-then-not-names_loan

@@ -1,6 +1,6 @@
 use Rattle.std.proofs.Common.{arith, ◌||◌, sym, ap, ◌∙◌}
 use Rattle.std.proofs.Math.Bool.{or-false}
-use Rattle.cw_verify.proofs.Rows.{brings_done}
+use Rattle.cw_verify.proofs.SlotMarks.{brings_done}
 use Rattle.cw_verify.proofs.row.brings.Goals as goal
 
 pub returns : goal.returns

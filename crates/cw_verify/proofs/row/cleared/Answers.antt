@@ -1,6 +1,6 @@
 use Rattle.std.proofs.Common.{◌≡◌, sym, ap, ◌∙◌}
 use Rattle.cw_verify.specs.Table.{any_empty}
-use Rattle.cw_verify.proofs.Rows.{none_marked}
+use Rattle.cw_verify.proofs.SlotMarks.{none_marked}
 use Rattle.cw_verify.proofs.row.cleared.Goals as goal
 
 pub returns-then-not-has_empty : goal.returns-then-not-has_empty

@@ -1,7 +1,7 @@
 use Rattle.std.proofs.Common.{arith, ◌≡◌, ◌+◌, ◌<◌, suc, length, if◌then◌else◌, true, false, get_or, sym, ap, ◌∙◌}
 use Rattle.std.specs.Prelude.{slice_set, take}
 use Rattle.cw_verify.specs.Table.{either_empty}
-use Rattle.cw_verify.proofs.Rows.{either_none, either_more}
+use Rattle.cw_verify.proofs.SlotMarks.{either_none, either_more}
 use Rattle.cw_verify.proofs.row.either_empty.Goals as goal
 
 pub loop-a-init : goal.loop-a-init

@@ -2,7 +2,7 @@ use Rattle.std.proofs.Common.{◌+◌, sym, ap, ◌∙◌}
 use Rattle.std.specs.Prelude.{drop}
 use Rattle.std.proofs.lemmas.Option.{slice_get-get_or}
 use Rattle.cw_verify.specs.Views.{with_loans}
-use Rattle.cw_verify.proofs.Rows.{lent_on}
+use Rattle.cw_verify.proofs.SlotMarks.{lent_on}
 use Rattle.cw_verify.proofs.row.freeze_all.Goals as goal
 
 pub loop-loan-preserved : goal.loop-loan-preserved

@@ -2,7 +2,7 @@ use Rattle.std.proofs.Common.{◌+◌, get_or, sym, ap, ◌∙◌}
 use Rattle.std.specs.Prelude.{drop}
 use Rattle.std.proofs.lemmas.Option.{slice_get-get_or}
 use Rattle.cw_code.specs.Fits.{with_gone}
-use Rattle.cw_verify.proofs.Rows.{gone_on}
+use Rattle.cw_verify.proofs.SlotMarks.{gone_on}
 use Rattle.cw_verify.proofs.row.set_all.Goals as goal
 
 pub loop-a-preserved : goal.loop-a-preserved

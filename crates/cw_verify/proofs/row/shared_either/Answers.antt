@@ -1,6 +1,6 @@
 use Rattle.std.proofs.Common.{◌≡◌, sym, ap, ◌∙◌}
 use Rattle.cw_verify.specs.Table.{brings, has_all, either_empty}
-use Rattle.cw_verify.proofs.Rows.{is_there, is_come, is_both}
+use Rattle.cw_verify.proofs.SlotMarks.{is_there, is_come, is_both}
 use Rattle.cw_verify.proofs.row.shared_either.Goals as goal
 
 pub returns-then-not-brings : goal.returns-then-not-brings

@@ -1,7 +1,7 @@
 use Rattle.std.proofs.Common.{refl, subst}
 use Rattle.clap.specs.Words.{found_of}
 use Rattle.cw_words.specs.Requests.{IsNumberOf}
-use Rattle.cw_words.specs.Rows.{row_of}
+use Rattle.cw_words.specs.NumberOptions.{row_of}
 use Rattle.cw_words.proofs.Texts.{number_given}
 use Rattle.cw_words.proofs.words.number_of.Goals as goal
 

@@ -3,7 +3,7 @@ use Rattle.std.proofs.lemmas.Result.{IfErr-weaker}
 use Rattle.clap.specs.Words.{Row, Text, found_of, rows_of}
 use Rattle.cw_words.specs.Requests.{HaveCommand, IsSaidOf, NamesNoCommand, faults}
 use Rattle.cw_words.specs.declared.asked.Said.TheVariants as said
-use Rattle.cw_words.proofs.Told.{fault_by_rows, has_command}
+use Rattle.cw_words.proofs.CommandFaults.{fault_by_rows, has_command}
 use Rattle.cw_words.proofs.words.request.Goals as goal
 
 pub returns-in_default-clause-why : goal.returns-in_default-clause-why

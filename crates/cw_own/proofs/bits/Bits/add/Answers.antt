@@ -1,5 +1,5 @@
 use Rattle.std.proofs.Common.{◌≡◌, rules, length}
-use Rattle.cw_own.proofs.Rows.{one_taken}
+use Rattle.cw_own.proofs.BitSets.{one_taken}
 use Rattle.cw_own.proofs.bits.Bits.add.Goals as goal
 
 pub returns : goal.returns

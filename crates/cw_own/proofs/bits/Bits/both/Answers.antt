@@ -1,5 +1,5 @@
 use Rattle.std.proofs.Common.{◌≡◌, rules, length}
-use Rattle.cw_own.proofs.Rows.{both_words}
+use Rattle.cw_own.proofs.BitSets.{both_words}
 use Rattle.cw_own.proofs.bits.Bits.both.Goals as goal
 
 pub returns : goal.returns

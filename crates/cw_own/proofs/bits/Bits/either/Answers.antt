@@ -1,5 +1,5 @@
 use Rattle.std.proofs.Common.{◌≡◌, rules, length}
-use Rattle.cw_own.proofs.Rows.{either_words}
+use Rattle.cw_own.proofs.BitSets.{either_words}
 use Rattle.cw_own.proofs.bits.Bits.either.Goals as goal
 
 pub returns : goal.returns

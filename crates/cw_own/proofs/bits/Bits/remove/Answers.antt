@@ -1,5 +1,5 @@
 use Rattle.std.proofs.Common.{◌≡◌, rules, length}
-use Rattle.cw_own.proofs.Rows.{one_removed}
+use Rattle.cw_own.proofs.BitSets.{one_removed}
 use Rattle.cw_own.proofs.bits.Bits.remove.Goals as goal
 
 pub returns : goal.returns

@@ -1,5 +1,5 @@
 use Rattle.std.proofs.Common.{rules, ◌≡◌, ◌+◌, ◌%◌, ◌^◌, ℕ, List, [], ◌∷◌, ◌++◌, length, ap, ◌∙◌, arith}
-use Rattle.cw_sites.specs.declared.paths.Block.{Block}
+use Rattle.cw_sites.specs.declared.paths.ForkedBlock.{ForkedBlock}
 use Rattle.cw_sites.specs.StepLists.{part, seen_blocks}
 use Rattle.cw_sites.specs.StrandPaths.{takes}
 use Rattle.cw_sites.specs.PathBounds.{most_steps}
@@ -12,7 +12,7 @@ pub returns-clause-laid : goal.returns-clause-laid
 returns-clause-laid c = λ laid.
     let e : c.len-len.result ≡ length c.gather.new.self.steps.items = search rules in
     let fork = taken_fork c.args.f ((c.args.f.base + c.args.f.rest) % 2 ^ 64) c.gather.new.self.weight c.in_ok-mid.mid c.len-len.result in
-    let k = c.push_reserved.ensures.items ∙ ap (λ (fs : List Block). fs ++ fork ∷ []) c.in_ok-mid.ensures.rest.blocks in
+    let k = c.push_reserved.ensures.items ∙ ap (λ (fs : List ForkedBlock). fs ++ fork ∷ []) c.in_ok-mid.ensures.rest.blocks in
     let h = taken_laid c.args.self.now.steps.items c.gather.new.self.steps.items c.gather.new.self.weight c.args.self.now.start c.len-len.result c.in_ok-mid.mid ((c.args.f.base + c.args.f.rest) % 2 ^ 64) c.args.self.now.blocks.items c.push_reserved.new.self.items c.args.f laid.blocks laid.child laid.start (c.in_ok-mid.ensures.all laid) e k in
     record { blocks = h.0; start = h.1 }
 
@@ -21,7 +21,7 @@ returns-clause-strand_path c = λ laid q small.
     let small0 = small.0 in
     let e : c.len-len.result ≡ length c.gather.new.self.steps.items = search rules in
     let fork = taken_fork c.args.f ((c.args.f.base + c.args.f.rest) % 2 ^ 64) c.gather.new.self.weight c.in_ok-mid.mid c.len-len.result in
-    let k = c.push_reserved.ensures.items ∙ ap (λ (fs : List Block). fs ++ fork ∷ []) c.in_ok-mid.ensures.rest.blocks in
+    let k = c.push_reserved.ensures.items ∙ ap (λ (fs : List ForkedBlock). fs ++ fork ∷ []) c.in_ok-mid.ensures.rest.blocks in
     let w : (c.args.f.base + c.args.f.rest) % 2 ^ 64 ≡ c.args.f.base + c.args.f.rest = mod-eq_of_lt small0 in
     let steps = c.args.self.now.steps.items in
     let f = c.args.f in
@@ -33,7 +33,7 @@ returns-clause-bounded c = λ most b.
     let laid = b.laid in
     let e : c.len-len.result ≡ length c.gather.new.self.steps.items = search rules in
     let fork = taken_fork c.args.f ((c.args.f.base + c.args.f.rest) % 2 ^ 64) c.gather.new.self.weight c.in_ok-mid.mid c.len-len.result in
-    let k = c.push_reserved.ensures.items ∙ ap (λ (fs : List Block). fs ++ fork ∷ []) c.in_ok-mid.ensures.rest.blocks in
+    let k = c.push_reserved.ensures.items ∙ ap (λ (fs : List ForkedBlock). fs ++ fork ∷ []) c.in_ok-mid.ensures.rest.blocks in
     let g = c.in_ok-mid.ensures.all laid in
     let h = taken_laid c.args.self.now.steps.items c.gather.new.self.steps.items c.gather.new.self.weight c.args.self.now.start c.len-len.result c.in_ok-mid.mid ((c.args.f.base + c.args.f.rest) % 2 ^ 64) c.args.self.now.blocks.items c.push_reserved.new.self.items c.args.f laid.blocks laid.child laid.start g e k in
     let s = c.in_ok-mid.ensures.short laid most b.sites b.limit b.block in

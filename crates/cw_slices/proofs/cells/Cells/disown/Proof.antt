@@ -3,9 +3,9 @@ use Rattle.cw_slices.proofs.Steps.{List, [], ◌∷◌, refl, sym, ◌∙◌, pr
 use Rattle.cw_slices.proofs.Steps.{stop, fld, enter, of_opd, no_more, and_then, returns, alloc_all, pass_all, free_all, look_at, get, get_in, sets, owns, plain, types_at, yes, RawPtr}
 use Rattle.cw_slices.proofs.Steps.{ptr_val, nothing, alive, says, suffices, Stays, walk_of, stay_dropped, Goes-dropped, ends_at, bare, both, span_made, pair_made}
 use Rattle.core.proofs.slots.Opens.{words_val}
-use Rattle.cw_slices.proofs.Rows.{ptr_good, row_good, left_good}
+use Rattle.cw_slices.proofs.RowCalls.{ptr_good, row_good, left_good}
 use Rattle.cw_slices.proofs.Holds.{cells_told}
-use Rattle.cw_slices.specs.Held.{held_owned}
+use Rattle.cw_slices.specs.OwnedMemory.{held_owned}
 use Rattle.cw_slices.specs.contracts.memory.Span as Span
 use Rattle.cw_slices.specs.contracts.cells.Cells as Cells
 use Rattle.cw_slices.specs.contracts.cells.Cells.disown as f

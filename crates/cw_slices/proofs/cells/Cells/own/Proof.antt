@@ -5,8 +5,8 @@ use Rattle.cw_slices.proofs.Steps.{agg, enter, no_more, and_then, returns, alloc
 use Rattle.cw_slices.proofs.Steps.{plain, types_at, yes, usize, RawPtr, ptr_val, rawptr_vals, rawptr_Tells}
 use Rattle.cw_slices.proofs.Steps.{uint_vals, uint_Tells, nothing, heard, alive, says, suffices, Stays, walk_of, stay_dropped, Goes-dropped, ends_at, span_owned, bare}
 use Rattle.core.proofs.slots.Opens.{words_val}
-use Rattle.cw_slices.specs.Held.{held_owned}
-use Rattle.cw_slices.proofs.Rows.{ptr_good, row_good}
+use Rattle.cw_slices.specs.OwnedMemory.{held_owned}
+use Rattle.cw_slices.proofs.RowCalls.{ptr_good, row_good}
 use Rattle.cw_slices.proofs.Holds.{cells_made}
 use Rattle.cw_slices.specs.contracts.memory.Span as Span
 use Rattle.cw_slices.specs.contracts.cells.Cells as Cells

@@ -28,7 +28,7 @@ use Rattle.core.proofs.slots.Places.{besides, room_out, value_in}
 use Rattle.core.specs.Mem.Slots.Ownership.{slots}
 use Rattle.cw_slices.proofs.Holds.{cells_told, cells_made}
 use Rattle.cw_slices.proofs.Runs.{number}
-use Rattle.cw_slices.specs.Held.{held_owned}
+use Rattle.cw_slices.specs.OwnedMemory.{held_owned}
 use Rattle.cw_slices.specs.contracts.cells.Cells as Cells
 use Rattle.cw_slices.specs.contracts.cells.Cells.put as f
 use Rattle.cw_slices.proofs.cells.Cells.put.Statement.{statement}

@@ -5,7 +5,7 @@ use Rattle.cw_slices.proofs.Steps.{owns, plain, types_at, yes, nothing, alive, s
 use denote.Builtin.{RefOf}
 use denote.Memory.{hidden_shr}
 use denote.Ref.{shr_vals, shr_Tells}
-use Rattle.cw_slices.proofs.Rows.{Row}
+use Rattle.cw_slices.proofs.RowCalls.{Row}
 use Rattle.cw_slices.specs.contracts.cells.Cells as Hold
 use Rattle.cw_slices.specs.contracts.cells.Cells.row as f
 use Rattle.cw_slices.proofs.cells.Cells.row.Statement.{statement}

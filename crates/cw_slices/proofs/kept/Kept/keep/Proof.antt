@@ -3,7 +3,7 @@ use Rattle.cw_slices.proofs.Steps.{◌^◌, ◌<◌, [], ◌∷◌, refl, sym, �
 use Rattle.cw_slices.proofs.Steps.{agg, enter, no_more, and_then, returns, alloc_all, pass_all, free_all, look_at, get, sets, owns, plain, types_at, yes, usize, RawPtr, ptr_val, rawptr_vals}
 use Rattle.cw_slices.proofs.Steps.{rawptr_Tells, uint_vals, uint_Tells, nothing, heard, alive, suffices, Stays, walk_of, stay_dropped, Goes-dropped, ends_at, span_owned, bare}
 use Rattle.core.proofs.slots.Opens.{words_val}
-use Rattle.cw_slices.proofs.Rows.{ptr_good, row_good}
+use Rattle.cw_slices.proofs.RowCalls.{ptr_good, row_good}
 use Rattle.cw_slices.proofs.Holds.{kept_made}
 use Rattle.cw_slices.proofs.Lots.{all_in}
 use Rattle.cw_slices.specs.Memory.{kept_owned}

@@ -6,7 +6,7 @@ use denote.Builtin.{RefOf}
 use Rattle.core.proofs.mem.Facts.{says_three}
 use denote.Memory.{hidden_shr}
 use denote.Ref.{shr_vals, shr_Tells}
-use Rattle.cw_slices.proofs.Rows.{Row}
+use Rattle.cw_slices.proofs.RowCalls.{Row}
 use Rattle.cw_slices.specs.Blocks.{numbers, marks}
 use Rattle.cw_slices.specs.lemmas.Patches.{length_numbers, length_marks}
 use Rattle.cw_slices.specs.contracts.kept.Kept as Kept

@@ -3,7 +3,7 @@ use Rattle.cw_slices.proofs.Steps.{◌≡◌, List, [], ◌∷◌, refl, sym, �
 use Rattle.cw_slices.proofs.Steps.{sub, whole, stop, fld, enter, of_opd, no_more, and_then, returns, alloc_all, pass_all, free_all, look_at, get, get_in, sets, owns, plain, types_at, yes, RawPtr}
 use Rattle.cw_slices.proofs.Steps.{ptr_val, nothing, heard, alive, suffices, Stays, walk_of, stay_dropped, Goes-dropped, ends_at, bare, both, span_made, pair_made}
 use Rattle.core.proofs.slots.Opens.{words_val}
-use Rattle.cw_slices.proofs.Rows.{ptr_good, row_good, left_good}
+use Rattle.cw_slices.proofs.RowCalls.{ptr_good, row_good, left_good}
 use Rattle.cw_slices.proofs.Holds.{kept_told}
 use Rattle.std.specs.Prelude.{ℤ, true, length, replicate}
 use mathlib.Core.Path.{ap}

@@ -1,0 +1,12 @@
+pub mod Planned
+pub mod Reading
+pub mod MinTrees
+pub mod BoardState
+pub mod State
+pub mod Weighed
+pub mod Boards
+pub mod Falls
+pub mod Lines
+pub mod Schedules
+pub mod Counts
+pub mod Speedups

@@ -1,4 +1,0 @@
-pub mod Joinless
-pub mod RestSites
-pub mod Strands
-pub mod Telling

@@ -1,5 +1,0 @@
-use Rattle.cw_reasons.specs.lemmas.Order.{in_order}
-use Rattle.cw_reasons.proofs.laws.lines_rise.Goals as goal
-
-pub returns : goal.returns
-returns c = in_order (λ line. line)

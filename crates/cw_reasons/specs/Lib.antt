@@ -1,4 +1,0 @@
-pub mod Rising
-pub mod Told
-pub mod Laws
-pub mod lemmas

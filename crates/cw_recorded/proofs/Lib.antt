@@ -1,5 +1,0 @@
-pub mod Merged
-pub mod Moves
-pub mod Normals
-pub mod Recordings
-pub mod Starting

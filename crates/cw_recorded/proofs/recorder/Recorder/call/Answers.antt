@@ -1,7 +1,0 @@
-use Rattle.std.proofs.Common.{arith}
-use Rattle.std.proofs.Math.Nat.{mod-eq_of_lt}
-use Rattle.cw_recorded.proofs.Moves.{call_begins}
-use Rattle.cw_recorded.proofs.recorder.Recorder.call.Goals as goal
-
-pub returns : goal.returns
-returns c = call_begins c.args.self.now c.cut.new.self c.stack.new.self c.args.count _ c.in_ok-cut.ensures c.in_ok-stack.ensures (λ small. mod-eq_of_lt (omega arith))

@@ -1,5 +1,0 @@
-pub mod Merging
-pub mod Normal
-pub mod Origins
-pub mod Recording
-pub mod Runs

@@ -1,9 +1,0 @@
-use Rattle.std.proofs.Common.{◌-◌, ◌*◌, length}
-use Rattle.cw_schedule.proofs.rows.+set.Given as goal
-
--- the measures of two functions that call each other: a call on rows, then a call on one row and the rows above it
-abbrev pub decreases-Rows::set : goal.decreases-Rows::set
-decreases-Rows::set l = 2 * length l.self.now
-
-abbrev pub decreases-set_in_rows : goal.decreases-set_in_rows
-decreases-set_in_rows l = 2 * length l.row.now - 1

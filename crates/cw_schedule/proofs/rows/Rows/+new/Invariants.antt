@@ -1,4 +1,0 @@
-use Rattle.cw_schedule.proofs.rows.Rows.+new.Given as goal
-
-abbrev pub decreases-new : goal.decreases-new
-decreases-new l = l.places

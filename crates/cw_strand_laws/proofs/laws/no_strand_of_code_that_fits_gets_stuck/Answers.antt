@@ -1,5 +1,0 @@
-use Rattle.cw_strand_laws.proofs.StrandsFit.{none_is_unfit}
-use Rattle.cw_strand_laws.proofs.laws.no_strand_of_code_that_fits_gets_stuck.Goals as goal
-
-pub returns : goal.returns
-returns c = none_is_unfit c.code_that_fits_goes_on.ensures.steps c.results_may_go_back.ensures c.code_that_fits_goes_on.ensures.begins

@@ -1,5 +1,0 @@
-use Rattle.cw_strand_laws.proofs.Staying.{rests_stay}
-use Rattle.cw_strand_laws.proofs.laws.rests_stay_in_their_functions.Goals as goal
-
-pub returns : goal.returns
-returns c = rests_stay c.code_that_fits_goes_on.ensures.steps c.runs_stay_in_their_functions.ensures.stays
