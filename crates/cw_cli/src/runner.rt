@@ -170,15 +170,15 @@ struct Bodies<G, B> {
 // The caller's thread and a crew, which executes the first run with it. Later runs are executed by the caller's thread,
 // or in parallel by one thread for each worker.
 #[derive(Drop)]
-pub(crate) struct Crew<'a, R, G, B> {
-    rt: &'a R,
+pub(crate) struct Crew<T, G, B> {
+    rt: T,
     workers: usize,
     crew: Option<Bodies<G, B>>,
 }
 
-impl<'a, R, G, B> Crew<'a, R, G, B> {
+impl<T, G, B> Crew<T, G, B> {
     // The caller's thread and these bodies.
-    pub(crate) fn new(rt: &'a R, bodies: Vec<B>, gate: Arc<G>) -> Self
+    pub(crate) fn new(rt: T, bodies: Vec<B>, gate: Arc<G>) -> Self
         requires { length bodies.items ≤ MOST_BODIES }
     {
         Crew {
@@ -193,7 +193,7 @@ impl<
     R: Threads + Wait,
     G: Gate + Drop + Send + Sync + 'static,
     B: Body<G> + Send + Drop + 'static,
-> Runner for Crew<'_, R, G, B> {
+> Runner for Crew<&R, G, B> {
     fn values(
         &mut self,
         alloc: Global,

@@ -83,14 +83,14 @@ impl Scheduler for InTurn {
 /// Schedules in parallel, by at most `threads` threads, one of which is the caller's. With one thread no other thread is
 /// started. If a thread cannot be started, the caller's thread does its schedules.
 #[derive(Drop)]
-pub struct InParallel<'a, R> {
-    /// Starts threads.
-    pub rt: &'a R,
+pub struct InParallel<T> {
+    /// The handle that starts threads.
+    pub rt: T,
     /// The maximum number of threads.
     pub threads: usize,
 }
 
-impl<R: Threads> Scheduler for InParallel<'_, R> {
+impl<R: Threads> Scheduler for InParallel<&R> {
     fn rows(
         &self,
         alloc: Global,
