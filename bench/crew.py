@@ -2,7 +2,7 @@
 """Compares runs of the built program with several workers with runs with one worker.
 
     crew.py PROGRAM same [COUNT [TIMES]]   Each program of examples/ and COUNT random ones (200) is run TIMES times (50) in the modes
-                                           run, scale, sites, greedy and speedup with 2, 3, 4, 64 workers, each time with another limit, which
+                                           run, scale, sites, greedy, speedup and page with 2, 3, 4, 64 workers, each time with another limit, which
                                            no run reaches: both streams and the status must be the ones of one worker. With a
                                            program of `unproved.py OUT stumbling` the limit selects where workers are delayed
     crew.py PROGRAM limits                 each limit from 1 to the cost of a run, on seven programs: the answer of one worker
@@ -170,7 +170,7 @@ def same(program, count="200", times="50"):
     wrong = runs = 0
     with tempfile.TemporaryDirectory() as folder, concurrent.futures.ThreadPoolExecutor(3) as pool:
         for path, arguments in [*examples(), *random_programs(pathlib.Path(folder), int(count))]:
-            for mode in (["run"], ["scale"], ["sites"], ["greedy", "3"], ["speedup"]):
+            for mode in (["run"], ["scale"], ["sites"], ["greedy", "3"], ["speedup"], ["page"]):
                 words = [*mode, str(path), *arguments, "--limit"]
                 expected = asked(program, [*words, str(MOST), "--workers", "1"])
                 tries = [pool.submit(differs, program, [*words, str(MOST + k)], workers, expected) for workers in CREWS for k in range(int(times))]

@@ -9,7 +9,7 @@
     cuts      100,000 cuts of an array of 16,777,216 elements, whose parts are passed to calls
     arrays    an array of 16,777,216 elements that each iteration of a loop declares: memory holds only one at a time
     paths     runs with long paths: spawns without a join, long paths below many joins
-    greedy    schedules of 1,000,000 strands: processor time, memory, and the same length with one and four workers
+    greedy    schedules of 1,000,000 strands: processor time, memory, and the same lengths with several workers
     memory    six programs with less and less memory: the answer, or `memory`
     explain   sources that are slow to explain, and a search for slower ones: time, memory and length of the output of
               `check --explain`, compared with `check`
@@ -294,6 +294,7 @@ def paths(program):
 # a `cilk_for` with 333,334 iterations has 1,000,000 strands, the maximum
 STRANDS = "int main() {{ cilk_for (int i = 0; i < {}; i++) grain 1 {{ }} return 0; }}"
 GREEDY_SECONDS, GREEDY_BYTES = 2.0, 100 << 20
+ROWS, SCHEDULE_BYTES = 21, 60 << 20  # rows of `speedup` up to 1,000,000 processors; what each further worker may take for a schedule
 
 
 def scheduled(program, words, iterations):
@@ -321,6 +322,15 @@ def greedy(program):
             wrong += not fine
             last = (out or err).strip().splitlines()[-1]
             print(f"{'ok ' if fine else 'BAD'} {processors} processors, {workers} workers: {last}, {seconds:.2f} s of a processor, {peak >> 20} MiB")
+    reports = []
+    for workers in (1, 4, 64):
+        words = ["speedup", f"--workers={workers}", "--processors", "1000000"]
+        status, out, err, seconds, peak = scheduled(program, words, 333334)
+        reports.append(out)
+        most = GREEDY_BYTES + (min(workers, ROWS) - 1) * SCHEDULE_BYTES
+        fine = (status, err) == (0, "") and out.count("\n") == ROWS + 1 and out == reports[0] and seconds < ROWS * GREEDY_SECONDS and peak <= most
+        wrong += not fine
+        print(f"{'ok ' if fine else 'BAD'} speedup, {workers} workers: {seconds:.2f} s of a processor, {peak >> 20} MiB")
     for workers in (1, 4, 64):
         status, out, err, *_ = scheduled(program, ["greedy", "1", "--workers", str(workers)], 333335)
         fine = (out, err) == ("", "too many strands\n")

@@ -52,7 +52,7 @@ int main(int n) {
 DIVIDES = b"int main(int n) {\n  print(1);\n  return 1 / n;\n}\n"
 ENDLESS = b"int main() {\n  print(1);\n  while (1) {\n  }\n  return 0;\n}\n"
 LONGEST = b"\nint main() { return 0; }"  # after a comment, in the longest source
-STDIN = b""  # the name of standard input
+STDIN = b"<stdin>"  # the name of standard input
 OPTIONS = [{"processors": 48}, {"processors": 1}, {"processors": 1000000}, {"top": 1}, {"burden": 0}, {"burden": 1000, "edges": "both"}]
 WHOLE = 131072  # lines of LINES that fill 1 MiB
 

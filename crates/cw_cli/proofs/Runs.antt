@@ -360,7 +360,7 @@ module _ (name bytes : List ℕ) (args : List ℤ) (words : list_all fits args �
     strands = λ count. refl;
   }
 
-  -- the schedule of a run on so many processors, where the burden is in range
+  -- the schedule of a run on this number of processors, if the burden is in range
   module _ (p : ℕ) (is : options.mode ≡ mode.Greedy p) (low : options.burden.charge ≤ MOST_BURDEN) where
     asked_may : is_asked code args options.limit p ≡ true → May
     asked_may h =

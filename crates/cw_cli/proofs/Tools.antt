@@ -14,7 +14,7 @@ use Rattle.cw_report.specs.Sinks.{Writes}
 use Rattle.cw_compile.specs.Sources as sources
 use Rattle.cw_cli.specs.Analyses as analyses
 use Rattle.cw_cli.specs.Analyses.{IsAnalysed, IsAnalysedBy}
-use Rattle.cw_cli.specs.Pages.{base_name}
+use Rattle.cw_cli.specs.Pages.{source_name}
 use Rattle.cw_words.specs.declared.asked.Mode.{Mode}
 use Rattle.cw_words.specs.declared.asked.Mode.TheVariants as mode
 use Rattle.cw_cli.specs.Tools as tools
@@ -162,7 +162,7 @@ of_read (Some bytes) read h P here more = (bytes, refl, more bytes h)
 module _ {W E : Type 0} (seen : W → Seen) (seen' : E → Seen) (old new : W) (old' new' : E) (asked : Request) (bodies reads_before reads_after : ℕ) where
   module _ {D : Type 0} (remaining : D → Option (List ℕ)) (source inner : D) (limit : ℕ) (name before read slice : List ℕ) (args : List ℤ) where
     -- the result for the bytes that were read is the answer for the source
-    pub answered : limit ≡ most_read → inner ≡ source → before ≡ [] → slice ≡ read → args ≡ asked.args.items → name ≡ base_name (string_bytes asked.file) →
+    pub answered : limit ≡ most_read → inner ≡ source → before ≡ [] → slice ≡ read → args ≡ asked.args.items → name ≡ source_name (string_bytes asked.file) →
         IfSome (option_map (take limit) (remaining inner)) (λ xs. read ≡ before ++ xs) →
         (r : Result (Unit {0}) Fault) (status : ℕ) → status ≡ tools.status_of r → IsAnalysedBy seen old new name slice args asked.options bodies r
         → tools.IsTold seen' old' new' asked.explain (tools.line_of r) →
@@ -171,7 +171,7 @@ module _ {W E : Type 0} (seen : W → Seen) (seen' : E → Seen) (old new : W) (
         let h1 = subst (λ d. IfSome (option_map (take limit) (remaining d)) (λ xs. read ≡ before ++ xs)) i h in
         let h2 = subst (λ k. IfSome (option_map (take k) (remaining source)) (λ xs. read ≡ before ++ xs)) l h1 in
         let h3 : IfSome (option_map (take most_read) (remaining source)) (λ xs. read ≡ xs) = subst (λ p. IfSome (option_map (take most_read) (remaining source)) (λ xs. read ≡ p ++ xs)) b h2 in
-        let file = base_name (string_bytes asked.file) in
+        let file = source_name (string_bytes asked.file) in
         let of_slice : IsAnalysedBy seen old new name read args asked.options bodies r = subst (λ bs. IsAnalysedBy seen old new name bs args asked.options bodies r) s analysis in
         let of_args : IsAnalysedBy seen old new name read asked.args.items asked.options bodies r = subst (λ vs. IsAnalysedBy seen old new name read vs asked.options bodies r) a of_slice in
         let of_asked : IsAnalysedBy seen old new file read asked.args.items asked.options bodies r = subst (λ x. IsAnalysedBy seen old new x read asked.args.items asked.options bodies r) n of_args in

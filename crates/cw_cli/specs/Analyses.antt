@@ -37,7 +37,7 @@ text_in input (mode.Page top most) program burden answer = page_text input top m
 abbrev pub report_in : Input → Mode → (table : Bool) → Program → (burden : Burden) → Answer → List ℕ
 report_in input m table program burden answer = in_form m table (text_in input m program burden answer)
 
--- a schedule is for processors in range, speedups go up to such processors, and functions that are told are so many
+-- the numbers of processors and of listed functions that a mode has are in their ranges
 abbrev pub IsModeInRange : Mode → Type 0
 IsModeInRange (mode.Gain top) = (1 ≤ top) × (top ≤ MOST_TOP)
 IsModeInRange (mode.Greedy processors) = (1 ≤ processors) × (processors ≤ MOST_PROCESSORS)
@@ -53,7 +53,7 @@ pub record AreInRange (options : Options) : Type 0 where
   pub limit : options.limit ≤ MOST_LIMIT
   pub burden : options.burden.charge ≤ MOST_BURDEN
 
--- main has so many parameters, and the options are in range
+-- the number of arguments is the number of main's parameters, and the options are in range
 pub record MayRun (program : Program) (args : List ℤ) (options : Options) : Type 0 where
   pub count : length args ≡ length (function_named main_name program.functions).params
   pub in_range : AreInRange options
@@ -67,13 +67,13 @@ pub record IsRunOf (bytes : List ℕ) (args : List ℤ) (options : Options) (pro
 abbrev pub answer_to : Program → List ℤ → Options → Answer
 answer_to program args options = serial_answer program args options.limit
 
--- the report of a program; that of a check says nothing of what the program answers, and of a trap only a run
+-- the report of a program; the report of a check does not depend on the run, and of a trap only a run
 -- writes what it printed before
 abbrev pub text_of : (name bytes : List ℕ) → Program → List ℤ → Options → List ℕ
 text_of name bytes program args options =
     report_in (input_of name bytes args) options.mode options.table program options.burden (answer_to program args options)
 
--- what is told of a schedule that is asked for
+-- the bounds of the schedules that the mode computes
 abbrev pub IsScheduleOf : Program → List ℤ → Options → Type 0
 IsScheduleOf program args options = IsScheduledIn options.mode (answer_to program args options)
 
@@ -149,7 +149,7 @@ module _ {W : Type 0} (seen : W → Seen) (old new : W) where
       pub scheduled : IsScheduleOf program args options
       pub took : TookPart (text_of name bytes program args options)
 
-    -- a schedule is asked for, and the run ended with too many strands, so many
+    -- a schedule is asked for, and the run ended with too many strands, of which this number is reported
     pub record HasNoSchedule (told : ℕ) : Type 0 where
       pub program : Program
       pub run : IsRunOf bytes args options program
@@ -186,7 +186,7 @@ module _ {W : Type 0} (seen : W → Seen) (old new : W) where
     abbrev pub IsAnalysed : Result (Unit {0}) Fault → Type 0
     IsAnalysed r = IsAnalysedIn options.mode r
 
-    -- what an analysis by a crew of so many bodies answers: the same words; a larger crew is refused
+    -- the result of an analysis by a crew of this number of bodies, which does not depend on it; a larger crew is rejected
     pub record IsAnalysedBy (bodies : ℕ) (r : Result (Unit {0}) Fault) : Type 0 where
       pub fits : bodies ≤ MOST_BODIES → IsAnalysed r
       pub refused : MOST_BODIES < bodies → r ≡ Err fault.Arguments

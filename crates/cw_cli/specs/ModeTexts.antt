@@ -9,7 +9,7 @@ use Rattle.cw_cli.specs.Forms.{in_form}
 use Rattle.cw_words.specs.declared.asked.Mode.{Mode}
 use Rattle.cw_words.specs.declared.asked.Mode.TheVariants as mode
 
--- the mode tells of what is counted of a run
+-- the mode has tables of a run
 abbrev pub HasTables : Mode → Type 0
 HasTables mode.Scale = Unit {0}
 HasTables mode.Sites = Unit {0}

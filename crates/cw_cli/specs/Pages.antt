@@ -1,9 +1,10 @@
 -- The page of a run.
-use Rattle.std.specs.Prelude.{◌≡◌, ℕ, ℤ, zero, suc, ◌==◌, ◌&&◌, nat_le, if◌then◌else◌, Bool, true, false, List, [], drop}
-use Rattle.std.specs.Prelude.{get_or, length, Some, Result, MatchResult}
+use Rattle.std.specs.Prelude.{◌≡◌, ℕ, ℤ, zero, suc, ◌==◌, ◌&&◌, ◌||◌, nat_eq, nat_le, if◌then◌else◌, Bool, true, false}
+use Rattle.std.specs.Prelude.{List, [], drop, codes, get_or, length, Some, Result, MatchResult}
 use Rattle.cw_model.specs.declared.burden.Burden.{Burden}
 use Rattle.cw_model.specs.declared.limits.TheConstants.{MOST_TOP}
 use Rattle.cw_model.specs.Syntax.{Program}
+use Rattle.cw_model.specs.Names.{same_name}
 use Rattle.cw_model.specs.Answers.{Answer, Ended, TrappedAt, OverLimit}
 use Rattle.cw_model.specs.Report as report
 use Rattle.cw_model.specs.Report.{report_text}
@@ -48,6 +49,11 @@ name_start (suc n) path = if get_or path n 0 == 47 then suc n else name_start n 
 -- the name of a file, without its folders
 abbrev pub base_name : (path : List ℕ) → List ℕ
 base_name path = drop (name_start (length path) path) path
+
+-- the name of a source: the name of its file; standard input has no path, or the path `-`
+abbrev pub source_name : (path : List ℕ) → List ℕ
+source_name path =
+    if nat_eq (length path) 0 || same_name path (codes "-") then codes "<stdin>" else base_name path
 
 -- what a page is asked for: the arguments of main, the limit and the burden of the run, the number of functions in the
 -- report of gains, and the processors up to which speedups are reported

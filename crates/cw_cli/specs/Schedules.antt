@@ -52,7 +52,7 @@ IsScheduledIn (mode.Speedup most) (Ended v lines totals t) = AreBounded t
 IsScheduledIn (mode.Page top most) (Ended v lines totals t) = AreBounded t
 IsScheduledIn _ _ = Unit {0}
 
--- a schedule is asked for, and the run ended with more strands than are kept, of which this count is told
+-- a schedule is asked for, and the run ended with more strands than are kept; this number of strands is reported
 abbrev pub HasTooManyStrands : Mode → Answer → (told : ℕ) → Type 0
 HasTooManyStrands (mode.Greedy processors) (Ended v lines totals t) told =
     (MOST_STRANDS < strand_count t) × (told ≡ capped (strand_count t))

@@ -9,7 +9,7 @@ use Rattle.cw_text.specs.Faults.{fault_status, fault_text}
 use Rattle.cw_report.specs.Seen.{Seen}
 use Rattle.cw_report.specs.Sinks.{WritesAll, WritesPart}
 use Rattle.cw_cli.specs.Analyses.{IsAnalysedBy}
-use Rattle.cw_cli.specs.Pages.{base_name}
+use Rattle.cw_cli.specs.Pages.{source_name}
 use Rattle.cw_words.specs.declared.asked.Request.{Request}
 use Rattle.cw_words.specs.declared.asked.Said.{Said}
 use Rattle.cw_words.specs.declared.asked.Said.TheVariants as said
@@ -76,7 +76,7 @@ module _ {W E : Type 0} (seen : W → Seen) (old new : W) (seen' : E → Seen) (
       unread : {status : ℕ} → reads_failed_before < reads_failed_after → new ≡ old
           → IsFileAnswer seen' old' new' asked.explain status → IsToolAnswer status
       starved : {status : ℕ} → new ≡ old → IsRefusal seen' old' new' fault.Memory status → IsToolAnswer status
-      analysed : (r : Result (Unit {0}) Fault) → IsAnalysedBy seen old new (base_name (string_bytes asked.file)) bytes asked.args.items asked.options bodies r
+      analysed : (r : Result (Unit {0}) Fault) → IsAnalysedBy seen old new (source_name (string_bytes asked.file)) bytes asked.args.items asked.options bodies r
           → IsTold seen' old' new' asked.explain (line_of r) →
           IsToolAnswer (status_of r)
 

@@ -57,7 +57,8 @@ pub(crate) fn write_tables<W: Sink>(
     out: &mut W,
 ) -> Result<(), Fault>
     requires { (W.seen out.old).failures < 2 ^ 64 - 1 }
-    ensures { (name bytes : List ℕ) → HasTables options.mode → IsCompiled bytes (code_view code.now.code)
+    ensures { (name bytes : List ℕ) → HasTables options.mode
+        → IsCompiled bytes (code_view code.now.code)
         → RunsAsCode (code_view code.now.code) args.now options.limit options.burden ended
         → IsRun W.seen out.old out.new name bytes args.now options result }
 {
@@ -68,7 +69,7 @@ pub(crate) fn write_tables<W: Sink>(
     Ok(())
 }
 
-// Writes what functions of a run of code would bring, at most as many as the mode tells.
+// Writes the gain table of a run of code.
 pub(crate) fn write_gains<W: Sink>(
     alloc: Global,
     args: &[i64],
@@ -113,7 +114,8 @@ fn report<W: Sink>(
 ) -> Result<(), Fault>
     requires { (W.seen out.old).failures < 2 ^ 64 - 1 }
     ensures idle { told_in mode table code.now ended.now ≡ [] → out.new ≡ out.old }
-    ensures answers { AnswersText W.seen out.old out.new (told_in mode table code.now ended.now) result }
+    ensures answers { AnswersText W.seen out.old out.new
+        (told_in mode table code.now ended.now) result }
 {
     match mode {
         Mode::Check

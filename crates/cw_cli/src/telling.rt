@@ -17,7 +17,7 @@ ghost use Rattle.cw_cli.specs.Tools.{
 
 use crate::analysis::analyse_named;
 use crate::misuse::misused;
-use crate::paging::base_name;
+use crate::paging::source_name;
 use cw_compile::compile;
 use cw_explain::{Named, Refused, explain, explain_unread};
 use cw_model::limits::{MOST_SOURCE_BYTES, MOST_STRANDS};
@@ -86,7 +86,7 @@ pub fn tool<
     match analyse_named(
         rt,
         alloc,
-        base_name(asked.file.as_bytes()),
+        source_name(asked.file.as_bytes()),
         bytes.as_slice(),
         args,
         asked.options,

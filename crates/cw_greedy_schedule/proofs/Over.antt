@@ -169,7 +169,7 @@ run_of_few : (p n : ℕ) (ys : Slots) → (0 < p → ready_slots ys ≡ 0) → r
 run_of_few zero n ys h = run-none n ys
 run_of_few (suc p) n ys h = let z = h (omega arith) in run-all (suc p) n ys (omega (arith, z)) ∙ lowered-none n ys (least_of_none ys z)
 
--- the first ready strands are those of the first list
+-- the first ready strands are in the first list
 pub first_over : (p b : ℕ) (xs ys : Slots) → length xs ≡ length ys → NoneFrom b xs → NoneBefore b ys → ready_slots xs ≤ p
     → (ready_slots xs < p → ready_slots ys ≡ 0) → least_first p (over xs ys) ≡ least_slot xs
 first_over p zero xs ys e f g few all =

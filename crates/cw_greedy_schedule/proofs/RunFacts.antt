@@ -106,7 +106,7 @@ module _ (code : Code) (args : List ℤ) (n : ℕ) (burden : Burden) (most : ℕ
           record { work_law = b.work_law; span_law = b.span_law; greedy_bound = b.greedy_bound };
     }
 
--- the measures of a run are those of the tree that another run recorded
+-- the tree that another run recorded has the measures of a run
 abbrev tree_in : Option Answer → Tree
 tree_in (Some (Ended v lines totals t)) = t
 tree_in _ = Leaf 0

@@ -81,7 +81,7 @@ pub record Moves (board board' : Board) : Type 0 where
   pub keeps : Keeps board'
   pub same : shown board' ≡ shown board
 
--- the first ready strands run, as many as there are processors
+-- the first ready strands run, one for each processor
 pub record Full (processors : ℕ) (board : Board) : Type 0 where
   pub few : board.count ≤ processors
   pub all : board.count < processors → ready_slots board.waiting ≡ 0

@@ -2,12 +2,12 @@
 use Rattle.std.specs.Prelude.{ℕ, zero, suc, ◌+◌, ◌^◌, nat_lt, List, [], ◌∷◌, ◌++◌}
 use Rattle.std.specs.List.{filter}
 
--- so many powers of two, from this exponent on
+-- this number of powers of two, from this exponent on
 abbrev pub powers : (exponent many : ℕ) → List ℕ
 powers exponent zero = []
 powers exponent (suc many) = 2 ^ exponent ∷ powers (exponent + 1) many
 
--- those of them that are below a number
+-- the powers that are below a number
 abbrev pub powers_below : (most exponent many : ℕ) → List ℕ
 powers_below most exponent many = filter (λ power. nat_lt power most) (powers exponent many)
 

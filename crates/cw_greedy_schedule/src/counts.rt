@@ -5,7 +5,7 @@ ghost use Rattle.cw_greedy_schedule.specs.Counts.{processor_counts};
 
 use std::alloc::{AllocError, Global};
 
-// As many powers of two are tried: the next one is above the most processors that can be asked for.
+// The number of powers of two that are tried: the next one is above the largest number of processors.
 const POWERS: u32 = 20;
 
 /// Returns the powers of two below `most`, and then `most`.

@@ -10,7 +10,8 @@ use cw_model::laws::normal_form_reads_the_same;
 
 /// States that a run that ends does no more work than its limit.
 pub fn work_is_within_its_limit()
-    ensures { (code : Code) (args : List ℤ) (n : ℕ) (tree : Tree) → Ends code args n tree → work tree ≤ n }
+    ensures { (code : Code) (args : List ℤ) (n : ℕ) (tree : Tree)
+        → Ends code args n tree → work tree ≤ n }
 {
     cost_is_the_work_that_is_shown();
     normal_form_reads_the_same();

@@ -31,9 +31,9 @@ pub struct Schedule {
     pub greedy: u64,
 }
 
-/// Runs code on these arguments within `n` instructions. Returns its work, its span and the length of the greedy
-/// schedule of its strands on this number of processors, exactly those of its strand tree. The length is at least the
-/// work divided by the number of processors and at least the span, and at most the sum of both.
+/// Runs code on these arguments within `n` instructions. Returns the work and the span of its strand tree and the length
+/// of the greedy schedule of its strands on this number of processors. The length is at least the work divided by the
+/// number of processors and at least the span, and at most the sum of both.
 ///
 /// # Errors
 ///

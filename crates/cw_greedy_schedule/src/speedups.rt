@@ -1,6 +1,6 @@
 //! Steps of a run on each of several numbers of processors, with its measures.
 
-ghost use Rattle.std.specs.Prelude.{◌≡◌, ◌≤◌, IfOk, MatchResult, All, map};
+ghost use Rattle.std.specs.Prelude.{◌≡◌, ◌≤◌, IfOk, MatchResult, All};
 ghost use Rattle.cw_model.specs.Trees.{Tree, work};
 ghost use Rattle.cw_model.specs.declared.limits.TheConstants.{MOST_BURDEN, MOST_LIMIT};
 ghost use Rattle.cw_code.specs.Code.{code_view};
@@ -26,6 +26,8 @@ use cw_runnable::verified::Verified;
 use cw_text::Fault;
 use std::alloc::{AllocError, Global};
 use std::sync::Arc;
+use std::thread;
+use std::thread::Threads;
 
 /// The steps of a run on some processors.
 #[derive(Debug, Clone, Copy, PartialEq, Eq)]
@@ -45,16 +47,69 @@ pub struct Speedup {
     pub rows: Vec<SpeedupRow>,
 }
 
-/// Runs code on these arguments within `n` instructions and returns its measures and its steps on 1, 2, 4, .. and `most`
-/// processors: those of its strand tree. The steps are the lengths of the greedy schedules that
-/// `crate::schedules::schedule_alone` returns.
+/// How the rows of a run are computed from its strands.
+pub trait Scheduler {
+    /// Returns a row for each of these numbers of processors, in their order.
+    ///
+    /// # Errors
+    ///
+    /// `AllocError` if memory runs out.
+    fn rows(
+        &self,
+        alloc: Global,
+        kept: &Strands,
+        counts: &[u64],
+    ) -> Result<Vec<SpeedupRow>, AllocError>
+        requires counts { All (λ p. 1 ≤ p) counts.now }
+        requires kept { speedups.HasSmallTree kept.now }
+        ensures { IfOk result (speedups.AreRowsOf kept.now counts.now) };
+}
+
+/// One schedule at a time.
+#[derive(Drop)]
+pub struct InTurn;
+
+impl Scheduler for InTurn {
+    fn rows(
+        &self,
+        alloc: Global,
+        kept: &Strands,
+        counts: &[u64],
+    ) -> Result<Vec<SpeedupRow>, AllocError> {
+        rows_of(alloc, kept, counts)
+    }
+}
+
+/// Schedules in parallel, by at most `threads` threads, one of which is the caller's. With one thread no other thread is
+/// started. If a thread cannot be started, the caller's thread does its schedules.
+#[derive(Drop)]
+pub struct InParallel<T> {
+    /// The handle that starts threads.
+    pub rt: T,
+    /// The maximum number of threads.
+    pub threads: usize,
+}
+
+impl<R: Threads> Scheduler for InParallel<&R> {
+    fn rows(
+        &self,
+        alloc: Global,
+        kept: &Strands,
+        counts: &[u64],
+    ) -> Result<Vec<SpeedupRow>, AllocError> {
+        rows_with(self.rt, alloc, kept, self.threads, counts)
+    }
+}
+
+/// Runs code on these arguments within `n` instructions and returns the measures of its strand tree and its steps on 1, 2,
+/// 4, .. and `most` processors, which are the lengths of greedy schedules, as `schedule_alone` returns them.
 ///
-/// `burden` is what is charged for a spawn; only the burdened span depends on it. A run of more than 1,000,000 strands has
+/// `burden` is charged for each spawn; only the burdened span depends on it. A run of more than 1,000,000 strands has
 /// measures and no steps.
 ///
 /// # Errors
 ///
-/// `Arguments` exactly if the count of the arguments is not that of `main`'s parameters, or `n` is not in 1..=2^62, or
+/// `Arguments` exactly if the number of arguments is not the number of `main`'s parameters, or `n` is not in 1..=2^62, or
 /// `most` is not in 1..=1,000,000, or more than 1,000,000,000 instructions are charged for an edge; otherwise `OverLimit`
 /// exactly if the run costs more than `n`, `Trap` exactly if it traps, with its line and the values printed before, and
 /// `Memory` if memory runs out.
@@ -73,18 +128,24 @@ pub fn speedup_alone(
     }
     let share = Arc::try_clone(&code)?;
     let ran = strands_alone(alloc, share, args, n);
-    let speedup = speedup_of_run(alloc, code, args, n, burden, most, ran)?;
+    let speedup = speedup_of_run(alloc, code, args, n, burden, most, &InTurn, ran)?;
     Ok(speedup)
 }
 
-/// Returns the same of a run of code whose strands were recorded, or which did not end, whoever ran it.
-pub fn speedup_of_run(
+/// Returns what `speedup_alone` returns, for a run of this code, by any workers, that recorded these strands or did not
+/// end. The result does not depend on the scheduler.
+///
+/// # Errors
+///
+/// Those of `speedup_alone`.
+pub fn speedup_of_run<S: Scheduler>(
     alloc: Global,
     code: Arc<Verified>,
     args: &[i64],
     n: u64,
     burden: Burden,
     most: u64,
+    scheduler: &S,
     ran: Result<Strands, Fault>,
 ) -> Result<Speedup, Fault>
     requires { RecordsAsCode (code_view code.value.code) args.now n ran }
@@ -97,20 +158,20 @@ pub fn speedup_of_run(
     }
     let strands = ran?;
     let counts = counts_up_to(alloc, most)?;
-    let rows = rows_of(alloc, &strands, counts.as_slice())?;
+    let rows = scheduler.rows(alloc, &strands, counts.as_slice())?;
     let measure = measure_of(alloc, code, args, n, burden, &strands)?;
     Ok(Speedup { measure, rows })
 }
 
-/// Returns whether the number of arguments is the number of `main`'s parameters, and the limit, the burden and the number of
-/// processors are in their ranges.
+/// Returns whether the number of arguments is the number of `main`'s parameters, and the limit, the burden and the number
+/// of processors are in their ranges.
 pub fn is_asked(code: &Verified, args: &[i64], n: u64, burden: Burden, most: u64) -> bool
     ensures { result ≡ speedups.is_asked (code_view code.now.code) args.now n burden most }
 {
     schedules::is_asked(code, args, n, most) && burden.charge <= MOST_BURDEN
 }
 
-// Returns the measures of a run: those of its record, or, if it has too many strands to record, those of a second run.
+// Returns the measures of a run, from its record or, if it has too many strands to record, from a second run.
 fn measure_of(
     alloc: Global,
     code: Arc<Verified>,
@@ -120,7 +181,7 @@ fn measure_of(
     kept: &Strands,
 ) -> Result<Readings, Fault>
     requires low { burden.charge ≤ MOST_BURDEN }
-    requires ran { (r : Records (code_view code.value.code) args.now n kept.now) × (work r.tree ≤ MOST_LIMIT) }
+    requires ran { speedups.IsSmallRecord (code_view code.value.code) args.now n kept.now }
     ensures { (r : Records (code_view code.value.code) args.now n kept.now)
         → MatchResult result (AreReadings burden r.tree)
         (speedups.IsNotMeasured (code_view code.value.code) args.now n burden) }
@@ -148,12 +209,11 @@ fn recorded_measure(alloc: Global, kept: &Strands, burden: Burden) -> Result<Rea
     })
 }
 
-// The rows of a record for these numbers of processors.
+// Returns the rows of a record for these numbers of processors.
 fn rows_of(alloc: Global, kept: &Strands, counts: &[u64]) -> Result<Vec<SpeedupRow>, AllocError>
     requires counts { All (λ p. 1 ≤ p) counts.now }
-    requires kept { (t : Tree) × (IsKept t kept.now × (work t ≤ MOST_LIMIT)) }
-    ensures { (t : Tree) → IsKept t kept.now
-        → IfOk result (λ rows. rows.items ≡ map (speedups.row_on t) counts.now) }
+    requires kept { speedups.HasSmallTree kept.now }
+    ensures { IfOk result (speedups.AreRowsOf kept.now counts.now) }
 {
     let mut rows = Vec::new(alloc);
     for processors in counts {
@@ -166,10 +226,47 @@ fn rows_of(alloc: Global, kept: &Strands, counts: &[u64]) -> Result<Vec<SpeedupR
     Ok(rows)
 }
 
-// The steps of a record on so many processors, if it has its strands.
+// Returns what `rows_of` returns, computed by at most `threads` threads: a new thread does the first rows, and the
+// caller's thread and the remaining ones do the rest in parallel.
+#[cycle(threads)]
+fn rows_with<R: Threads>(
+    rt: &R,
+    alloc: Global,
+    kept: &Strands,
+    threads: usize,
+    counts: &[u64],
+) -> Result<Vec<SpeedupRow>, AllocError>
+    requires counts { All (λ p. 1 ≤ p) counts.now }
+    requires kept { speedups.HasSmallTree kept.now }
+    ensures { IfOk result (speedups.AreRowsOf kept.now counts.now) }
+{
+    let threads = threads.min(counts.len());
+    if threads < 2 {
+        return rows_of(alloc, kept, counts);
+    }
+    let left = threads - 1;
+    let (share, rest) = counts.split_at((counts.len() - 1) / threads + 1);
+    let one = move || -> Result<Vec<SpeedupRow>, AllocError>
+        requires counts { All (λ p. 1 ≤ p) share.now }
+        requires kept { speedups.HasSmallTree kept.now }
+        ensures { IfOk result (speedups.AreRowsOf kept.entry.now share.entry.now) }
+    { rows_of(alloc, kept, share) };
+    let others = move || -> Result<Vec<SpeedupRow>, AllocError>
+        requires counts { All (λ p. 1 ≤ p) rest.now }
+        requires kept { speedups.HasSmallTree kept.now }
+        ensures { IfOk result (speedups.AreRowsOf kept.entry.now rest.entry.now) }
+    { rows_with(rt, alloc, kept, left, rest) };
+    let (first, later) = thread::join(rt, one, others);
+    let mut rows = first?;
+    let mut later = later?;
+    rows.append(&mut later)?;
+    Ok(rows)
+}
+
+// Returns the steps of a record on this number of processors, if the record has its strands.
 fn steps_on(alloc: Global, kept: &Strands, processors: u64) -> Result<Option<u64>, AllocError>
     requires processors { 1 ≤ processors }
-    requires kept { (t : Tree) × (IsKept t kept.now × (work t ≤ MOST_LIMIT)) }
+    requires kept { speedups.HasSmallTree kept.now }
     ensures { (t : Tree) → IsKept t kept.now
         → IfOk result (λ steps. steps ≡ speedups.steps_on processors t) }
 {

@@ -199,7 +199,7 @@ fn weighed(alloc: Global, burden: Burden, chunks: &[Vec<Entry>]) -> Result<Weigh
     })
 }
 
-/// Returns work and span of the strands of a record, in instructions: those of every strand tree with this record.
+/// Returns work and span of every strand tree with this record, in instructions.
 /// The time is proportional to the number of strands.
 ///
 /// # Errors
@@ -214,8 +214,8 @@ pub fn weigh(alloc: Global, kept: &Strands) -> Result<Weights, AllocError>
     Ok(weights)
 }
 
-/// Returns the burdened span of the strands of a record, in instructions: that of every strand tree with this record. The
-/// time is proportional to the number of strands.
+/// Returns the burdened span of every strand tree with this record, in instructions. The time is proportional to the number
+/// of strands.
 ///
 /// # Errors
 ///

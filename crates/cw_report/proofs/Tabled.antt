@@ -6,7 +6,7 @@ use Rattle.cw_model.specs.Report.{end_of_line}
 use Rattle.cw_report.specs.declared.column.Column.{Column}
 use Rattle.cw_report.specs.declared.aligned.SizedColumn.{SizedColumn}
 use Rattle.cw_report.specs.Aligned.{cell, first_of, padded, row_of, row_line, table, title, title_line, width}
-use Rattle.cw_report.specs.Sized.{further_cell, sized, sized_cell, sized_row, sized_rows}
+use Rattle.cw_report.specs.Sized.{further_cell, lines_in, sized, sized_cell, sized_row, sized_rows}
 
 -- a row is its first cell, the others and LF
 pub row_is : (titled : Bool) (first line : List ℕ) (column : SizedColumn) (columns : List SizedColumn)
@@ -50,16 +50,14 @@ module _ (names : List ℕ) (rows : List (List ℕ)) where
   lines columns (row ∷ some) = ap₂ (λ l more. l ++ more) (ap row_of (cells row.now columns)) (lines columns some)
 
 -- the line of titles and the lines of the rows are the table
-pub table_is : (names first : List ℕ) (rows : List (Bor (List ℕ))) (columns : List Column) (wide items : List SizedColumn) (start between all : List ℕ)
-    → first ≡ first_of (map (λ r. r.now) rows) → wide ≡ items → items ≡ map (sized names first (map (λ r. r.now) rows)) columns
-    → start ≡ [] → between ≡ start ++ sized_row true first names wide → all ≡ between ++ sized_rows first wide rows
-    → all ≡ table columns (names ∷ map (λ r. r.now) rows)
-table_is names first rows columns wide items start between all first_is same wide_is none head tail =
-    let lists = map (λ r. r.now) rows in
+pub table_is : (names first : List ℕ) (rows : List (Bor (List ℕ))) (columns : List Column) (wide items : List SizedColumn) (all : List ℕ)
+    → first ≡ first_of (lines_in rows) → wide ≡ items → items ≡ map (sized names first (lines_in rows)) columns
+    → all ≡ sized_row true first names wide ++ sized_rows first wide rows → all ≡ table columns (names ∷ lines_in rows)
+table_is names first rows columns wide items all first_is same wide_is laid =
+    let lists = lines_in rows in
     let sizes : wide ≡ map (size names lists) columns = same ∙ wide_is ∙ ap (λ f. map (sized names f lists) columns) first_is in
-    let titled : between ≡ title_line names lists columns =
-    head ∙ ap₂ (λ s f. s ++ sized_row true f names wide) none first_is ∙ ap (sized_row true (first_of lists) names) sizes
-    ∙ ap row_of (titles names lists columns) in
-    tail ∙ ap₂ (λ b f. b ++ sized_rows f wide rows) titled first_is
+    let titled : sized_row true first names wide ≡ title_line names lists columns =
+    ap (λ f. sized_row true f names wide) first_is ∙ ap (sized_row true (first_of lists) names) sizes ∙ ap row_of (titles names lists columns) in
+    laid ∙ ap₂ (λ b f. b ++ sized_rows f wide rows) titled first_is
     ∙ ap (λ w. title_line names lists columns ++ sized_rows (first_of lists) w rows) sizes
     ∙ ap (λ l. title_line names lists columns ++ l) (lines names lists columns rows)

@@ -60,13 +60,17 @@ tenths n = decimal (n / 10) ++ (codes "." ++ (48 + n % 10) ∷ [])
 abbrev pub percent : (part whole : ℕ) → List ℕ
 percent part whole = tenths (ratio part whole)
 
+-- the share that a count has of another, from their digits
+abbrev pub share : (part whole : List ℕ) → List ℕ
+share part whole = percent (count part) (count whole)
+
 -- the cell of a column in a row, the line of the row, if `first` is the line of the first row
 abbrev pub cell : (first : List ℕ) → Column → (line : List ℕ) → List ℕ
 cell first (column.Word n) line = word (field n line)
 cell first (column.Label n) line = field n line
 cell first (column.Number n) line = number (field n line)
-cell first (column.OfWork n whole) line = percent (count (field n line)) (count (field whole first))
-cell first (column.OfSpan n whole) line = percent (count (field n line)) (count (field whole first))
+cell first (column.OfWork n whole) line = share (field n line) (field whole first)
+cell first (column.OfSpan n whole) line = share (field n line) (field whole first)
 
 -- the title of a column, if this line has the names of the fields
 abbrev pub title : Column → (names : List ℕ) → List ℕ

@@ -1,8 +1,15 @@
 -- The columns of the aligned reports, and the text of a report in either form.
-use Rattle.std.specs.Prelude.{ℕ, Bool, true, false, List, [], ◌∷◌}
+use Rattle.std.specs.Prelude.{ℕ, Bool, true, false, List, [], ◌∷◌, Result}
+use Rattle.cw_text.specs.declared.fault.Fault.{Fault}
+use Rattle.cw_runnable.specs.declared.verified.Verified.{Verified}
+use Rattle.cw_machine.specs.declared.alone.Ended.{Ended}
+use Rattle.cw_gains.specs.declared.gains.Gains.{Gains}
+use Rattle.cw_greedy_schedule.specs.declared.speedups.Speedup.{Speedup}
 use Rattle.cw_report.specs.declared.column.Column.{Column}
 use Rattle.cw_report.specs.declared.column.Column.TheVariants.{Word, Label, Number, OfWork, OfSpan}
 use Rattle.cw_report.specs.Aligned.{aligned}
+use Rattle.cw_report.specs.Texts.{gain_report, scale_report, sites_report}
+use Rattle.cw_report.specs.Speedups.{speedup_report}
 
 -- the columns of `scale`: the fields of its CSV
 abbrev pub scale_columns : List Column
@@ -29,3 +36,16 @@ abbrev pub shown : List Column → (csv : List ℕ) → (table : Bool) → List 
 shown columns [] table = []
 shown columns (c ∷ cs) false = c ∷ cs
 shown columns (c ∷ cs) true = aligned columns (c ∷ cs)
+
+-- the reports of a run in either form
+abbrev pub scale_in_form : Result Ended Fault → (table : Bool) → List ℕ
+scale_in_form ended table = shown scale_columns (scale_report ended) table
+
+abbrev pub sites_in_form : Verified → Result Ended Fault → (table : Bool) → List ℕ
+sites_in_form verified ended table = shown sites_columns (sites_report verified ended) table
+
+abbrev pub gain_in_form : Result Gains Fault → (table : Bool) → List ℕ
+gain_in_form gains table = shown gain_columns (gain_report gains) table
+
+abbrev pub speedup_in_form : Result Speedup Fault → (table : Bool) → List ℕ
+speedup_in_form speedup table = shown speedup_columns (speedup_report speedup) table

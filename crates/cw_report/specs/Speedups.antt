@@ -46,7 +46,7 @@ speedup_line m row =
     csv_line (decimal row.processors ∷ steps_text row.steps ∷ steps_speedup m.work row.steps
     ∷ bound_text row.processors m.work m.span ∷ decimal burdened ∷ parallelism m.work burdened ∷ [])
 
--- those of several
+-- the lines of several numbers of processors
 abbrev pub speedup_lines : Readings → List SpeedupRow → List ℕ
 speedup_lines m [] = []
 speedup_lines m (row ∷ rows) = speedup_line m row ++ speedup_lines m rows

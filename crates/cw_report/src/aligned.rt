@@ -1,9 +1,10 @@
 //! Aligned tables, which are made from the CSV text of a report.
 
-ghost use Rattle.std.specs.Prelude.{◌≡◌, ◌∷◌, IfOk, map, replicate};
+ghost use Rattle.std.specs.Prelude.{◌≡◌, IfOk, replicate};
 ghost use Rattle.cw_report.specs.Aligned as aligned;
 ghost use Rattle.cw_report.specs.Texts.{Grows};
-ghost use Rattle.cw_report.specs.Sized.{further_cell, further_cells, sized, sized_cell, sized_row, sized_rows};
+ghost use Rattle.cw_report.specs.Sized.{fitted, further_cell, further_cells, lines_in, sized, sized_cell, sized_row};
+ghost use Rattle.cw_report.specs.Sized.{AreSized, IsTable};
 
 use crate::cells::{after, cell, end_at, title};
 use crate::column::Column;
@@ -33,7 +34,7 @@ pub fn aligned(alloc: Global, columns: &[Column], csv: &[u8]) -> Result<Vec<u8>,
 
 // Returns the lines of a text.
 fn lines_of(alloc: Global, text: &[u8]) -> Result<Vec<&[u8]>, AllocError>
-    ensures { IfOk result (λ lines. map (λ l. l.now) lines.items ≡ aligned.lines_of text.now) }
+    ensures { IfOk result (λ lines. lines_in lines.items ≡ aligned.lines_of text.now) }
 {
     let mut lines = Vec::new(alloc);
     let mut rest = text;
@@ -55,20 +56,22 @@ fn table(
     names: &[u8],
     rows: &[&[u8]],
 ) -> Result<Vec<u8>, AllocError>
-    ensures { IfOk result (λ text. text.items ≡ aligned.table columns.now (names.now ∷ map (λ l. l.now) rows.now)) }
+    ensures { IfOk result (IsTable columns.now names.now rows.now) }
 {
     let first = first_of(rows);
     let wide = all_sized(alloc, columns, names, first, rows)?;
     let columns = wide.as_slice();
     let mut text = Vec::new(alloc);
     push_row(alloc, &mut text, columns, true, first, names)?;
-    push_rows(alloc, &mut text, columns, first, rows)?;
+    for row in rows {
+        push_row(alloc, &mut text, columns, false, first, row)?;
+    }
     Ok(text)
 }
 
 // Returns the line of the first row, if there are rows.
 fn first_of<'a>(rows: &[&'a [u8]]) -> &'a [u8]
-    ensures { result.now ≡ aligned.first_of (map (λ l. l.now) rows.now) }
+    ensures { result.now ≡ aligned.first_of (lines_in rows.now) }
 {
     match rows.split_first() {
         Some((first, _)) => first,
@@ -84,7 +87,7 @@ fn all_sized(
     first: &[u8],
     rows: &[&[u8]],
 ) -> Result<Vec<SizedColumn>, AllocError>
-    ensures { IfOk result (λ made. made.items ≡ map (sized names.now first.now (map (λ l. l.now) rows.now)) columns.now) }
+    ensures { IfOk result (AreSized names.now first.now rows.now columns.now) }
 {
     let mut made = Vec::new(alloc);
     for column in columns {
@@ -102,7 +105,7 @@ fn sized(
     first: &[u8],
     rows: &[&[u8]],
 ) -> Result<SizedColumn, AllocError>
-    ensures { IfOk result (λ made. made ≡ sized names.now first.now (map (λ l. l.now) rows.now) column) }
+    ensures { IfOk result (λ made. made ≡ sized names.now first.now (lines_in rows.now) column) }
 {
     let cells = longest(alloc, first, column, rows)?;
     Ok(SizedColumn {
@@ -113,7 +116,7 @@ fn sized(
 
 // Returns the length of the longest cell of a column.
 fn longest(alloc: Global, first: &[u8], column: Column, rows: &[&[u8]]) -> Result<usize, AllocError>
-    ensures { IfOk result (λ n. n ≡ aligned.longest first.now column (map (λ l. l.now) rows.now)) }
+    ensures { IfOk result (λ n. n ≡ aligned.longest first.now column (lines_in rows.now)) }
 {
     let mut longest = 0;
     for row in rows {
@@ -121,22 +124,6 @@ fn longest(alloc: Global, first: &[u8], column: Column, rows: &[&[u8]]) -> Resul
         longest = text.len().max(longest);
     }
     Ok(longest)
-}
-
-// Adds the line of each row.
-fn push_rows(
-    alloc: Global,
-    text: &mut Vec<u8>,
-    columns: &[SizedColumn],
-    first: &[u8],
-    rows: &[&[u8]],
-) -> Result<(), AllocError>
-    ensures { Grows text.old text.new (sized_rows first.now columns.now rows.now) result }
-{
-    for row in rows {
-        push_row(alloc, text, columns, false, first, row)?;
-    }
-    Ok(())
 }
 
 // Adds the line of titles, or the line of a row if `first` is the line of the first row.
@@ -212,7 +199,7 @@ fn push_cell(
 
 // Adds a text and the spaces that fill its column.
 fn push_padded(text: &mut Vec<u8>, column: &SizedColumn, cell: &[u8]) -> Result<(), AllocError>
-    ensures { Grows text.old text.new (aligned.padded column.now.column column.now.width cell.now) result }
+    ensures { Grows text.old text.new (fitted column.now cell.now) result }
 {
     let spaces = column.width.saturating_sub(cell.len());
     if let Column::Word(_) = column.column {
@@ -224,7 +211,7 @@ fn push_padded(text: &mut Vec<u8>, column: &SizedColumn, cell: &[u8]) -> Result<
     }
 }
 
-// Adds so many spaces.
+// Adds `count` spaces.
 fn push_spaces(text: &mut Vec<u8>, count: usize) -> Result<(), AllocError>
     ensures { Grows text.old text.new (replicate count 32) result }
 {

@@ -3,11 +3,10 @@
 ghost use Rattle.std.specs.Prelude.{◌≡◌, ℕ, List, [], ◌<◌, ◌-◌, ◌^◌, IfErr};
 ghost use Rattle.cw_model.specs.Report.{check_text};
 ghost use Rattle.cw_report.specs.Sinks.{Writes};
-ghost use Rattle.cw_report.specs.Texts.{Makes, gain_report, run_report, scale_report, schedule_report, sites_report};
+ghost use Rattle.cw_report.specs.Texts.{Makes, run_report, schedule_report};
 ghost use Rattle.cw_report.specs.Answers.{AnswersText};
-ghost use Rattle.cw_report.specs.Layouts.{gain_columns, scale_columns, shown, sites_columns, speedup_columns};
+ghost use Rattle.cw_report.specs.Layouts.{gain_in_form, scale_in_form, shown, sites_in_form, speedup_in_form};
 ghost use Rattle.cw_report.specs.Pages.{page_report};
-ghost use Rattle.cw_report.specs.Speedups.{speedup_report};
 
 use crate::aligned::aligned;
 use crate::column::{Column, of_gain, of_scale, of_sites, of_speedup};
@@ -29,13 +28,11 @@ use cw_runnable::verified::Verified;
 use cw_text::Fault;
 use std::alloc::Global;
 
-/// Writes the report of a check: `ok` and a line feed. Allocates no memory.
+/// Writes the report of a check: `ok` and a line feed. No memory is taken.
 ///
-/// Fewer than 2^64 - 1 writes to the sink failed before.
-///
-/// # Errors
-///
-/// `Write` if a write failed or took no byte: the sink took a beginning of the text, and counts one more failed write.
+/// The error is `Write` where a write failed or took no byte: the sink took a beginning of the text,
+/// and counts one more failed write. It asks that fewer than 2^64 - 1 writes to the sink failed
+/// before.
 pub fn ok<W: Sink>(to: &mut W) -> Result<(), Fault>
     requires { (W.seen to.old).failures < 2 ^ 64 - 1 }
     ensures { Writes (W.seen to.old) (W.seen to.new) check_text result }
@@ -43,16 +40,16 @@ pub fn ok<W: Sink>(to: &mut W) -> Result<(), Fault>
     write_text(to, b"ok\n")
 }
 
-/// Writes the report of a run: the values that it printed, the total of each reducer of the code and the value of `main`,
-/// each on a line; or, if the run trapped, only the values that it printed before. At any other fault it writes nothing
-/// and does not use the sink. It never writes the line of the fault: `write_fault` does.
+/// Writes the report of a run: the values that it printed, the total of each reducer of the code, and
+/// the value of `main`, each on a line, or, where it trapped, the values that it printed before. Of any
+/// other fault nothing is written, and the sink is left alone; the line of the fault itself is for
+/// `write_fault`.
 ///
-/// Fewer than 2^64 - 1 writes to the sink failed before.
+/// The error is `Memory` where there is none for the text: nothing was written then. It is `Write`
+/// where a write failed or took no byte: the sink took a beginning of the text, and counts one more
+/// failed write.
 ///
-/// # Errors
-///
-/// `Memory` if memory runs out for the text: nothing was written then. `Write` if a write failed or took no byte: the sink
-/// took a beginning of the text, and counts one more failed write.
+/// It asks that fewer than 2^64 - 1 writes to the sink failed before.
 pub fn answer<W: Sink>(
     alloc: Global,
     code: &Verified,
@@ -70,16 +67,15 @@ pub fn answer<W: Sink>(
     }
 }
 
-/// Writes work, span and parallelism of a run, with and without the burden: a line for the whole run, with an empty tag,
-/// and a line for each tag of its code. If the run did not end, it writes nothing and does not use the sink.
+/// Writes the work and the span of a run, with and without burdens, and its parallelism: on one line of the whole run,
+/// with an empty tag, and then on one for each tag of its code. Of a run that did not end nothing is written, and the
+/// sink is left alone.
 /// With `table` the columns are aligned, otherwise the text is CSV.
 ///
-/// Fewer than 2^64 - 1 writes to the sink failed before.
+/// The error is `Memory` where there is none for the text: nothing was written then. It is `Write` where a write failed
+/// or took no byte: the sink took a beginning of the text, and counts one more failed write.
 ///
-/// # Errors
-///
-/// `Memory` if memory runs out for the text: nothing was written then. `Write` if a write failed or took no byte: the sink
-/// took a beginning of the text, and counts one more failed write.
+/// It asks that fewer than 2^64 - 1 writes to the sink failed before.
 pub fn scale<W: Sink>(
     alloc: Global,
     ended: &Result<Ended, Fault>,
@@ -87,8 +83,8 @@ pub fn scale<W: Sink>(
     to: &mut W,
 ) -> Result<(), Fault>
     requires { (W.seen to.old).failures < 2 ^ 64 - 1 }
-    ensures idle { shown scale_columns (scale_report ended.now) table ≡ [] → to.new ≡ to.old }
-    ensures answers { AnswersText W.seen to.old to.new (shown scale_columns (scale_report ended.now) table) result }
+    ensures idle { scale_in_form ended.now table ≡ [] → to.new ≡ to.old }
+    ensures answers { AnswersText W.seen to.old to.new (scale_in_form ended.now table) result }
 {
     match ended {
         Ok(ended) => tell(
@@ -99,16 +95,15 @@ pub fn scale<W: Sink>(
     }
 }
 
-/// Writes the measures of each call site of a run: a line for the call of `main` by the run itself, with the number 0, and
-/// a line for each call site of the code. If the run did not end, it writes nothing and does not use the sink.
+/// Writes what is counted of each call site over a run: on one line of the call of `main` by the run itself, with the
+/// number 0, and then on one for each call site of the code. Of a run that did not end nothing is written, and the sink
+/// is left alone.
 /// With `table` the columns are aligned, otherwise the text is CSV.
 ///
-/// Fewer than 2^64 - 1 writes to the sink failed before.
+/// The error is `Memory` where there is none for the text: nothing was written then. It is `Write` where a write failed
+/// or took no byte: the sink took a beginning of the text, and counts one more failed write.
 ///
-/// # Errors
-///
-/// `Memory` if memory runs out for the text: nothing was written then. `Write` if a write failed or took no byte: the sink
-/// took a beginning of the text, and counts one more failed write.
+/// It asks that fewer than 2^64 - 1 writes to the sink failed before.
 pub fn sites<W: Sink>(
     alloc: Global,
     code: &Verified,
@@ -117,8 +112,9 @@ pub fn sites<W: Sink>(
     to: &mut W,
 ) -> Result<(), Fault>
     requires { (W.seen to.old).failures < 2 ^ 64 - 1 }
-    ensures idle { shown sites_columns (sites_report code.now ended.now) table ≡ [] → to.new ≡ to.old }
-    ensures answers { AnswersText W.seen to.old to.new (shown sites_columns (sites_report code.now ended.now) table) result }
+    ensures idle { sites_in_form code.now ended.now table ≡ [] → to.new ≡ to.old }
+    ensures answers { AnswersText W.seen to.old to.new
+        (sites_in_form code.now ended.now table) result }
 {
     match ended {
         Ok(ended) => tell(
@@ -134,15 +130,14 @@ pub fn sites<W: Sink>(
     }
 }
 
-/// Writes the number of processors, the work, the span and the length of the greedy schedule of a run, on one line. If the
-/// run did not end or has too many strands, it writes nothing and does not use the sink.
+/// Writes the work, the span and the length of the greedy schedule of a run, with the processors that it was asked for,
+/// each in its column on one line. Of a run that did not end, or has too many strands, nothing is written, and the sink
+/// is left alone.
 ///
-/// Fewer than 2^64 - 1 writes to the sink failed before.
+/// The error is `Memory` where there is none for the text: nothing was written then. It is `Write` where a write failed
+/// or took no byte: the sink took a beginning of the text, and counts one more failed write.
 ///
-/// # Errors
-///
-/// `Memory` if memory runs out for the text: nothing was written then. `Write` if a write failed or took no byte: the sink
-/// took a beginning of the text, and counts one more failed write.
+/// It asks that fewer than 2^64 - 1 writes to the sink failed before.
 pub fn schedule<W: Sink>(
     alloc: Global,
     schedule: &Result<Schedule, Fault>,
@@ -158,8 +153,8 @@ pub fn schedule<W: Sink>(
     }
 }
 
-/// Writes the gain table of a run: a line for the run itself, without a name, and a line for each reported function.
-/// If the run did not end, it writes nothing and does not use the sink.
+/// Writes the gain table of a run: a line for the run itself, without a name, and one for each listed function. If the run
+/// did not end, it writes nothing and does not use the sink.
 /// With `table` the columns are aligned, otherwise the text is CSV.
 ///
 /// Fewer than 2^64 - 1 writes to the sink failed before.
@@ -175,8 +170,8 @@ pub fn gain<W: Sink>(
     to: &mut W,
 ) -> Result<(), Fault>
     requires { (W.seen to.old).failures < 2 ^ 64 - 1 }
-    ensures idle { shown gain_columns (gain_report gains.now) table ≡ [] → to.new ≡ to.old }
-    ensures answers { AnswersText W.seen to.old to.new (shown gain_columns (gain_report gains.now) table) result }
+    ensures idle { gain_in_form gains.now table ≡ [] → to.new ≡ to.old }
+    ensures answers { AnswersText W.seen to.old to.new (gain_in_form gains.now table) result }
 {
     match gains {
         Ok(gains) => tell(
@@ -205,8 +200,8 @@ pub fn speedup<W: Sink>(
     to: &mut W,
 ) -> Result<(), Fault>
     requires { (W.seen to.old).failures < 2 ^ 64 - 1 }
-    ensures idle { shown speedup_columns (speedup_report speedup.now) table ≡ [] → to.new ≡ to.old }
-    ensures answers { AnswersText W.seen to.old to.new (shown speedup_columns (speedup_report speedup.now) table) result }
+    ensures idle { speedup_in_form speedup.now table ≡ [] → to.new ≡ to.old }
+    ensures answers { AnswersText W.seen to.old to.new (speedup_in_form speedup.now table) result }
 {
     match speedup {
         Ok(speedup) => tell(

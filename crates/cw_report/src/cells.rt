@@ -11,7 +11,7 @@ use cw_model::limits::MOST_LIMIT;
 use itoa::Buffer;
 use std::alloc::{AllocError, Global};
 
-// Returns the place of the first such byte, or the length of the text if there is none.
+// Returns the place of the first byte `at`, or the length of the text if it has no such byte.
 pub(crate) fn end_at(text: &[u8], at: u8) -> usize
     ensures value { result ≡ position_or_len (λ b. b == at) text.now }
     ensures bound { result ≤ length text.now }
@@ -123,7 +123,7 @@ fn push_separated(made: &mut Vec<u8>, digits: &[u8]) -> Result<(), AllocError>
 
 // Returns the share that a count has of another, in percent.
 fn percent(alloc: Global, part: &[u8], whole: &[u8]) -> Result<Vec<u8>, AllocError>
-    ensures { IfOk result (λ made. made.items ≡ aligned.percent (aligned.count part.now) (aligned.count whole.now)) }
+    ensures { IfOk result (λ made. made.items ≡ aligned.share part.now whole.now) }
 {
     let share = ratio(count(part), u128::from(count(whole)));
     let mut buffer = Buffer::new();

@@ -1,4 +1,4 @@
--- The numbers so far, and those of the powers that are left.
+-- The numbers so far, and the powers that are left.
 use Rattle.std.proofs.Common.{◌≡◌, ◌++◌, ◌-◌}
 use Rattle.cw_greedy_schedule.specs.Counts.{powers_below}
 use Rattle.cw_greedy_schedule.proofs.counts.counts_up_to.Given as goal

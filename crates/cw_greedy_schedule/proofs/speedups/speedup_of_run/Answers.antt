@@ -9,7 +9,7 @@ use Rattle.cw_greedy_schedule.proofs.RunFacts.{low_charge, not_measured, not_rec
 use Rattle.cw_greedy_schedule.proofs.speedups.speedup_of_run.Goals as goal
 
 pub returns-in_err-strands : goal.returns-in_err-strands
-returns-in_err-strands c =
+returns-in_err-strands g c =
     let code = code_view c.args.code.value.code in
     let asked : is_asked code c.args.args.now c.args.n c.args.burden c.args.most ≡ true =
     subst (λ v. is_asked (code_view v.code) c.args.args.now c.args.n c.args.burden c.args.most ≡ true) c.deref.ensures (sym c.is_asked.ensures ∙ c.if-not-is_asked.false) in
@@ -18,7 +18,7 @@ returns-in_err-strands c =
     (not_recorded code c.args.args.now c.args.n c.args.burden c.args.most asked fault (subst (RecordsAsCode code c.args.args.now c.args.n) c.in_err-strands.was c.requires)) c.from_residual.ensures.1
 
 pub returns-in_err-measure : goal.returns-in_err-measure
-returns-in_err-measure c =
+returns-in_err-measure g c =
     let code = code_view c.args.code.value.code in
     let asked : is_asked code c.args.args.now c.args.n c.args.burden c.args.most ≡ true =
     subst (λ v. is_asked (code_view v.code) c.args.args.now c.args.n c.args.burden c.args.most ≡ true) c.deref.ensures (sym c.is_asked.ensures ∙ c.if-not-is_asked.false) in
@@ -29,14 +29,14 @@ returns-in_err-measure c =
     (not_measured code c.args.args.now c.args.n c.args.burden c.args.most asked fault (c.in_err-measure.ensures ran)) c.from_residual-in_err-measure.ensures.1
 
 pub measure_of-requires-clause-low : goal.measure_of-requires-clause-low
-measure_of-requires-clause-low c =
+measure_of-requires-clause-low g c =
     let code = code_view c.args.code.value.code in
     let asked : is_asked code c.args.args.now c.args.n c.args.burden c.args.most ≡ true =
     subst (λ v. is_asked (code_view v.code) c.args.args.now c.args.n c.args.burden c.args.most ≡ true) c.deref.ensures (sym c.is_asked.ensures ∙ c.if-not-is_asked.false) in
     low_charge code c.args.args.now c.args.n c.args.burden c.args.most asked
 
 pub measure_of-requires-clause-ran : goal.measure_of-requires-clause-ran
-measure_of-requires-clause-ran c =
+measure_of-requires-clause-ran g c =
     let code = code_view c.args.code.value.code in
     let asked : is_asked code c.args.args.now c.args.n c.args.burden c.args.most ≡ true =
     subst (λ v. is_asked (code_view v.code) c.args.args.now c.args.n c.args.burden c.args.most ≡ true) c.deref.ensures (sym c.is_asked.ensures ∙ c.if-not-is_asked.false) in
@@ -44,16 +44,16 @@ measure_of-requires-clause-ran c =
     let ran : Records code c.args.args.now c.args.n kept = subst (RecordsAsCode code c.args.args.now c.args.n) c.in_ok-strands.was c.requires in
     (ran, small_work code c.args.args.now c.args.n c.args.burden c.args.most asked kept ran c.work_is_within_its_limit.ensures)
 
-pub rows_of-requires-clause-counts : goal.rows_of-requires-clause-counts
-rows_of-requires-clause-counts c =
+pub rows-requires-clause-counts : goal.rows-requires-clause-counts
+rows-requires-clause-counts g c =
     let code = code_view c.args.code.value.code in
     let asked : is_asked code c.args.args.now c.args.n c.args.burden c.args.most ≡ true =
     subst (λ v. is_asked (code_view v.code) c.args.args.now c.args.n c.args.burden c.args.most ≡ true) c.deref.ensures (sym c.is_asked.ensures ∙ c.if-not-is_asked.false) in
     let some = some_processors c.args.most (some_processor code c.args.args.now c.args.n c.args.burden c.args.most asked) in
     subst (λ counts. All (λ p. 1 ≤ p) counts) (sym (c.as_slice.ensures.value ∙ c.in_ok-counts.ensures)) some
 
-pub rows_of-requires-clause-kept : goal.rows_of-requires-clause-kept
-rows_of-requires-clause-kept c =
+pub rows-requires-clause-kept : goal.rows-requires-clause-kept
+rows-requires-clause-kept g c =
     let code = code_view c.args.code.value.code in
     let asked : is_asked code c.args.args.now c.args.n c.args.burden c.args.most ≡ true =
     subst (λ v. is_asked (code_view v.code) c.args.args.now c.args.n c.args.burden c.args.most ≡ true) c.deref.ensures (sym c.is_asked.ensures ∙ c.if-not-is_asked.false) in
@@ -62,7 +62,7 @@ rows_of-requires-clause-kept c =
     tree_of_record code c.args.args.now c.args.n c.args.burden c.args.most asked kept ran c.work_is_within_its_limit.ensures
 
 pub returns : goal.returns
-returns c =
+returns g c =
     let code = code_view c.args.code.value.code in
     let asked : is_asked code c.args.args.now c.args.n c.args.burden c.args.most ≡ true =
     subst (λ v. is_asked (code_view v.code) c.args.args.now c.args.n c.args.burden c.args.most ≡ true) c.deref.ensures (sym c.is_asked.ensures ∙ c.if-not-is_asked.false) in

@@ -1,4 +1,4 @@
--- The lines so far, and those of the rest.
+-- The lines so far, and the lines of the rest.
 use Rattle.std.proofs.Common.{◌≡◌, ◌++◌, map, length}
 use Rattle.cw_report.specs.Aligned as aligned
 use Rattle.cw_report.proofs.aligned.lines_of.Given as goal

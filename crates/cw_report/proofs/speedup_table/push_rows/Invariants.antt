@@ -1,4 +1,4 @@
--- The lines so far, and those of the rows that are left.
+-- The lines so far, and the lines of the rows that are left.
 use Rattle.std.proofs.Common.{drop}
 use Rattle.cw_report.specs.Speedups.{speedup_lines}
 use Rattle.cw_report.proofs.Lines.{Towards}

@@ -1,8 +1,0 @@
--- The lines so far, and those that are left.
-use Rattle.std.proofs.Common.{◌≡◌, ◌++◌, drop}
-use Rattle.cw_report.specs.Sized.{sized_rows}
-use Rattle.cw_report.proofs.aligned.push_rows.Given as goal
-
-abbrev pub invariant-loop-row : goal.invariant-loop-row
-invariant-loop-row l =
-    l.text.items ++ sized_rows l.first l.columns (drop l.row-index l.rows) ≡ l.fn.text.items ++ sized_rows l.first l.columns l.rows
