@@ -195,7 +195,8 @@ fn run_plain<W: Sink>(
     out: &mut W,
 ) -> Result<(), Fault>
     requires { (W.seen out.old).failures < 2 ^ 64 - 1 }
-    ensures { (name bytes : List ℕ) → options.mode ≡ mode.Run → IsCompiled bytes (code_view code.code)
+    ensures { (name bytes : List ℕ) → options.mode ≡ mode.Run
+        → IsCompiled bytes (code_view code.code)
         → IsRun W.seen out.old out.new name bytes args.now options result }
 {
     let code = Arc::new(alloc, code)?;
@@ -213,7 +214,8 @@ fn run<W: Sink>(
     out: &mut W,
 ) -> Result<(), Fault>
     requires { (W.seen out.old).failures < 2 ^ 64 - 1 }
-    ensures { (name bytes : List ℕ) → HasTables options.mode → IsCompiled bytes (code_view code.code)
+    ensures { (name bytes : List ℕ) → HasTables options.mode
+        → IsCompiled bytes (code_view code.code)
         → IsRun W.seen out.old out.new name bytes args.now options result }
 {
     let code = Arc::new(alloc, code)?;
@@ -240,7 +242,8 @@ fn run_plain_with<
 ) -> Result<(), Fault>
     requires out { (W.seen out.old).failures < 2 ^ 64 - 1 }
     requires few { length crew.items ≤ MOST_BODIES }
-    ensures { (name bytes : List ℕ) → options.mode ≡ mode.Run → IsCompiled bytes (code_view code.code)
+    ensures { (name bytes : List ℕ) → options.mode ≡ mode.Run
+        → IsCompiled bytes (code_view code.code)
         → IsRun W.seen out.old out.new name bytes args.now options result }
 {
     let code = Arc::new(alloc, code)?;
@@ -276,7 +279,8 @@ fn run_with<
 ) -> Result<(), Fault>
     requires out { (W.seen out.old).failures < 2 ^ 64 - 1 }
     requires few { length crew.items ≤ MOST_BODIES }
-    ensures { (name bytes : List ℕ) → HasTables options.mode → IsCompiled bytes (code_view code.code)
+    ensures { (name bytes : List ℕ) → HasTables options.mode
+        → IsCompiled bytes (code_view code.code)
         → IsRun W.seen out.old out.new name bytes args.now options result }
 {
     let code = Arc::new(alloc, code)?;
