@@ -1,18 +1,27 @@
 //! From bytes to a report.
 
-ghost use Rattle.std.specs.Prelude.{◌≡◌, ◌<◌, ◌-◌, ◌^◌, ℕ, List, [], MatchResult, length};
+ghost use Rattle.std.specs.Prelude.{◌≡◌, ◌<◌, ◌≤◌, ◌-◌, ◌^◌, ℕ, List, [], MatchResult, length};
 ghost use Rattle.cw_code.specs.Code.{code_view};
+ghost use Rattle.cw_pool.specs.declared.run.TheConstants.{MOST_BODIES};
 ghost use Rattle.cw_words.specs.declared.asked.Mode.TheVariants as mode;
 ghost use Rattle.cw_compile.specs.Compiled.{IsCompiled, IsMade};
 ghost use Rattle.cw_cli.specs.Analyses.{IsModeInRange};
 ghost use Rattle.cw_cli.specs.Analyses.{IsAnalysed, IsAnalysedBy, IsRun};
 ghost use Rattle.cw_cli.specs.ModeTexts.{HasTables};
 ghost use Rattle.cw_gains.specs.Gains.{HasNumberedSites};
+ghost use Rattle.cw_greedy_schedule.specs.Schedules.{SchedulesAsCode};
+ghost use Rattle.cw_greedy_schedule.specs.Speedups.{SpeedsUpAsCode};
 
-use crate::paging::run_page;
+use crate::paging::{run_page, run_page_with};
 use crate::reporting::{are_words, write_gains, write_tables, write_values};
-use crate::runner::{Alone, Crew, Runner, gains_of, schedule_by, speedup_by};
 use cw_compile::{Compiled, compile_with_heads};
+use cw_gains::gains::{gains_of_run, gains_of_run_with};
+use cw_greedy_schedule::schedules::{Schedule, is_asked, schedule_alone, schedule_of_run};
+use cw_greedy_schedule::speedups;
+use cw_greedy_schedule::speedups::{InParallel, Speedup, speedup_alone, speedup_of_run};
+use cw_machine::alone::run_alone;
+use cw_machine::values::values_alone;
+use cw_model::burden::Burden;
 use cw_model::laws::derived_sites_are_numbered;
 use cw_model::limits::{MOST_BURDEN, MOST_TOP};
 use cw_pool::crew::Body;
@@ -29,19 +38,17 @@ use std::thread::Threads;
 /// Analyses the program that these bytes are the source of, and writes the report of the mode, with
 /// one worker.
 ///
+/// The errors, in this order: what `compile` answers; and but for a check, which reads no arguments
+/// and runs nothing, `Arguments` where the count of the arguments is not that of `main`'s
+/// parameters, or an option is out of range; `OverLimit` where the serial elision costs more than
+/// the limit, `Trap` where it traps: in mode `Run` after what it printed before was written, else
+/// with nothing written; `Strands`, with how many, in mode `Greedy` where it ends with more than
+/// 1,000,000 of them.
+///
+/// `Write` where a write of the report failed, and `Memory` where memory ran out: no byte was
+/// written then. Nothing is written at any other error but `Trap` and `Write`.
+///
 /// Fewer than 2^64 - 1 writes to the sink failed before.
-///
-/// # Errors
-///
-/// In this order: the errors of `compile`; then, except in a check, which reads no arguments and runs nothing:
-///
-/// - `Arguments` if the number of arguments is not the number of `main`'s parameters, or an option is out of range;
-/// - `OverLimit` if the serial elision costs more than the limit;
-/// - `Trap` if it traps. In mode `Run` the values that it printed before are written;
-/// - `Strands`, with their number, in mode `Greedy`, if it ends with more than 1,000,000 strands.
-///
-/// `Write` if a write of the report failed, and `Memory` if memory ran out. Only `Trap` in mode `Run` and `Write` leave
-/// bytes in the sink.
 pub fn analyse_alone<W: Sink>(
     alloc: Global,
     bytes: &[u8],
@@ -71,27 +78,38 @@ pub fn analyse_named_alone<W: Sink>(
     requires { (W.seen out.old).failures < 2 ^ 64 - 1 }
     ensures { IsAnalysed W.seen out.old out.new name.now bytes.now args.now options result }
 {
-    analyse_by(alloc, &mut Alone, name, bytes, args, options, out)
+    derived_sites_are_numbered();
+    let made = compile_with_heads(alloc, bytes)?;
+    match options.mode {
+        Mode::Check => ok(out),
+        Mode::Run => run_plain(alloc, made.code, args, options, out),
+        Mode::Scale | Mode::Sites => run(alloc, made.code, args, options, out),
+        Mode::Gain(top) => run_gain(alloc, made, args, top, options, out),
+        Mode::Greedy(processors) => run_greedy(alloc, made.code, args, processors, options, out),
+        Mode::Speedup(most) => run_speedup(alloc, made.code, args, most, options, out),
+        Mode::Page { top, processors } => {
+            run_page(
+                alloc, name, bytes, made, args, top, processors, options, out,
+            )
+        }
+    }
 }
 
 /// Analyses the program that these bytes are the source of, and writes the report of the mode, with the caller's thread
 /// and one for each body of the crew as workers that steal from each other.
 ///
-/// It has the errors of `analyse_alone` and writes the same bytes: no byte depends on the crew, on what its bodies and the
-/// gate do, or on the order in which workers steal. A check and a run of code that spawns nothing are made by the caller's
-/// thread only, and so is everything if the crew is empty. In mode `Gain` the crew executes the first run, and then one
+/// The errors and what is written are those of `analyse_alone`, which it calls where the crew is empty: no byte depends
+/// on the crew, on what its bodies and the gate do, or on the order in which workers come to steal. A check and a run of
+/// code that spawns nothing are made by the caller's thread only. In mode `Gain` the crew executes the first run, and then one
 /// thread for each worker executes the further runs in parallel. In mode `Greedy` the crew executes the run, and the
 /// caller's thread computes the schedule; in mode `Speedup` one thread for each worker computes schedules. If a run has more
 /// than 1,000,000 strands, mode `Speedup` takes the measures from a second run, by the caller's thread. In mode `Page` the
 /// crew executes the first run, one thread for each worker the further runs of the gain table, the caller's thread a run that
 /// records strands, and one thread for each worker computes schedules.
 ///
-/// Fewer than 2^64 - 1 writes to the sink failed before.
+/// Before all that, a crew of more than 63 bodies is `Arguments` in each mode, with nothing written.
 ///
-/// # Errors
-///
-/// `Arguments` if the crew has more than 63 bodies, in each mode; nothing is written then. Otherwise those of
-/// `analyse_alone`.
+/// It asks that fewer than 2^64 - 1 writes to the sink failed before.
 pub fn analyse<
     W: Sink,
     G: Gate + Drop + Send + Sync + 'static,
@@ -145,47 +163,32 @@ pub fn analyse_named<
     if crew.is_empty() {
         return analyse_named_alone(alloc, name, bytes, args, options, out);
     }
-    let mut runner = Crew::new(rt, crew, gate);
-    analyse_by(alloc, &mut runner, name, bytes, args, options, out)
-}
-
-// Analyses the program that these bytes are the source of, and writes the report of the mode. The runner executes the
-// runs.
-fn analyse_by<W: Sink, X: Runner>(
-    alloc: Global,
-    runner: &mut X,
-    name: &[u8],
-    bytes: &[u8],
-    args: &[i64],
-    options: Options,
-    out: &mut W,
-) -> Result<(), Fault>
-    requires { (W.seen out.old).failures < 2 ^ 64 - 1 }
-    ensures { IsAnalysed W.seen out.old out.new name.now bytes.now args.now options result }
-{
     derived_sites_are_numbered();
     let made = compile_with_heads(alloc, bytes)?;
     match options.mode {
         Mode::Check => ok(out),
-        Mode::Run => run_plain(alloc, runner, made.code, args, options, out),
-        Mode::Scale | Mode::Sites => run(alloc, runner, made.code, args, options, out),
-        Mode::Gain(top) => run_gain(alloc, runner, made, args, top, options, out),
+        Mode::Run => run_plain_with(rt, alloc, made.code, args, options, crew, gate, out),
+        Mode::Scale | Mode::Sites => run_with(rt, alloc, made.code, args, options, crew, gate, out),
+        Mode::Gain(top) => run_gain_with(rt, alloc, made, args, top, options, crew, gate, out),
         Mode::Greedy(processors) => {
-            run_greedy(alloc, runner, made.code, args, processors, options, out)
+            run_greedy_with(
+                rt, alloc, made.code, args, processors, options, crew, gate, out,
+            )
         }
-        Mode::Speedup(most) => run_speedup(alloc, runner, made.code, args, most, options, out),
+        Mode::Speedup(most) => {
+            run_speedup_with(rt, alloc, made.code, args, most, options, crew, gate, out)
+        }
         Mode::Page { top, processors } => {
-            run_page(
-                alloc, runner, name, bytes, made, args, top, processors, options, out,
+            run_page_with(
+                rt, alloc, name, bytes, made, args, top, processors, options, crew, gate, out,
             )
         }
     }
 }
 
-// Runs code and writes its values.
-fn run_plain<W: Sink, X: Runner>(
+// Runs code with nothing counted, and writes the values of the run.
+fn run_plain<W: Sink>(
     alloc: Global,
-    runner: &mut X,
     code: Verified,
     args: &[i64],
     options: Options,
@@ -198,14 +201,13 @@ fn run_plain<W: Sink, X: Runner>(
 {
     let code = Arc::new(alloc, code)?;
     let share = Arc::try_clone(&code)?;
-    let values = runner.values(alloc, share, args, options.limit, options.burden);
+    let values = values_alone(alloc, share, args, options.limit, options.burden);
     write_values(alloc, &code, args, options, values, out)
 }
 
-// Runs code and writes the table of the mode.
-fn run<W: Sink, X: Runner>(
+// Runs code and writes what is counted of the run.
+fn run<W: Sink>(
     alloc: Global,
-    runner: &mut X,
     code: Verified,
     args: &[i64],
     options: Options,
@@ -218,14 +220,87 @@ fn run<W: Sink, X: Runner>(
 {
     let code = Arc::new(alloc, code)?;
     let share = Arc::try_clone(&code)?;
-    let ended = runner.run(alloc, share, args, options.limit, options.burden);
+    let ended = run_alone(alloc, share, args, options.limit, options.burden);
     write_tables(alloc, &code, args, options, ended, out)
 }
 
-// Runs code, and once more for each listed function, and writes the gain table.
-fn run_gain<W: Sink, X: Runner>(
+// Runs code with a crew, and writes the values of the run.
+fn run_plain_with<
+    W: Sink,
+    G: Gate + Drop + Send + Sync + 'static,
+    B: Body<G> + Send + Drop + 'static,
+    R: Threads + Wait,
+>(
+    rt: &R,
     alloc: Global,
-    runner: &mut X,
+    code: Verified,
+    args: &[i64],
+    options: Options,
+    crew: Vec<B>,
+    gate: Arc<G>,
+    out: &mut W,
+) -> Result<(), Fault>
+    requires out { (W.seen out.old).failures < 2 ^ 64 - 1 }
+    requires few { length crew.items ≤ MOST_BODIES }
+    ensures { (name bytes : List ℕ) → options.mode ≡ mode.Run
+        → IsCompiled bytes (code_view code.code)
+        → IsRun W.seen out.old out.new name bytes args.now options result }
+{
+    let code = Arc::new(alloc, code)?;
+    let share = Arc::try_clone(&code)?;
+    let values = cw_pool::run::values(
+        rt,
+        alloc,
+        share,
+        args,
+        options.limit,
+        options.burden,
+        crew,
+        gate,
+    );
+    write_values(alloc, &code, args, options, values, out)
+}
+
+// Runs code with a crew, and writes what is counted of the run.
+fn run_with<
+    W: Sink,
+    G: Gate + Drop + Send + Sync + 'static,
+    B: Body<G> + Send + Drop + 'static,
+    R: Threads + Wait,
+>(
+    rt: &R,
+    alloc: Global,
+    code: Verified,
+    args: &[i64],
+    options: Options,
+    crew: Vec<B>,
+    gate: Arc<G>,
+    out: &mut W,
+) -> Result<(), Fault>
+    requires out { (W.seen out.old).failures < 2 ^ 64 - 1 }
+    requires few { length crew.items ≤ MOST_BODIES }
+    ensures { (name bytes : List ℕ) → HasTables options.mode
+        → IsCompiled bytes (code_view code.code)
+        → IsRun W.seen out.old out.new name bytes args.now options result }
+{
+    let code = Arc::new(alloc, code)?;
+    let share = Arc::try_clone(&code)?;
+    let ended = cw_pool::run::run(
+        rt,
+        alloc,
+        share,
+        args,
+        options.limit,
+        options.burden,
+        crew,
+        gate,
+    );
+    write_tables(alloc, &code, args, options, ended, out)
+}
+
+// Runs code, and once more for each function that is told, and writes what these would bring.
+fn run_gain<W: Sink>(
+    alloc: Global,
     made: Compiled,
     args: &[i64],
     top: u64,
@@ -241,16 +316,51 @@ fn run_gain<W: Sink, X: Runner>(
     let code = Arc::new(alloc, made.code)?;
     let share = Arc::try_clone(&code)?;
     let (limit, burden) = (options.limit, options.burden);
-    let ended = runner.run(alloc, share, args, limit, burden);
+    let ended = run_alone(alloc, share, args, limit, burden);
     let heads = made.heads.as_slice();
-    let gains = gains_of(
-        alloc, runner, &code, heads, args, limit, burden, most, ended,
+    let gains = gains_of_run(alloc, code, heads, args, limit, burden, most, ended);
+    write_gains(alloc, args, options, gains, out)
+}
+
+// Runs code with a crew, and once more for each function that is told, as many of these runs side by side as there are
+// workers, and writes what these functions would bring.
+fn run_gain_with<
+    W: Sink,
+    G: Gate + Drop + Send + Sync + 'static,
+    B: Body<G> + Send + Drop + 'static,
+    R: Threads + Wait,
+>(
+    rt: &R,
+    alloc: Global,
+    made: Compiled,
+    args: &[i64],
+    top: u64,
+    options: Options,
+    crew: Vec<B>,
+    gate: Arc<G>,
+    out: &mut W,
+) -> Result<(), Fault>
+    requires out { (W.seen out.old).failures < 2 ^ 64 - 1 }
+    requires few { length crew.items ≤ MOST_BODIES }
+    requires numbered { HasNumberedSites (code_view made.code.code) }
+    ensures { (name bytes : List ℕ) → options.mode ≡ mode.Gain top → IsMade bytes made
+        → IsRun W.seen out.old out.new name bytes args.now options result }
+{
+    let most = top_of(top)?;
+    let code = Arc::new(alloc, made.code)?;
+    let share = Arc::try_clone(&code)?;
+    let (limit, burden) = (options.limit, options.burden);
+    let workers = crew.len() + 1;
+    let ended = cw_pool::run::run(rt, alloc, share, args, limit, burden, crew, gate);
+    let heads = made.heads.as_slice();
+    let gains = gains_of_run_with(
+        rt, alloc, code, heads, args, limit, burden, most, workers, ended,
     );
     write_gains(alloc, args, options, gains, out)
 }
 
-// Returns the maximum number of functions in the gain table, if it is in range.
-fn top_of(top: u64) -> Result<usize, Fault>
+// How many functions are told at most, where that is in range.
+pub(crate) fn top_of(top: u64) -> Result<usize, Fault>
     ensures { MatchResult result (λ most. (most ≡ top) × IsModeInRange (mode.Gain top))
         (λ e. (e ≡ Fault.Arguments) × ¬ (IsModeInRange (mode.Gain top))) }
 {
@@ -260,11 +370,10 @@ fn top_of(top: u64) -> Result<usize, Fault>
     Ok(top as usize)
 }
 
-// Runs code and writes its greedy schedule on this number of processors. The burden is tested as for each run, and
-// changes nothing.
-fn run_greedy<W: Sink, X: Runner>(
+// Runs code for its greedy schedule on so many processors, and writes what is told of that. The burden is tested as for
+// each run, and changes nothing.
+fn run_greedy<W: Sink>(
     alloc: Global,
-    runner: &mut X,
     code: Verified,
     args: &[i64],
     processors: u64,
@@ -281,16 +390,76 @@ fn run_greedy<W: Sink, X: Runner>(
         return Err(Fault::Arguments);
     }
     let code = Arc::new(alloc, code)?;
-    let told = schedule_by(alloc, runner, code, args, options.limit, processors);
+    let told = schedule_alone(alloc, code, args, options.limit, processors);
+    schedule(alloc, &told, out)?;
+    told?;
+    Ok(())
+}
+
+// What is told of the greedy schedule of a run by a crew, on so many processors.
+fn schedule_with<
+    G: Gate + Drop + Send + Sync + 'static,
+    B: Body<G> + Send + Drop + 'static,
+    R: Threads + Wait,
+>(
+    rt: &R,
+    alloc: Global,
+    code: Arc<Verified>,
+    args: &[i64],
+    limit: u64,
+    processors: u64,
+    crew: Vec<B>,
+    gate: Arc<G>,
+) -> Result<Schedule, Fault>
+    requires { length crew.items ≤ MOST_BODIES }
+    ensures { SchedulesAsCode (code_view code.value.code) args.now limit processors result }
+{
+    if !is_asked(&code, args, limit, processors) {
+        return Err(Fault::Arguments);
+    }
+    let share = Arc::try_clone(&code)?;
+    let ran = cw_pool::run::strands(rt, alloc, share, args, limit, crew, gate);
+    let told = schedule_of_run(alloc, &code, args, limit, processors, ran)?;
+    Ok(told)
+}
+
+// The same with a crew that runs the code.
+fn run_greedy_with<
+    W: Sink,
+    G: Gate + Drop + Send + Sync + 'static,
+    B: Body<G> + Send + Drop + 'static,
+    R: Threads + Wait,
+>(
+    rt: &R,
+    alloc: Global,
+    code: Verified,
+    args: &[i64],
+    processors: u64,
+    options: Options,
+    crew: Vec<B>,
+    gate: Arc<G>,
+    out: &mut W,
+) -> Result<(), Fault>
+    requires out { (W.seen out.old).failures < 2 ^ 64 - 1 }
+    requires few { length crew.items ≤ MOST_BODIES }
+    ensures { (name bytes : List ℕ) → options.mode ≡ mode.Greedy processors
+        → IsCompiled bytes (code_view code.code)
+        → IsRun W.seen out.old out.new name bytes args.now options result }
+{
+    are_words(args);
+    if options.burden.charge > MOST_BURDEN {
+        return Err(Fault::Arguments);
+    }
+    let code = Arc::new(alloc, code)?;
+    let told = schedule_with(rt, alloc, code, args, options.limit, processors, crew, gate);
     schedule(alloc, &told, out)?;
     told?;
     Ok(())
 }
 
 // Runs code and writes its speedups up to `most` processors.
-fn run_speedup<W: Sink, X: Runner>(
+fn run_speedup<W: Sink>(
     alloc: Global,
-    runner: &mut X,
     code: Verified,
     args: &[i64],
     most: u64,
@@ -304,8 +473,69 @@ fn run_speedup<W: Sink, X: Runner>(
 {
     are_words(args);
     let code = Arc::new(alloc, code)?;
+    let told = speedup_alone(alloc, code, args, options.limit, options.burden, most);
+    speedup(alloc, &told, options.table, out)?;
+    told?;
+    Ok(())
+}
+
+// Returns the speedups of a run by a crew, up to `most` processors.
+fn speedup_with<
+    G: Gate + Drop + Send + Sync + 'static,
+    B: Body<G> + Send + Drop + 'static,
+    R: Threads + Wait,
+>(
+    rt: &R,
+    alloc: Global,
+    code: Arc<Verified>,
+    args: &[i64],
+    limit: u64,
+    burden: Burden,
+    most: u64,
+    crew: Vec<B>,
+    gate: Arc<G>,
+) -> Result<Speedup, Fault>
+    requires { length crew.items ≤ MOST_BODIES }
+    ensures { SpeedsUpAsCode (code_view code.value.code) args.now limit burden most result }
+{
+    if !speedups::is_asked(&code, args, limit, burden, most) {
+        return Err(Fault::Arguments);
+    }
+    let share = Arc::try_clone(&code)?;
+    let threads = crew.len() + 1;
+    let scheduler = InParallel { rt, threads };
+    let ran = cw_pool::run::strands(rt, alloc, share, args, limit, crew, gate);
+    let told = speedup_of_run(alloc, code, args, limit, burden, most, &scheduler, ran)?;
+    Ok(told)
+}
+
+// Runs code with a crew and writes its speedups up to `most` processors.
+fn run_speedup_with<
+    W: Sink,
+    G: Gate + Drop + Send + Sync + 'static,
+    B: Body<G> + Send + Drop + 'static,
+    R: Threads + Wait,
+>(
+    rt: &R,
+    alloc: Global,
+    code: Verified,
+    args: &[i64],
+    most: u64,
+    options: Options,
+    crew: Vec<B>,
+    gate: Arc<G>,
+    out: &mut W,
+) -> Result<(), Fault>
+    requires out { (W.seen out.old).failures < 2 ^ 64 - 1 }
+    requires few { length crew.items ≤ MOST_BODIES }
+    ensures { (name bytes : List ℕ) → options.mode ≡ mode.Speedup most
+        → IsCompiled bytes (code_view code.code)
+        → IsRun W.seen out.old out.new name bytes args.now options result }
+{
+    are_words(args);
+    let code = Arc::new(alloc, code)?;
     let (limit, burden) = (options.limit, options.burden);
-    let told = speedup_by(alloc, runner, code, args, limit, burden, most);
+    let told = speedup_with(rt, alloc, code, args, limit, burden, most, crew, gate);
     speedup(alloc, &told, options.table, out)?;
     told?;
     Ok(())

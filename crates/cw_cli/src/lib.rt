@@ -6,7 +6,6 @@ mod crews;
 mod misuse;
 mod paging;
 mod reporting;
-mod runner;
 mod telling;
 
 pub use analysis::{analyse, analyse_alone, analyse_named, analyse_named_alone};

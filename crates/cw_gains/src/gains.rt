@@ -4,7 +4,7 @@ ghost use Rattle.std.specs.Prelude.{IfErr, IfOk};
 ghost use Rattle.cw_code.specs.Code.{code_view};
 ghost use Rattle.cw_gains.specs.Free.{AreFreeOf, AreFrees, IsFreeOf, OnlyMemory};
 ghost use Rattle.cw_gains.specs.Gains.{GainsAsCode, HasNumberedSites};
-ghost use Rattle.cw_machine.specs.Runs.{Runs};
+ghost use Rattle.cw_machine.specs.Runs.{Runs, RunsAsCode};
 
 use crate::counts::{Counted, greatest};
 use cw_code::code::Code;
@@ -41,9 +41,71 @@ pub struct Gains {
     pub functions: Vec<FunctionGain>,
 }
 
-/// Computes the gain table of a run of this code on these arguments within `n` instructions that ended with these
-/// measures: at most `top` functions. It executes the program once more for each listed function, one run at a time. The
-/// call sites of the code must be numbered in order from 1, as `compile` numbers them.
+/// Computes the gain table of a run of this code on these arguments within `n` instructions that was executed and
+/// answered `ended`: at most `top` functions. It executes the program once more for each listed function, one run at a
+/// time. The call sites of the code must be numbered in order from 1, as `compile` numbers them.
+///
+/// # Errors
+///
+/// The error of the run, or `Memory` if memory runs out.
+pub fn gains_of_run(
+    alloc: Global,
+    code: Arc<Verified>,
+    heads: &[Head],
+    args: &[i64],
+    n: u64,
+    burden: Burden,
+    top: usize,
+    ended: Result<Ended, Fault>,
+) -> Result<Gains, Fault>
+    requires { HasNumberedSites (code_view code.value.code) }
+    ensures { RunsAsCode (code_view code.value.code) args.now n burden ended
+        → GainsAsCode (code_view code.value.code) heads.now args.now n burden top result }
+{
+    match ended {
+        Ok(ended) => {
+            let gains = gains_of_ended(alloc, &code, heads, args, n, burden, top, &ended)?;
+            Ok(gains)
+        }
+        Err(fault) => Err(fault),
+    }
+}
+
+/// Computes the gain table as `gains_of_run` does, with `threads` threads, one of which is the caller's: the further
+/// runs go in parallel. With one thread no other thread is started. If a thread cannot be started, the caller's thread
+/// does its runs. The result does not depend on `threads`.
+///
+/// # Errors
+///
+/// Those of `gains_of_run`.
+pub fn gains_of_run_with<R: Threads>(
+    rt: &R,
+    alloc: Global,
+    code: Arc<Verified>,
+    heads: &[Head],
+    args: &[i64],
+    n: u64,
+    burden: Burden,
+    top: usize,
+    threads: usize,
+    ended: Result<Ended, Fault>,
+) -> Result<Gains, Fault>
+    requires { HasNumberedSites (code_view code.value.code) }
+    ensures { RunsAsCode (code_view code.value.code) args.now n burden ended
+        → GainsAsCode (code_view code.value.code) heads.now args.now n burden top result }
+{
+    match ended {
+        Ok(ended) => {
+            let gains = gains_of_ended_with(
+                rt, alloc, &code, heads, args, n, burden, top, threads, &ended,
+            )?;
+            Ok(gains)
+        }
+        Err(fault) => Err(fault),
+    }
+}
+
+/// Computes the gain table as `gains_of_run` does, of a run that ended, and leaves the run.
 ///
 /// # Errors
 ///
@@ -76,9 +138,7 @@ pub fn gains_of_ended(
     })
 }
 
-/// Computes the gain table as `gains_of_ended` does, with `threads` threads, one of which is the caller's: the further
-/// runs go in parallel. With one thread no other thread is started. If a thread cannot be started, the caller's thread
-/// does its runs. The result does not depend on `threads`.
+/// Computes the gain table as `gains_of_run_with` does, of a run that ended, and leaves the run.
 ///
 /// # Errors
 ///

@@ -12,4 +12,4 @@ returns g c = λ name bytes has compiled_given.
     let compiled : IsCompiled bytes (code_view given.code) = subst (λ v. IsCompiled bytes (code_view v.code)) (sym same) compiled_given in
     let shared : c.in_ok-share.share.value ≡ given = c.in_ok-share.ensures ∙ sym c.deref.ensures in
     c.write_tables.ensures name bytes has compiled
-    (subst (λ v. RunsAsCode (code_view v.code) c.args.args.now c.args.options.limit c.args.options.burden c.run-ended.result) shared c.run-ended.ensures)
+    (subst (λ v. RunsAsCode (code_view v.code) c.args.args.now c.args.options.limit c.args.options.burden c.run_alone-ended.result) shared c.run_alone-ended.ensures)

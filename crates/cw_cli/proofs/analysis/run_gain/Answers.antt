@@ -16,16 +16,17 @@ returns-in_err-most g c = λ name bytes is made.
 
 pub returns : goal.returns
 returns g c = λ name bytes is made.
+    let code = c.in_ok-code.code.value in
+    let limit = c.args.options.limit in
+    let burden = c.args.options.burden in
     let of_mode : IsModeInRange c.args.options.mode = subst IsModeInRange (sym is) c.in_ok-most.ensures.1 in
+    let ran : RunsAsCode (code_view code.code) c.args.args.now limit burden c.run_alone-ended.result =
+    subst (λ v. RunsAsCode (code_view v.code) c.args.args.now limit burden c.run_alone-ended.result) c.in_ok-share.ensures c.run_alone-ended.ensures in
     let of_most : c.args.options.mode ≡ mode.Gain c.in_ok-most.most = subst (λ n. c.args.options.mode ≡ mode.Gain n) (sym c.in_ok-most.ensures.0) is in
     let of_code = subst (λ v. AreMade bytes v c.args.made.heads.items) (sym c.in_ok-code.ensures.ok) made in
     let of_heads = subst (λ hs. AreMade bytes c.in_ok-code.code.value hs) (sym c.as_slice-heads.ensures.value) of_code in
     c.write_gains.ensures name bytes c.in_ok-code.code.value c.as_slice-heads.result.now c.in_ok-most.most of_most of_mode of_heads
-    c.gains_of-gains.ensures
+    (c.gains_of_run-gains.ensures ran)
 
-pub gains_of-gains-requires-clause-numbered : goal.gains_of-gains-requires-clause-numbered
-gains_of-gains-requires-clause-numbered g c = subst (λ v. HasNumberedSites (code_view v.code)) (sym c.in_ok-code.ensures.ok) c.requires.numbered
-
-pub gains_of-gains-requires-clause-ran : goal.gains_of-gains-requires-clause-ran
-gains_of-gains-requires-clause-ran g c =
-    subst (λ v. RunsAsCode (code_view v.code) c.args.args.now c.args.options.limit c.args.options.burden c.run-ended.result) c.in_ok-share.ensures c.run-ended.ensures
+pub gains_of_run-gains-requires : goal.gains_of_run-gains-requires
+gains_of_run-gains-requires g c = subst (λ v. HasNumberedSites (code_view v.code)) (sym c.in_ok-code.ensures.ok) c.requires.numbered

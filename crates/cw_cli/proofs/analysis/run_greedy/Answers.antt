@@ -13,11 +13,11 @@ returns-in_err-schedule g c = λ name bytes is compiled_given.
     let given : Verified = c.in_ok-code.code.value in
     let same : given ≡ c.args.code = c.in_ok-code.ensures.ok in
     let compiled : IsCompiled bytes (code_view given.code) = subst (λ v. IsCompiled bytes (code_view v.code)) (sym same) compiled_given in
-    let ran : SchedulesAsCode (code_view given.code) c.args.args.now c.args.options.limit c.args.processors c.schedule_by-told.result = c.schedule_by-told.ensures in
+    let ran : SchedulesAsCode (code_view given.code) c.args.args.now c.args.options.limit c.args.processors c.schedule_alone-told.result = c.schedule_alone-told.ensures in
     let over = c.if-options-gt-MOST_BURDEN.false in
     let low : c.args.options.burden.charge ≤ MOST_BURDEN = omega (arith, over) in
     handed_on _ _ _ c.from_residual-in_err-schedule.result
-    (unwritten name bytes c.args.args.now c.are_words.ensures c.args.options _ compiled _ _ _ (schedule_tells name bytes c.args.args.now c.are_words.ensures c.args.options _ compiled c.args.processors is low) g.W.Sink.seen c.args.out.now c.schedule.new.to c.schedule_by-told.result ran c.in_err-schedule.ensures.idle _ c.in_err-schedule.ensures.answers)
+    (unwritten name bytes c.args.args.now c.are_words.ensures c.args.options _ compiled _ _ _ (schedule_tells name bytes c.args.args.now c.are_words.ensures c.args.options _ compiled c.args.processors is low) g.W.Sink.seen c.args.out.now c.schedule.new.to c.schedule_alone-told.result ran c.in_err-schedule.ensures.idle _ c.in_err-schedule.ensures.answers)
     c.from_residual-in_err-schedule.ensures.1
 
 pub returns-in_err-told : goal.returns-in_err-told
@@ -25,12 +25,12 @@ returns-in_err-told g c = λ name bytes is compiled_given.
     let given : Verified = c.in_ok-code.code.value in
     let same : given ≡ c.args.code = c.in_ok-code.ensures.ok in
     let compiled : IsCompiled bytes (code_view given.code) = subst (λ v. IsCompiled bytes (code_view v.code)) (sym same) compiled_given in
-    let ran : SchedulesAsCode (code_view given.code) c.args.args.now c.args.options.limit c.args.processors c.schedule_by-told.result = c.schedule_by-told.ensures in
+    let ran : SchedulesAsCode (code_view given.code) c.args.args.now c.args.options.limit c.args.processors c.schedule_alone-told.result = c.schedule_alone-told.ensures in
     let over = c.if-options-gt-MOST_BURDEN.false in
     let low : c.args.options.burden.charge ≤ MOST_BURDEN = omega (arith, over) in
-    let was : c.schedule_by-told.result ≡ Err c.in_err-told.field-0.0 = c.in_err-told.was in
+    let was : c.schedule_alone-told.result ≡ Err c.in_err-told.field-0.0 = c.in_err-told.was in
     handed_on _ _ _ c.from_residual-in_err-told.result
-    (stopped name bytes c.args.args.now c.are_words.ensures c.args.options _ compiled _ _ _ (schedule_tells name bytes c.args.args.now c.are_words.ensures c.args.options _ compiled c.args.processors is low) g.W.Sink.seen c.args.out.now c.schedule.new.to c.schedule_by-told.result _ was ran c.in_ok-schedule.ensures.answers c.in_ok-schedule.ensures.idle)
+    (stopped name bytes c.args.args.now c.are_words.ensures c.args.options _ compiled _ _ _ (schedule_tells name bytes c.args.args.now c.are_words.ensures c.args.options _ compiled c.args.processors is low) g.W.Sink.seen c.args.out.now c.schedule.new.to c.schedule_alone-told.result _ was ran c.in_ok-schedule.ensures.answers c.in_ok-schedule.ensures.idle)
     c.from_residual-in_err-told.ensures.1
 
 pub returns : goal.returns
@@ -38,8 +38,8 @@ returns g c = λ name bytes is compiled_given.
     let given : Verified = c.in_ok-code.code.value in
     let same : given ≡ c.args.code = c.in_ok-code.ensures.ok in
     let compiled : IsCompiled bytes (code_view given.code) = subst (λ v. IsCompiled bytes (code_view v.code)) (sym same) compiled_given in
-    let ran : SchedulesAsCode (code_view given.code) c.args.args.now c.args.options.limit c.args.processors c.schedule_by-told.result = c.schedule_by-told.ensures in
+    let ran : SchedulesAsCode (code_view given.code) c.args.args.now c.args.options.limit c.args.processors c.schedule_alone-told.result = c.schedule_alone-told.ensures in
     let over = c.if-options-gt-MOST_BURDEN.false in
     let low : c.args.options.burden.charge ≤ MOST_BURDEN = omega (arith, over) in
-    let was : c.schedule_by-told.result ≡ Ok c.in_ok-told.field-0 = c.in_ok-told.was in
-    finished name bytes c.args.args.now c.are_words.ensures c.args.options _ compiled _ _ _ (schedule_tells name bytes c.args.args.now c.are_words.ensures c.args.options _ compiled c.args.processors is low) g.W.Sink.seen c.args.out.now c.schedule.new.to c.schedule_by-told.result _ was ran c.in_ok-schedule.ensures.answers c.in_ok-schedule.ensures.idle
+    let was : c.schedule_alone-told.result ≡ Ok c.in_ok-told.field-0 = c.in_ok-told.was in
+    finished name bytes c.args.args.now c.are_words.ensures c.args.options _ compiled _ _ _ (schedule_tells name bytes c.args.args.now c.are_words.ensures c.args.options _ compiled c.args.processors is low) g.W.Sink.seen c.args.out.now c.schedule.new.to c.schedule_alone-told.result _ was ran c.in_ok-schedule.ensures.answers c.in_ok-schedule.ensures.idle

@@ -12,4 +12,4 @@ returns g c = λ name bytes runs compiled_given.
     let compiled : IsCompiled bytes (code_view given.code) = subst (λ v. IsCompiled bytes (code_view v.code)) (sym same) compiled_given in
     let shared : c.in_ok-share.share.value ≡ given = c.in_ok-share.ensures ∙ sym c.deref.ensures in
     c.write_values.ensures name bytes runs compiled
-    (subst (λ v. GivesAsCode (code_view v.code) c.args.args.now c.args.options.limit c.args.options.burden c.values-values.result) shared c.values-values.ensures)
+    (subst (λ v. GivesAsCode (code_view v.code) c.args.args.now c.args.options.limit c.args.options.burden c.values_alone-values.result) shared c.values_alone-values.ensures)

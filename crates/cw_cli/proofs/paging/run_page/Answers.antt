@@ -22,9 +22,9 @@ returns-in_err-page g c = λ is made.
     let compiled : IsCompiled bytes (code_view arc.code) = of_heads.compiled in
     let same : code_view c.deref.result.now.code ≡ code_view arc.code = ap (λ (v : Verified). code_view v.code) c.deref.ensures in
     let tells = page_tells name bytes args words options (code_view arc.code) compiled c.args.top c.args.most is c.as_slice-heads.result.now of_heads.are_heads c.derived_sites_are_numbered.ensures c.as_bytes-version.result.now c.deref.result.now c.as_bytes-version.ensures.value same in
-    let ran : DrawsAsCode (code_view arc.code) c.as_slice-heads.result.now (asked_for args options.limit options.burden c.args.top c.args.most) c.drawn_by-drawn.result = c.drawn_by-drawn.ensures in
+    let ran : DrawsAsCode (code_view arc.code) c.as_slice-heads.result.now (asked_for args options.limit options.burden c.args.top c.args.most) c.drawn_alone-drawn.result = c.drawn_alone-drawn.ensures in
     handed_on _ _ _ c.from_residual-in_err-page.result
-    (unwritten name bytes args words options _ compiled _ _ _ tells g.W.Sink.seen c.args.out.now c.page.new.to c.drawn_by-drawn.result ran c.in_err-page.ensures.idle _ c.in_err-page.ensures.answers)
+    (unwritten name bytes args words options _ compiled _ _ _ tells g.W.Sink.seen c.args.out.now c.page.new.to c.drawn_alone-drawn.result ran c.in_err-page.ensures.idle _ c.in_err-page.ensures.answers)
     c.from_residual-in_err-page.ensures.1
 
 pub returns-in_err-drawn : goal.returns-in_err-drawn
@@ -40,10 +40,10 @@ returns-in_err-drawn g c = λ is made.
     let compiled : IsCompiled bytes (code_view arc.code) = of_heads.compiled in
     let same : code_view c.deref.result.now.code ≡ code_view arc.code = ap (λ (v : Verified). code_view v.code) c.deref.ensures in
     let tells = page_tells name bytes args words options (code_view arc.code) compiled c.args.top c.args.most is c.as_slice-heads.result.now of_heads.are_heads c.derived_sites_are_numbered.ensures c.as_bytes-version.result.now c.deref.result.now c.as_bytes-version.ensures.value same in
-    let ran : DrawsAsCode (code_view arc.code) c.as_slice-heads.result.now (asked_for args options.limit options.burden c.args.top c.args.most) c.drawn_by-drawn.result = c.drawn_by-drawn.ensures in
-    let was : c.drawn_by-drawn.result ≡ Err c.in_err-drawn.field-0.0 = c.in_err-drawn.was in
+    let ran : DrawsAsCode (code_view arc.code) c.as_slice-heads.result.now (asked_for args options.limit options.burden c.args.top c.args.most) c.drawn_alone-drawn.result = c.drawn_alone-drawn.ensures in
+    let was : c.drawn_alone-drawn.result ≡ Err c.in_err-drawn.field-0.0 = c.in_err-drawn.was in
     handed_on _ _ _ c.from_residual-in_err-drawn.result
-    (stopped name bytes args words options _ compiled _ _ _ tells g.W.Sink.seen c.args.out.now c.page.new.to c.drawn_by-drawn.result _ was ran c.in_ok-page.ensures.answers c.in_ok-page.ensures.idle)
+    (stopped name bytes args words options _ compiled _ _ _ tells g.W.Sink.seen c.args.out.now c.page.new.to c.drawn_alone-drawn.result _ was ran c.in_ok-page.ensures.answers c.in_ok-page.ensures.idle)
     c.from_residual-in_err-drawn.ensures.1
 
 pub returns : goal.returns
@@ -59,9 +59,9 @@ returns g c = λ is made.
     let compiled : IsCompiled bytes (code_view arc.code) = of_heads.compiled in
     let same : code_view c.deref.result.now.code ≡ code_view arc.code = ap (λ (v : Verified). code_view v.code) c.deref.ensures in
     let tells = page_tells name bytes args words options (code_view arc.code) compiled c.args.top c.args.most is c.as_slice-heads.result.now of_heads.are_heads c.derived_sites_are_numbered.ensures c.as_bytes-version.result.now c.deref.result.now c.as_bytes-version.ensures.value same in
-    let ran : DrawsAsCode (code_view arc.code) c.as_slice-heads.result.now (asked_for args options.limit options.burden c.args.top c.args.most) c.drawn_by-drawn.result = c.drawn_by-drawn.ensures in
-    let was : c.drawn_by-drawn.result ≡ Ok c.in_ok-drawn.field-0 = c.in_ok-drawn.was in
-    finished name bytes args words options _ compiled _ _ _ tells g.W.Sink.seen c.args.out.now c.page.new.to c.drawn_by-drawn.result _ was ran c.in_ok-page.ensures.answers c.in_ok-page.ensures.idle
+    let ran : DrawsAsCode (code_view arc.code) c.as_slice-heads.result.now (asked_for args options.limit options.burden c.args.top c.args.most) c.drawn_alone-drawn.result = c.drawn_alone-drawn.ensures in
+    let was : c.drawn_alone-drawn.result ≡ Ok c.in_ok-drawn.field-0 = c.in_ok-drawn.was in
+    finished name bytes args words options _ compiled _ _ _ tells g.W.Sink.seen c.args.out.now c.page.new.to c.drawn_alone-drawn.result _ was ran c.in_ok-page.ensures.answers c.in_ok-page.ensures.idle
 
-pub drawn_by-drawn-requires : goal.drawn_by-drawn-requires
-drawn_by-drawn-requires g c = subst (λ v. HasNumberedSites (code_view v.code)) (sym c.in_ok-code.ensures.ok) c.requires.numbered
+pub drawn_alone-drawn-requires : goal.drawn_alone-drawn-requires
+drawn_alone-drawn-requires g c = subst (λ v. HasNumberedSites (code_view v.code)) (sym c.in_ok-code.ensures.ok) c.requires.numbered

@@ -4,10 +4,10 @@ use Rattle.cw_code.specs.Code.{code_view}
 use Rattle.cw_greedy_schedule.specs.Speedups.{IsNotSpedUp}
 use Rattle.cw_cli.specs.Pages.{asked_for, is_asked}
 use Rattle.cw_cli.proofs.Drawing.{unsped}
-use Rattle.cw_cli.proofs.paging.drawn_by.Goals as goal
+use Rattle.cw_cli.proofs.paging.drawn_alone.Goals as goal
 
 pub returns-in_err-speedup : goal.returns-in_err-speedup
-returns-in_err-speedup g c =
+returns-in_err-speedup c =
     let code = code_view c.args.code.now.value.code in
     let given = asked_for c.args.args.now c.args.limit c.args.burden c.args.top c.args.most in
     let asked : is_asked code given ≡ true = search rules in

@@ -3,7 +3,7 @@ use Rattle.cw_words.specs.declared.asked.Mode.TheVariants as mode
 use Rattle.cw_cli.specs.ModeTexts.{HasTables}
 use Rattle.cw_cli.proofs.Modes.{gain_is_no_check, has_tables, page_is_no_check, run_is_no_check, running, schedule_is_no_check, speedup_is_no_check}
 use Rattle.cw_cli.proofs.Runs.{checked, refusal, run_is, sites_numbered}
-use Rattle.cw_cli.proofs.analysis.analyse_by.Goals as goal
+use Rattle.cw_cli.proofs.analysis.analyse_named_alone.Goals as goal
 
 pub returns-in_err-made : goal.returns-in_err-made
 returns-in_err-made g c = refusal g.W.Sink.seen c.args.out.now c.args.name.now c.args.bytes.now c.args.args.now c.args.options _ c.in_err-made.ensures c.from_residual.result (search rules)

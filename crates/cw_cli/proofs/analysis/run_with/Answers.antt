@@ -1,0 +1,15 @@
+use Rattle.std.proofs.Common.{◌≡◌, ◌∙◌, sym, subst}
+use Rattle.cw_code.specs.Code.{code_view}
+use Rattle.cw_runnable.specs.declared.verified.Verified.{Verified}
+use Rattle.cw_machine.specs.Runs.{RunsAsCode}
+use Rattle.cw_compile.specs.Compiled.{IsCompiled}
+use Rattle.cw_cli.proofs.analysis.run_with.Goals as goal
+
+pub returns : goal.returns
+returns g c = λ name bytes has compiled_given.
+    let given : Verified = c.deref.result.now in
+    let same : given ≡ c.args.code = c.deref.ensures ∙ c.in_ok-code.ensures.ok in
+    let compiled : IsCompiled bytes (code_view given.code) = subst (λ v. IsCompiled bytes (code_view v.code)) (sym same) compiled_given in
+    let shared : c.in_ok-share.share.value ≡ given = c.in_ok-share.ensures ∙ sym c.deref.ensures in
+    c.write_tables.ensures name bytes has compiled
+    (subst (λ v. RunsAsCode (code_view v.code) c.args.args.now c.args.options.limit c.args.options.burden c.run-ended.result) shared (c.run-ended.ensures.0 c.requires.few))
