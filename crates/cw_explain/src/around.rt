@@ -1,7 +1,7 @@
 //! The tokens around the place where a source is rejected, and what is open there.
 
 use crate::advice::advice_for;
-use crate::near::{is_declared, is_reducer};
+use crate::near::{is_declared, reduction_of};
 use crate::word::Word;
 use crate::words::{KEYWORDS, OPERATORS, STORAGE, TYPES};
 use cw_model::token::{Kind, Token};
@@ -16,11 +16,10 @@ const MOST_SEARCHED: usize = 8_192;
 /// The most tokens of a source in which a name is looked up.
 const MOST_DECLARED: usize = 16_384;
 
-/// An open bracket: its token and place, and the place and kind of the first token of its statement.
+/// An open bracket, and the place and kind of the first token of its statement.
 #[derive(Clone, Copy)]
 struct Bracket {
     token: Token,
-    place: usize,
     first: usize,
     front: Option<Kind>,
 }
@@ -38,8 +37,6 @@ pub struct Opened {
     first: usize,
     /// That token, if there is one.
     front: Option<Kind>,
-    /// Whether the last token closes the bracket right after that one.
-    is_headed: bool,
 }
 
 // Whether a statement of this kind has a block that ends only at its end.
@@ -59,7 +56,6 @@ impl Opened {
             braces: 0,
             first: 0,
             front: None,
-            is_headed: false,
         }
     }
 
@@ -114,7 +110,6 @@ impl Opened {
     fn open(&mut self, token: Token) -> Result<(), AllocError> {
         self.brackets.push(Bracket {
             token,
-            place: self.count,
             first: self.first,
             front: self.front,
         })?;
@@ -123,9 +118,7 @@ impl Opened {
 
     // Closes the innermost bracket.
     fn close(&mut self) {
-        if let Some(bracket) = self.brackets.pop() {
-            self.is_headed = bracket.place == self.first.saturating_add(1);
-        }
+        self.brackets.pop();
     }
 
     // Ends the statement with the last token.
@@ -138,7 +131,6 @@ impl Opened {
     pub fn resume(&mut self, place: usize, is_block: bool) {
         self.brackets
             .retain(|bracket| bracket.token.kind == Kind::LeftBrace);
-        self.is_headed = false;
         self.count = place;
         if !is_block {
             self.first = place;
@@ -155,7 +147,6 @@ impl Opened {
 
     /// Adds one token.
     pub fn add(&mut self, token: Token) -> Result<(), AllocError> {
-        self.is_headed = false;
         self.front = self.front.or(Some(token.kind));
         match token.kind {
             Kind::LeftBrace => {
@@ -191,8 +182,6 @@ pub struct Around<'a> {
     pub is_inside: bool,
     /// The innermost bracket that is open there.
     pub open: Option<Token>,
-    /// Whether the brackets right after the first token of the statement end right before it.
-    is_headed: bool,
     /// The place of the innermost `cilk_for` around it.
     pub loop_around: Option<usize>,
 }
@@ -206,6 +195,23 @@ pub fn word_of<'a>(text: &'a [u8], token: Token) -> Word<'a> {
     }
 }
 
+/// Returns the index of the first token in a line or after it.
+pub fn first_from(tokens: &[Token], line: u32) -> usize {
+    let mut low = 0;
+    let mut high = tokens.len();
+    for _ in 0..64 {
+        if low >= high {
+            break;
+        }
+        let middle = low.saturating_add(high.saturating_sub(low) / 2);
+        match tokens.get(middle) {
+            Some(token) if token.line < line => low = middle.saturating_add(1),
+            _ => high = middle,
+        }
+    }
+    low
+}
+
 // Whether a text is one of these words.
 fn is_among(word: Word<'_>, words: &[&str]) -> bool {
     for other in words {
@@ -217,21 +223,6 @@ fn is_among(word: Word<'_>, words: &[&str]) -> bool {
 }
 
 impl<'a> Around<'a> {
-    /// Returns the tokens around the one at this place.
-    pub fn new(
-        alloc: Global,
-        text: &'a [u8],
-        tokens: &'a [Token],
-        place: usize,
-    ) -> Result<Around<'a>, AllocError> {
-        let place = place.min(tokens.len());
-        let mut opened = Opened::new(alloc);
-        for token in &tokens[..place] {
-            opened.add(*token)?;
-        }
-        Ok(Around::behind(text, tokens, &opened))
-    }
-
     /// Returns the tokens around the one after those that were added.
     pub fn behind(text: &'a [u8], tokens: &'a [Token], opened: &Opened) -> Around<'a> {
         Around {
@@ -241,7 +232,6 @@ impl<'a> Around<'a> {
             first: opened.first,
             is_inside: opened.braces > 0,
             open: opened.innermost(),
-            is_headed: opened.is_headed,
             loop_around: opened.loop_around(),
         }
     }
@@ -249,21 +239,6 @@ impl<'a> Around<'a> {
     /// Returns whether the token is the first of its statement.
     pub fn is_at_front(&self) -> bool {
         self.place == self.first
-    }
-
-    /// Returns whether the token is where the block of an `if`, an `else` or a `while` begins, and is not a brace.
-    pub fn is_bare(&self) -> bool {
-        let Some(found) = self.found() else {
-            return false;
-        };
-        if found.kind == Kind::LeftBrace {
-            return false;
-        }
-        let front = self.front().map(|token| token.kind);
-        match self.before(1).map(|token| token.kind) {
-            Some(Kind::Else) => found.kind != Kind::If,
-            _ => self.is_headed && matches!(front, Some(Kind::If) | Some(Kind::While)),
-        }
     }
 
     /// Returns the token that cannot be there, if the source does not end there.
@@ -284,6 +259,11 @@ impl<'a> Around<'a> {
     /// Returns the token at a place.
     pub fn at(&self, place: usize) -> Option<Token> {
         self.tokens.get(place).copied()
+    }
+
+    /// Returns the kind of the token at a place.
+    pub fn kind(&self, place: usize) -> Option<Kind> {
+        self.at(place).map(|token| token.kind)
     }
 
     /// Returns the text of a token that is a name without a declaration.
@@ -391,7 +371,7 @@ impl<'a> Around<'a> {
     fn is_total(&self, token: Token) -> bool {
         token.kind == Kind::Name
             && self.tokens.len() <= MOST_SEARCHED
-            && is_reducer(self.text, self.tokens, self.word(token))
+            && reduction_of(self.text, self.tokens, self.word(token)).is_some()
     }
 
     // The place after the token or tokens at a place that a word of a pattern denotes, if they are there.

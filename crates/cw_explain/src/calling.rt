@@ -1,13 +1,16 @@
 //! What a line does with a name, by its tokens.
 
-use crate::around::word_of;
+use crate::around::{first_from, word_of};
 use crate::marks::fresh_name;
-use crate::near::is_declared;
+use crate::near::{is_declared, reduction_of};
 use crate::word::Word;
 use cw_model::token::{Kind, Token};
 
 /// The most tokens of a statement that are read.
 const MOST_TOKENS: usize = 300;
+
+/// The most tokens before a use that are searched for a declaration or a loop.
+const MOST_SEARCHED: usize = 8_192;
 
 /// What a line does with a name.
 #[derive(Clone, Copy)]
@@ -22,8 +25,24 @@ pub enum Call<'a> {
     Argument(Word<'a>),
     /// It adds to it in a `cilk_for` around its declaration; with a name for a reducer.
     Outer(&'static str),
+    /// It uses a reducer for a maximum.
+    Largest,
+    /// It lists it in `over`.
+    Listed,
+    /// It is after the block with its declaration, which is in this line.
+    Ended(u32),
     /// Something else.
     Other,
+}
+
+impl Call<'_> {
+    /// Returns the other line that matters, if there is one.
+    pub fn other_line(&self) -> Option<u32> {
+        match self {
+            Call::Ended(line) => Some(*line),
+            _ => None,
+        }
+    }
 }
 
 /// The text of a source, and its tokens.
@@ -36,12 +55,7 @@ pub struct Text<'a> {
 impl<'a> Text<'a> {
     // The place of the first token of a line or one after it.
     fn place_of(&self, line: u32) -> usize {
-        for place in 0..self.tokens.len() {
-            if self.tokens[place].line >= line {
-                return place;
-            }
-        }
-        self.tokens.len()
+        first_from(self.tokens, line)
     }
 
     // The kind of the token at a place.
@@ -98,6 +112,92 @@ impl<'a> Text<'a> {
         Call::Other
     }
 
+    /// Returns what a line does with a reducer.
+    pub fn use_of_reducer(&self, line: u32, name: Word<'_>) -> Call<'a> {
+        match reduction_of(self.bytes, self.tokens, name) {
+            Some(Kind::Max) => Call::Largest,
+            _ => self.use_of(line, name),
+        }
+    }
+
+    /// Returns what a line does with a const array that it may not use as it does.
+    pub fn use_of_const(&self, line: u32, name: Word<'_>) -> Call<'a> {
+        let start = self.place_of(line);
+        let mut is_listed = false;
+        for place in start..self.tokens.len().min(start.saturating_add(MOST_TOKENS)) {
+            match self.kind(place) {
+                Some(Kind::Over) => is_listed = true,
+                Some(Kind::LeftBrace) => return Call::Other,
+                _ if is_listed && self.is_name(place, name) => return Call::Listed,
+                _ => {}
+            }
+        }
+        Call::Other
+    }
+
+    // Whether the token at a place is a name that a statement declares.
+    fn is_declaration(&self, place: usize, name: Word<'_>) -> bool {
+        let next = self.kind(place.saturating_add(1));
+        self.is_name(place, name)
+            && self.kind(place.saturating_sub(1)) == Some(Kind::Int)
+            && matches!(
+                self.kind(place.saturating_sub(2)),
+                Some(Kind::Semicolon) | Some(Kind::LeftBrace) | Some(Kind::RightBrace)
+            )
+            && matches!(next, Some(Kind::Assign) | Some(Kind::LeftBracket))
+    }
+
+    // Whether the brace at a place begins the body of a function.
+    fn is_body(&self, place: usize) -> bool {
+        if self.kind(place.saturating_sub(1)) != Some(Kind::RightParen) {
+            return false;
+        }
+        for back in 2..place.min(MOST_TOKENS) {
+            let at = place.saturating_sub(back);
+            if self.kind(at) == Some(Kind::LeftParen) {
+                return self.kind(at.saturating_sub(1)) == Some(Kind::Name)
+                    && matches!(
+                        self.kind(at.saturating_sub(2)),
+                        Some(Kind::Int) | Some(Kind::Void)
+                    );
+            }
+        }
+        false
+    }
+
+    // The place of the first use of a name from the first token of a line on.
+    fn use_from(&self, line: u32, name: Word<'_>) -> usize {
+        let start = self.place_of(line);
+        for place in start..self.tokens.len().min(start.saturating_add(MOST_TOKENS)) {
+            if self.is_name(place, name) {
+                return place;
+            }
+        }
+        start
+    }
+
+    /// Returns where a name is declared in a block that ends before its use in a line, if one of the function does.
+    pub fn ended(&self, line: u32, name: Word<'_>) -> Call<'a> {
+        let end = self.use_from(line, name);
+        let mut depth: usize = 0;
+        for back in 0..end.min(MOST_SEARCHED) {
+            let place = end.saturating_sub(back).saturating_sub(1);
+            match self.kind(place) {
+                Some(Kind::RightBrace) => depth = depth.saturating_add(1),
+                Some(Kind::LeftBrace) if depth == 0 && self.is_body(place) => return Call::Other,
+                Some(Kind::LeftBrace) => depth = depth.saturating_sub(1),
+                _ if depth > 0 && self.is_declaration(place, name) => {
+                    return match self.tokens.get(place) {
+                        Some(token) => Call::Ended(token.line),
+                        None => Call::Other,
+                    };
+                }
+                _ => {}
+            }
+        }
+        Call::Other
+    }
+
     // The place of the first token of an argument of a call, counted from 1, if it is found from a line on.
     fn argument_place(&self, line: u32, callee: Word<'_>, number: usize) -> Option<usize> {
         let start = self.place_of(line);
@@ -132,7 +232,7 @@ impl<'a> Text<'a> {
         let mut depth: usize = 0;
         let mut head = None;
         let mut open = None;
-        for at in 0..place {
+        for at in place.saturating_sub(MOST_SEARCHED)..place {
             match self.kind(at) {
                 Some(Kind::For) if head.is_none() => head = Some(at),
                 Some(Kind::LeftBrace) => {
@@ -167,8 +267,18 @@ impl<'a> Text<'a> {
         Call::Outer(fresh_name(self.bytes, self.tokens))
     }
 
-    /// Returns whether a line uses a name, and uses it only as the argument of `len`.
-    pub fn is_length(&self, line: u32, name: Word<'_>) -> bool {
+    // Whether the token at a place is an array, with an index that is this variable.
+    fn is_element(&self, place: usize, variable: Option<Word<'_>>) -> bool {
+        let Some(variable) = variable else {
+            return false;
+        };
+        self.kind(place.saturating_add(1)) == Some(Kind::LeftBracket)
+            && self.is_name(place.saturating_add(2), variable)
+            && self.kind(place.saturating_add(3)) == Some(Kind::RightBracket)
+    }
+
+    /// Returns whether a line uses a name as `len` of it, and otherwise only as its element at a variable, if there is one.
+    pub fn is_length(&self, line: u32, name: Word<'_>, variable: Option<Word<'_>>) -> bool {
         let start = self.place_of(line);
         let mut found = false;
         for place in start..self.tokens.len() {
@@ -176,10 +286,11 @@ impl<'a> Text<'a> {
                 return found;
             }
             if self.is_name(place, name) {
-                if self.kind(place.saturating_sub(2)) != Some(Kind::Len) {
+                if self.kind(place.saturating_sub(2)) == Some(Kind::Len) {
+                    found = true;
+                } else if !self.is_element(place, variable) {
                     return false;
                 }
-                found = true;
             }
         }
         found

@@ -3,23 +3,55 @@
 ghost use Rattle.std.specs.Prelude.{IfOk};
 ghost use Rattle.cw_model.specs.Tokens.{IsTokenCut};
 
-use crate::around::word_of;
+use crate::around::{first_from, word_of};
 use crate::calling::Text;
 use crate::excerpt::line_start;
+use crate::explaining::MOST_BYTES;
 use crate::hinting::{closed_return, hint_in, near_main};
 use crate::listing::{Listing, Spot};
 use crate::others::Named;
 use crate::refusals::{OfOwnership, OfTypes, Refusal, Refusals};
+use crate::repairs::{Repairs, add_line_feeds};
 use crate::syntax::Outline;
 use crate::word::Word;
 use cw_lex::lex;
 use cw_model::token::{Kind, Token};
 use cw_own::disowned;
-use cw_parse::{Item, parse};
+use cw_parse::{Item, Rejected, parse};
 use cw_text::{At, Fault, MOST_TOLD, Source};
 use cw_tree::syntax::Ast;
 use cw_types::{IllTyped, check, ill_typed};
 use std::alloc::{AllocError, Global};
+
+/// A text without bytes that start no token, and what replaces statements that do not parse, if `is_on`.
+#[derive(Clone, Copy)]
+pub struct Mended<'a> {
+    pub whole: &'a [u8],
+    pub repairs: &'a Repairs,
+    pub is_on: bool,
+}
+
+impl Mended<'_> {
+    // Whether something replaces a statement that does not parse.
+    fn is_done(&self, index: usize) -> bool {
+        self.is_on && self.repairs.done.get(index).copied().unwrap_or(false)
+    }
+
+    // Adds a part of the text, repaired if `is_repaired`.
+    fn write(
+        &self,
+        out: &mut Vec<u8>,
+        from: usize,
+        end: usize,
+        is_repaired: bool,
+    ) -> Result<(), Fault> {
+        if is_repaired {
+            return self.repairs.write(out, self.whole, from, end);
+        }
+        out.extend_from_slice(self.whole.get(from..end).unwrap_or(&[]))?;
+        Ok(())
+    }
+}
 
 /// The shortest function `main`.
 const MAIN: &str = "int main(){return 0;}";
@@ -41,20 +73,39 @@ pub fn tokens_of(alloc: Global, bytes: &[u8]) -> Result<(Source, Vec<Token>), Fa
 #[derive(Drop)]
 struct Remains<'a> {
     outline: Outline<'a>,
-    /// The repaired text.
-    whole: &'a [u8],
+    mended: Mended<'a>,
     text: Vec<u8>,
     /// The lines of the functions that are left out because of their names or types.
     lines: Vec<u32>,
     has_main: bool,
+    /// The next statement that does not parse.
+    rejected: usize,
 }
 
 impl<'a> Remains<'a> {
-    // Whether an item has an error.
-    fn is_left_out(&self, item: &Item) -> bool {
-        if !item.is_whole {
-            return true;
+    // Whether something replaces each statement of an item that does not parse; items are asked for in order.
+    fn is_repaired(&mut self, item: &Item) -> bool {
+        let mut count: usize = 0;
+        let mut done: usize = 0;
+        let all = self.outline.found.rejected.as_slice();
+        for index in self.rejected..all.len() {
+            let first = all[index].first;
+            if first >= item.end {
+                break;
+            }
+            self.rejected = index.saturating_add(1);
+            if first >= item.first {
+                count = count.saturating_add(1);
+                if self.mended.is_done(index) {
+                    done = done.saturating_add(1);
+                }
+            }
         }
+        count > 0 && count == done
+    }
+
+    // Whether an item has an error of names or types.
+    fn has_line(&self, item: &Item) -> bool {
         let tokens = self.outline.tokens;
         let (Some(first), Some(last)) = (
             tokens.get(item.first),
@@ -70,28 +121,17 @@ impl<'a> Remains<'a> {
         false
     }
 
-    // Adds the bytes between two places.
-    fn keep(&mut self, from: usize, end: usize) -> Result<(), AllocError> {
-        let bytes = self.whole.get(from..end).unwrap_or(&[]);
-        self.text.extend_from_slice(bytes)?;
-        Ok(())
-    }
-
     // Adds the line feeds between two places.
-    fn keep_lines(&mut self, from: usize, end: usize) -> Result<(), AllocError> {
-        for byte in self.whole.get(from..end).unwrap_or(&[]) {
-            if *byte == b'\n' {
-                self.text.push(b'\n')?;
-            }
-        }
-        Ok(())
+    fn keep_lines(&mut self, from: usize, end: usize) -> Result<(), Fault> {
+        let text = self.mended.whole.get(from..end).unwrap_or(&[]);
+        add_line_feeds(&mut self.text, text)
     }
 
     // The place after the token before an index.
     fn end_before(&self, index: usize) -> usize {
         match self.outline.tokens.get(index.saturating_sub(1)) {
             Some(token) => token.end as usize,
-            None => self.whole.len(),
+            None => self.mended.whole.len(),
         }
     }
 
@@ -99,24 +139,26 @@ impl<'a> Remains<'a> {
     fn start_of(&self, index: usize) -> usize {
         match self.outline.tokens.get(index) {
             Some(token) => token.start as usize,
-            None => self.whole.len(),
+            None => self.mended.whole.len(),
         }
     }
 
     // Adds an item, or its head with the shortest body, or its line feeds.
-    fn add(&mut self, item: &Item) -> Result<(), AllocError> {
+    fn add(&mut self, item: &Item, is_typed: bool) -> Result<(), Fault> {
         let start = self.start_of(item.first);
         let end = self.end_before(item.end);
-        if !self.is_left_out(item) {
-            self.has_main = self.has_main || self.is_main(item);
-            return self.keep(start, end);
+        let is_repaired = self.is_repaired(item);
+        let is_main = self.is_main(item);
+        if (item.is_whole || is_repaired) && is_typed && !self.has_line(item) {
+            self.has_main = self.has_main || is_main;
+            return self.mended.write(&mut self.text, start, end, is_repaired);
         }
         if !item.is_headed || item.body >= item.end {
             return self.keep_lines(start, end);
         }
-        self.has_main = self.has_main || self.is_main(item);
+        self.has_main = self.has_main || is_main;
         let body = self.end_before(item.body);
-        self.keep(start, body)?;
+        self.mended.write(&mut self.text, start, body, false)?;
         let kind = self.outline.tokens.get(item.first).map(|token| token.kind);
         if kind == Some(Kind::Int) {
             self.text.extend_from_slice(b"return 0;")?;
@@ -129,34 +171,37 @@ impl<'a> Remains<'a> {
     // Whether an item is the function main.
     fn is_main(&self, item: &Item) -> bool {
         match self.outline.tokens.get(item.first.saturating_add(1)) {
-            Some(token) => word_of(self.whole, *token).is(b"main"),
+            Some(token) => word_of(self.mended.whole, *token).is(b"main"),
             None => false,
         }
     }
 }
 
-// The repaired source with the shortest bodies for functions that do not parse, or have one of these lines.
+// The text with the shortest bodies for functions that do not parse, or have one of these lines.
 fn remaining<'a>(
     alloc: Global,
     outline: &Outline<'a>,
-    whole: &'a [u8],
+    mended: Mended<'a>,
     lines: Vec<u32>,
-) -> Result<Vec<u8>, AllocError> {
+) -> Result<Vec<u8>, Fault> {
     let mut remains = Remains {
         outline: *outline,
-        whole,
+        mended,
         text: Vec::new(alloc),
         lines,
         has_main: false,
+        rejected: 0,
     };
     let mut place = 0;
-    for item in outline.found.items.as_slice() {
+    let items = outline.found.items.as_slice();
+    for index in 0..items.len() {
+        let item = &items[index];
         let start = remains.start_of(item.first);
         remains.keep_lines(place, start)?;
-        remains.add(item)?;
+        remains.add(item, outline.is_typed(index))?;
         place = remains.end_before(item.end);
     }
-    remains.keep_lines(place, whole.len())?;
+    remains.keep_lines(place, mended.whole.len())?;
     if !remains.has_main && is_suspect(outline, b"main") {
         remains.text.extend_from_slice(MAIN.as_bytes())?;
     }
@@ -176,12 +221,31 @@ pub fn is_suspect(outline: &Outline<'_>, name: &[u8]) -> bool {
             }
         }
     }
+    for rejected in outline.found.rejected.as_slice() {
+        if declares_reducer(outline, rejected, name) {
+            return true;
+        }
+    }
     for bad in outline.bad {
         if bad.is_directive() && bad.has_word(outline.bytes, name) {
             return true;
         }
     }
     false
+}
+
+// Whether a rejected statement declares a reducer with this name.
+fn declares_reducer(outline: &Outline<'_>, rejected: &Rejected, name: &[u8]) -> bool {
+    let first = rejected.first;
+    match (
+        outline.tokens.get(first),
+        outline.tokens.get(first.saturating_add(2)),
+    ) {
+        (Some(token), Some(named)) => {
+            token.kind == Kind::Reducer && word_of(outline.bytes, *named).is(name)
+        }
+        _ => false,
+    }
 }
 
 // Whether an error may follow from what does not parse.
@@ -245,16 +309,25 @@ fn add_hint(
 
 // Where a name is in a line.
 fn spot_of(outline: &Outline<'_>, line: u32, name: Word<'_>, other: Option<u32>) -> Spot {
-    for token in outline.tokens {
+    let other_start = outline.start_of_line(other);
+    for index in first_from(outline.tokens, line)..outline.tokens.len() {
+        let token = outline.tokens[index];
         if token.line > line {
             break;
         }
-        if token.line == line && word_of(outline.bytes, *token).is(name.text) {
+        if word_of(outline.bytes, token).is(name.text) {
             let place = token.start as usize;
-            return Spot::at(line, line_start(outline.bytes, place), place, other);
+            return Spot {
+                other_start,
+                ..Spot::at(line, line_start(outline.bytes, place), place, other)
+            };
         }
     }
-    Spot::of_line(line, other)
+    Spot {
+        other_start,
+        start: outline.start_of_line(Some(line)),
+        ..Spot::of_line(line, other)
+    }
 }
 
 // Adds an error of names, types or ownership.
@@ -338,10 +411,10 @@ pub fn add_ownership(
 fn tree_of<'a>(
     alloc: Global,
     outline: &Outline<'a>,
-    whole: &'a [u8],
+    mended: Mended<'a>,
     lines: Vec<u32>,
 ) -> Result<Ast, Fault> {
-    let text = remaining(alloc, outline, whole, lines)?;
+    let text = remaining(alloc, outline, mended, lines)?;
     let (source, tokens) = tokens_of(alloc, text.as_slice())?;
     let ast = parse(alloc, &source, tokens.as_slice())?;
     Ok(ast)
@@ -359,8 +432,8 @@ pub fn unless_memory(added: Result<(), Fault>) -> Result<(), Fault> {
     }
 }
 
-/// Adds the errors of names and types of the functions that parse, and the errors of ownership of the functions without such
-/// errors.
+/// Adds the errors of names and types of the functions that parse, as mended, and the errors of ownership of the functions
+/// without such errors. If the functions do not parse as mended, they are left out.
 ///
 /// # Errors
 ///
@@ -370,48 +443,43 @@ pub fn add_checks<'a>(
     listing: &mut Listing,
     file: Named<'_>,
     outline: &Outline<'a>,
-    whole: &'a [u8],
+    mended: Mended<'a>,
 ) -> Result<(), Fault> {
-    let ast = tree_of(alloc, outline, whole, Vec::new(alloc))?;
-    let lines = add_checks_of(alloc, listing, file, outline, ast)?;
-    if lines.is_empty() {
-        return Ok(());
+    match tree_of(alloc, outline, mended, Vec::new(alloc)) {
+        Ok(ast) => add_checks_of(alloc, listing, file, outline, mended, ast),
+        Err(Fault::Memory) => Err(Fault::Memory),
+        Err(_) => {
+            let mended = Mended {
+                is_on: false,
+                ..mended
+            };
+            let ast = tree_of(alloc, outline, mended, Vec::new(alloc))?;
+            add_checks_of(alloc, listing, file, outline, mended, ast)
+        }
     }
-    add_others(alloc, listing, outline, whole, lines)
 }
 
-/// Adds the errors of names and types of a program, or, if it has no such error, the errors of ownership; returns the lines of
-/// the errors of names and types.
-///
-/// # Errors
-///
-/// `Memory` if memory runs out; another fault if the tree is too large.
-pub fn add_checks_of(
-    alloc: Global,
-    listing: &mut Listing,
-    file: Named<'_>,
-    outline: &Outline<'_>,
-    ast: Ast,
-) -> Result<Vec<u32>, Fault> {
-    let lines = add_types(alloc, listing, file, outline, &ast)?;
-    if lines.is_empty() {
-        add_ownership(alloc, listing, outline, ast)?;
-    }
-    Ok(lines)
-}
-
-/// Adds the errors of ownership of the functions that parse and have none of these lines.
+/// Adds the errors of names and types of a program, and, unless it is large, the errors of ownership of its functions without
+/// such errors.
 ///
 /// # Errors
 ///
 /// `Memory` if memory runs out; another fault if the stages cannot read these functions.
-pub fn add_others<'a>(
+pub fn add_checks_of<'a>(
     alloc: Global,
     listing: &mut Listing,
+    file: Named<'_>,
     outline: &Outline<'a>,
-    whole: &'a [u8],
-    lines: Vec<u32>,
+    mended: Mended<'a>,
+    ast: Ast,
 ) -> Result<(), Fault> {
-    let ast = tree_of(alloc, outline, whole, lines)?;
+    let lines = add_types(alloc, listing, file, outline, &ast)?;
+    if lines.is_empty() {
+        return add_ownership(alloc, listing, outline, ast);
+    }
+    if mended.whole.len() > MOST_BYTES {
+        return Ok(());
+    }
+    let ast = tree_of(alloc, outline, mended, lines)?;
     add_ownership(alloc, listing, outline, ast)
 }

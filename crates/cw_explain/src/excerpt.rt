@@ -97,6 +97,8 @@ pub struct Lines {
     pub before: Option<usize>,
     /// The place where the line begins, if it is known.
     pub start: Option<usize>,
+    /// The place where the other line begins, if it is known.
+    pub other_start: Option<usize>,
 }
 
 /// The most bytes of a line that are read.
@@ -119,7 +121,8 @@ pub fn add_lines(out: &mut String, source: &[u8], lines: Lines) -> Result<(), Al
     let other = lines.other.unwrap_or(lines.line);
     let columns = digits(lines.line.max(other));
     if other < lines.line {
-        add_line(out, text_of(source, other, None), other, columns)?;
+        let text = text_of(source, other, lines.other_start);
+        add_line(out, text, other, columns)?;
     }
     let text = text_of(source, lines.line, lines.start);
     add_line(out, text, lines.line, columns)?;
@@ -127,7 +130,8 @@ pub fn add_lines(out: &mut String, source: &[u8], lines: Lines) -> Result<(), Al
         add_caret(out, text, before, columns)?;
     }
     if other > lines.line {
-        add_line(out, text_of(source, other, None), other, columns)?;
+        let text = text_of(source, other, lines.other_start);
+        add_line(out, text, other, columns)?;
     }
     Ok(())
 }

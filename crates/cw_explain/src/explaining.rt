@@ -1,17 +1,16 @@
 //! From a fault to its explanation.
 
-use crate::checking::{
-    add_checks, add_checks_of, add_others, add_ownership, tokens_of, unless_memory,
-};
+use crate::around::first_from;
+use crate::checking::{Mended, add_checks, add_checks_of, add_ownership, tokens_of, unless_memory};
 use crate::excerpt::{Lines, add_lines};
 use crate::limits;
 use crate::listing::{Listing, Spot};
 use crate::others::{Named, of_run, parameters_of_main};
+use crate::repairs::Repairs;
 use crate::scan::{Bad, Scan, scanned};
 use crate::syntax::{Outline, add_syntax};
 use crate::traps::{multiplies, trapped};
 use cw_gen::excess_of;
-use cw_lex::{Uncut, first_uncut};
 use cw_loops::lower;
 use cw_model::limits::MOST_SOURCE_BYTES;
 use cw_model::token::Token;
@@ -23,6 +22,13 @@ use cw_tree::syntax::Ast;
 use cw_types::{check, too_large};
 use std::alloc::{AllocError, Global};
 use std::fmt;
+
+/// The most bytes of a source whose errors of all stages are explained, and the most bytes after the first that starts no token
+/// in which more of them are explained.
+pub const MOST_BYTES: usize = 32_768;
+
+/// The most tokens after the line of the first error in which further errors of a larger source are explained.
+const MOST_TOKENS: usize = 8_192;
 
 /// A source that is rejected, with the words that it was run with.
 #[derive(Clone, Copy)]
@@ -63,8 +69,9 @@ impl<'a> Refused<'a> {
 /// Returns the rule that is broken and what to write instead, on one line that begins with the source and its line; then the
 /// lines of the source that matter, with their numbers and a caret if the column is known. For bytes, tokens, names, types and
 /// ownership these are all errors that are found, in order of lines: at most fifty (at most twenty lines for names and types,
-/// and for ownership) and the number of the others, with at most 4 KiB for each ten. Each line ends with a line feed. The text
-/// is empty if memory ran out or the verifier rejected code.
+/// and for ownership) and the number of the others, with at most 4 KiB for each ten. In a source of more than `MOST_BYTES` they
+/// are errors of one stage, for bytes and tokens near the first. Each line ends with a line feed. The text is empty if memory
+/// ran out or the verifier rejected code.
 ///
 /// # Errors
 ///
@@ -83,7 +90,8 @@ fn add_reason(
     fault: &Fault,
 ) -> Result<(), Fault> {
     match fault {
-        Fault::Lexical(_) | Fault::Syntax(_) => of_source(alloc, out, refused),
+        Fault::Lexical(_) => of_source(alloc, out, refused, None),
+        Fault::Syntax(place) => of_source(alloc, out, refused, Some(place.line)),
         Fault::Types(_) => of_program(alloc, out, refused, true),
         Fault::Ownership(_) => of_program(alloc, out, refused, false),
         Fault::Size(place) => of_size(alloc, out, refused, place.line),
@@ -112,6 +120,7 @@ fn add_rule<D: fmt::Display>(
         other,
         before: None,
         start: None,
+        other_start: None,
     };
     add_lines(out, subject.bytes, lines)?;
     Ok(())
@@ -144,15 +153,78 @@ fn of_arguments(alloc: Global, out: &mut String, refused: &Refused<'_>) -> Resul
     Ok(())
 }
 
-// Explains bytes that start no token, tokens that do not parse, and errors of names, types and ownership: all of them.
-fn of_source(alloc: Global, out: &mut String, refused: &Refused<'_>) -> Result<(), Fault> {
+// Explains bytes that start no token, tokens that do not parse, and errors of names, types and ownership: all of them in a
+// source of at most `MOST_BYTES`; in a larger one errors of the stage that rejects it, near the first.
+fn of_source(
+    alloc: Global,
+    out: &mut String,
+    refused: &Refused<'_>,
+    line: Option<u32>,
+) -> Result<(), Fault> {
     let bytes = refused.bytes;
-    let file = Named { path: refused.file };
     let mut listing = Listing::new(alloc);
-    let scan = scanned(alloc, bytes)?;
-    add_bad(&mut listing, bytes, scan.bad.as_slice())?;
-    add_tokens(alloc, &mut listing, bytes, file, &scan)?;
-    listing.write(out, bytes, file)
+    match line {
+        Some(line) if bytes.len() > MOST_BYTES => add_first(alloc, &mut listing, bytes, line)?,
+        _ => {
+            let scan = scanned(alloc, bytes, MOST_BYTES)?;
+            add_scanned(alloc, &mut listing, refused, &scan)?;
+        }
+    }
+    listing.write(out, bytes, Named { path: refused.file })
+}
+
+// Adds the bytes that start no token, and, unless the source is large, what the stages after the lexer reject.
+fn add_scanned(
+    alloc: Global,
+    listing: &mut Listing,
+    refused: &Refused<'_>,
+    scan: &Scan,
+) -> Result<(), Fault> {
+    let bytes = refused.bytes;
+    add_bad(listing, bytes, scan.bad.as_slice())?;
+    if bytes.len() > MOST_BYTES {
+        return Ok(());
+    }
+    add_tokens(alloc, listing, bytes, Named { path: refused.file }, scan)
+}
+
+// Adds what does not parse from a line of a large source on.
+fn add_first(alloc: Global, listing: &mut Listing, bytes: &[u8], line: u32) -> Result<(), Fault> {
+    let (_source, tokens) = tokens_of(alloc, bytes)?;
+    let tokens = tokens.as_slice();
+    let reach = first_from(tokens, line).saturating_add(MOST_TOKENS);
+    let near = tokens.get(..reach).unwrap_or(tokens);
+    let mut found = recover(alloc, bytes, near)?;
+    if near.len() == tokens.len() {
+        return add_rejected(alloc, listing, bytes, near, &found);
+    }
+    // what does not parse because the other tokens are missing
+    let count = near.len();
+    found.rejected.retain(|rejected| rejected.place < count);
+    if !found.rejected.is_empty() {
+        return add_rejected(alloc, listing, bytes, near, &found);
+    }
+    let found = recover(alloc, bytes, tokens)?;
+    add_rejected(alloc, listing, bytes, tokens, &found)
+}
+
+// Adds what does not parse of these tokens.
+fn add_rejected(
+    alloc: Global,
+    listing: &mut Listing,
+    bytes: &[u8],
+    tokens: &[Token],
+    found: &Recovered,
+) -> Result<(), Fault> {
+    let outline = Outline {
+        bytes,
+        tokens,
+        bad: &[],
+        found,
+        typed: &[],
+    };
+    add_syntax(alloc, listing, &outline)?;
+    Ok(())
 }
 
 // Adds the bytes that start no token.
@@ -188,16 +260,22 @@ fn add_tokens<'a>(
         return listing.add(Spot::of_line(at.line, None), &limits::of_tokens(at.reason));
     }
     let all = scan.bad.as_slice();
-    let mut found = recover(alloc, text, tokens)?;
-    found.items = left_out(alloc, found.items.as_slice(), tokens, all)?;
+    let found = recover(alloc, text, tokens)?;
+    let typed = typed_items(alloc, found.items.as_slice(), tokens, all)?;
     let outline = Outline {
         bytes,
         tokens,
         bad: all,
         found: &found,
+        typed: typed.as_slice(),
     };
-    add_syntax(alloc, listing, &outline)?;
-    unless_memory(add_checks(alloc, listing, file, &outline, text))
+    let repairs = add_syntax(alloc, listing, &outline)?;
+    let mended = Mended {
+        whole: text,
+        repairs: &repairs,
+        is_on: true,
+    };
+    unless_memory(add_checks(alloc, listing, file, &outline, mended))
 }
 
 // Explains errors of names and types, or of ownership, of a source that parses.
@@ -212,49 +290,51 @@ fn of_program(
     let mut listing = Listing::new(alloc);
     let (source, tokens) = tokens_of(alloc, bytes)?;
     let tokens = tokens.as_slice();
-    let none = Recovered {
-        rejected: Vec::new(alloc),
-        items: Vec::new(alloc),
+    let ast = parse(alloc, &source, tokens)?;
+    let found = if is_of_types && bytes.len() <= MOST_BYTES {
+        recover(alloc, bytes, tokens)?
+    } else {
+        Recovered {
+            rejected: Vec::new(alloc),
+            items: Vec::new(alloc),
+        }
     };
     let outline = Outline {
         bytes,
         tokens,
         bad: &[],
-        found: &none,
+        found: &found,
+        typed: &[],
     };
-    let ast = parse(alloc, &source, tokens)?;
-    if is_of_types {
-        let lines = add_checks_of(alloc, &mut listing, file, &outline, ast)?;
-        let found = recover(alloc, bytes, tokens)?;
-        let outline = Outline {
-            found: &found,
-            ..outline
-        };
-        unless_memory(add_others(alloc, &mut listing, &outline, bytes, lines))?;
+    let repairs = Repairs::new(alloc);
+    let mended = Mended {
+        whole: bytes,
+        repairs: &repairs,
+        is_on: false,
+    };
+    unless_memory(if is_of_types {
+        add_checks_of(alloc, &mut listing, file, &outline, mended, ast)
     } else {
-        add_ownership(alloc, &mut listing, &outline, ast)?;
-    }
+        add_ownership(alloc, &mut listing, &outline, ast)
+    })?;
     listing.write(out, bytes, file)
 }
 
-// The items of a source; those in which bytes were replaced that names or types may depend on do not count as whole.
-fn left_out(
+// Whether names and types of each item are as they were before bytes were replaced.
+fn typed_items(
     alloc: Global,
     items: &[Item],
     tokens: &[Token],
     all: &[Bad],
-) -> Result<Vec<Item>, AllocError> {
+) -> Result<Vec<bool>, AllocError> {
     let mut next = 0;
-    let mut left = Vec::new(alloc);
+    let mut typed = Vec::new(alloc);
     for item in items {
         let (place, is_typed) = typed_until(item, tokens, all, next);
         next = place;
-        left.push(Item {
-            is_whole: item.is_whole && is_typed,
-            ..*item
-        })?;
+        typed.push(is_typed)?;
     }
-    Ok(left)
+    Ok(typed)
 }
 
 // The first replaced bytes after an item, from some on, and whether names and types of the item are as they were.
@@ -276,30 +356,22 @@ fn typed_until(item: &Item, tokens: &[Token], all: &[Bad], next: usize) -> (usiz
 
 // Explains a limit: of the bytes, a name, the tokens, the program's parts, and its code, in this order.
 fn of_size(alloc: Global, out: &mut String, refused: &Refused<'_>, line: u32) -> Result<(), Fault> {
-    match first_uncut(refused.bytes) {
-        Some(found) => of_uncut(alloc, out, refused, &found.reason),
-        None => of_limit(alloc, out, &refused.at(line)),
+    let count = refused.bytes.len();
+    if count > MOST_SOURCE_BYTES {
+        add_place(out, Named { path: refused.file }, 1)?;
+        write!(
+            out,
+            "the source has {count} bytes, but at most {MOST_SOURCE_BYTES} are allowed\n"
+        )?;
+        return Ok(());
     }
-}
-
-// Explains that there are too many bytes, or that a name is too long.
-fn of_uncut(
-    alloc: Global,
-    out: &mut String,
-    refused: &Refused<'_>,
-    reason: &Uncut<'_>,
-) -> Result<(), Fault> {
-    match reason {
-        Uncut::TooLong(bytes) => {
-            add_place(out, Named { path: refused.file }, 1)?;
-            write!(
-                out,
-                "the source has {bytes} bytes, but at most {MOST_SOURCE_BYTES} are allowed\n"
-            )?;
-            Ok(())
-        }
-        _ => of_source(alloc, out, refused),
+    let scan = scanned(alloc, refused.bytes, MOST_BYTES)?;
+    if scan.bad.is_empty() {
+        return of_limit(alloc, out, &refused.at(line));
     }
+    let mut listing = Listing::new(alloc);
+    add_scanned(alloc, &mut listing, refused, &scan)?;
+    listing.write(out, refused.bytes, Named { path: refused.file })
 }
 
 // Explains a limit of the tokens, the program's parts or its code.

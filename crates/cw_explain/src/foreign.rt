@@ -274,13 +274,13 @@ fn is_next(text: &[u8], word: &[u8]) -> bool {
 
 // The last byte of a text that is no space.
 fn last_of(text: &[u8]) -> Option<u8> {
-    let mut last = None;
-    for byte in text {
-        if *byte != b' ' && *byte != b'\t' {
-            last = Some(*byte);
+    for back in 0..text.len() {
+        match text.get(text.len().saturating_sub(back).saturating_sub(1)) {
+            Some(b' ') | Some(b'\t') => {}
+            byte => return byte.copied(),
         }
     }
-    last
+    None
 }
 
 // Whether a text ends with what a word denotes.

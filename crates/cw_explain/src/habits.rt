@@ -11,6 +11,8 @@
 //! `@m` from `@n` on, `@>` after it and `@)` after the next one, `@(` the group that it opens, `@;` the tokens after this
 //! group, `@[` the tokens before the name before it, `@=` the tokens after `x =` up to it. `@{` is the line of the innermost open bracket, `@l`
 //! the advice for a name of a library from the token before it on, `@L` from the first token on, `@x` the value of a hexadecimal number.
+//! What is between two `@!`, or from one on, replaces the statement for the stages after the parser, or, outside of functions,
+//! is inserted before the token (`repairs`).
 //!
 //! Of several rows that apply the first counts. Each table is returned by a function of its own, because a function that
 //! names a table is checked with all of its rows.
@@ -273,6 +275,16 @@ static PARAMETERS: &[Row] = &[
         "=",
         "a reducer has no initial value: write @<;",
     ),
+    (
+        "reducer",
+        "",
+        "[",
+        "a reducer is one number: write reducer sum s0; and so on for a few elements, or pass a part of an array by cut to each call, and add the parts after the cilk_sync",
+    ),
+    ("", "(", "x ,", "a parameter has a type: write @!int @!@0"),
+    ("", "(", "x )", "a parameter has a type: write @!int @!@0"),
+    ("", ",", "x ,", "a parameter has a type: write @!int @!@0"),
+    ("", ",", "x )", "a parameter has a type: write @!int @!@0"),
 ];
 
 static ITEMS: &[Row] = &[
@@ -357,8 +369,8 @@ static WORDS: &[Row] = &[
         "",
         "there is no switch: write if (..) { .. } else { if (..) { .. } }",
     ),
-    ("sync ;", "", "", "write cilk_sync;"),
-    ("_Cilk_sync ;", "", "", "write cilk_sync;"),
+    ("sync ;", "", "", "write @!cilk_sync;"),
+    ("_Cilk_sync ;", "", "", "write @!cilk_sync;"),
     ("spawn x", "", "", "write cilk_spawn @&(..);"),
     ("_Cilk_spawn x", "", "", "write cilk_spawn @&(..);"),
     ("", "spawn", "x", "write cilk_spawn @.;"),
@@ -439,7 +451,7 @@ static TYPED: &[Row] = &[
         "type x ;",
         "",
         "",
-        "there is no type @^, and a declaration has a value: write int @n = 0;",
+        "there is no type @^, and a declaration has a value: write @!int @n = 0;",
     ),
     (
         "type x = argc",
@@ -466,7 +478,7 @@ static TYPED: &[Row] = &[
         "",
         "there is no type @^, and new elements are 0: write int @n[N]; and assign other values by statements",
     ),
-    ("type x", "", "", "there is no type @^: write int @m"),
+    ("type x", "", "", "there is no type @^: write @!int @m"),
     (
         "x",
         "first",
@@ -585,13 +597,13 @@ static LOOPS: &[Row] = &[
         "",
         "int x =",
         "cilk_spawn",
-        "a spawn is a statement of its own: write int @2 = 0; @2 = @.",
+        "a spawn is a statement of its own: write @!int @2 = 0; @2 = @.",
     ),
     (
         "",
         "return",
         "cilk_spawn",
-        "a spawn is a statement of its own: write int @r = 0; @r = @. cilk_sync; return @r;",
+        "a spawn is a statement of its own: write @!int @r = 0; @r = @. cilk_sync; return @r;",
     ),
     (
         "",
@@ -605,31 +617,31 @@ static LOOPS: &[Row] = &[
         "int x = x",
         "int x = x",
         "(..) ;",
-        "a call is a statement of its own: write int @3 = 0; @3 = @1@(;",
+        "a call is a statement of its own: write @!int @3 = 0; @3 = @1@(;",
     ),
     (
         "return x",
         "return x",
         "(..) ;",
-        "a call is a statement of its own: write int @r = 0; @r = @1@(; return @r;",
+        "a call is a statement of its own: write @!int @r = 0; @r = @1@(; return @r;",
     ),
     (
         "while ( x",
         "( x",
         "(..)",
-        "a call is a statement of its own: write int @r = 0; @r = @1@(; before the loop, @[@r@;, and @r = @1@(; at the end of its body",
+        "a call is a statement of its own: write @!int @r = 0; @r = @1@(;@! before the loop, @!@[@r@;@!, and @r = @1@(; at the end of its body",
     ),
     (
         "",
         "cilk_sync",
         "(",
-        "cilk_sync has no parentheses: write cilk_sync;",
+        "cilk_sync has no parentheses: write @!cilk_sync;",
     ),
     (
         "x = x",
         "= x",
         "(..) operator",
-        "a call is a statement of its own: write int @r = 0; @r = @1@(; @^ = @r@;",
+        "a call is a statement of its own: write @!int @r = 0; @r = @1@(; @^ = @r@;",
     ),
 ];
 

@@ -20,6 +20,7 @@ mod others;
 mod owning;
 mod phrase;
 mod refusals;
+mod repairs;
 mod scan;
 mod shortened;
 mod statement_habits;

@@ -84,23 +84,23 @@ impl<'a> Around<'a> {
         }
     }
 
-    // Where the token at a place begins.
-    fn start_of(&self, place: usize) -> usize {
+    /// Returns where the token at a place begins.
+    pub fn start_of(&self, place: usize) -> usize {
         self.at(place)
             .map(|token| token.start as usize)
             .unwrap_or(self.text.len())
     }
 
-    // Where the token before a place ends.
-    fn end_before(&self, place: usize) -> usize {
+    /// Returns where the token before a place ends.
+    pub fn end_before(&self, place: usize) -> usize {
         match self.at(place.saturating_sub(1)) {
             Some(token) if place > 0 => token.end as usize,
             _ => 0,
         }
     }
 
-    // The tokens from one place to before another.
-    fn part(&self, from: usize, to: usize) -> ClippedText<'a> {
+    /// Returns the tokens from one place to before another.
+    pub fn part(&self, from: usize, to: usize) -> ClippedText<'a> {
         self.bytes(self.start_of(from), self.end_before(to))
     }
 
@@ -196,8 +196,8 @@ impl<'a> Around<'a> {
         }
     }
 
-    // The part of the statement that a mark denotes.
-    fn marked_part(&self, mark: u8) -> Option<ClippedText<'a>> {
+    /// Returns the part of the statement that a mark denotes.
+    pub fn marked_part(&self, mark: u8) -> Option<ClippedText<'a>> {
         let part = match mark {
             b'<' => self.part(self.first, self.place),
             b'.' => self.rest(self.place),

@@ -1,11 +1,14 @@
 //! Names that are one edit away from others.
 
-use crate::around::word_of;
+use crate::around::{first_from, word_of};
 use crate::word::Word;
 use cw_model::token::{Kind, Token};
 
 /// The minimum length of names that are compared, in bytes.
 const LEAST_BYTES: usize = 3;
+
+/// The most tokens before a line that are searched for a parameter.
+const MOST_SEARCHED: usize = 8_192;
 
 // The bytes of a text from a place on.
 fn from(text: &[u8], place: usize) -> &[u8] {
@@ -86,24 +89,25 @@ pub fn is_declared(text: &[u8], tokens: &[Token], name: Word<'_>) -> bool {
     false
 }
 
-/// Returns whether a reducer of this name is declared among these tokens.
-pub fn is_reducer(text: &[u8], tokens: &[Token], name: Word<'_>) -> bool {
+/// Returns how the reducer of this name reduces that is declared among these tokens: `sum` or `max`.
+pub fn reduction_of(text: &[u8], tokens: &[Token], name: Word<'_>) -> Option<Kind> {
     let mut last = None;
     for token in tokens {
         let is_next = matches!(last, Some(Kind::Sum) | Some(Kind::Max));
         if is_next && token.kind == Kind::Name && word_of(text, *token).is(name.text) {
-            return true;
+            return last;
         }
         last = Some(token.kind);
     }
-    false
+    None
 }
 
 /// Returns whether the function that contains a line has a const parameter of this name.
 pub fn is_const(text: &[u8], tokens: &[Token], name: Word<'_>, line: u32) -> bool {
     let mut braces: usize = 0;
     let mut found = false;
-    for place in 0..tokens.len() {
+    let start = first_from(tokens, line).saturating_sub(MOST_SEARCHED);
+    for place in start..tokens.len() {
         let token = tokens[place];
         if token.line > line {
             return found;

@@ -30,7 +30,7 @@ pub fn phrase_of<'a>(text: &Text<'_>, line: u32, reason: &'a Disowned<'_>) -> Ph
     match reason {
         Disowned::Held(used, touch, holder, since) => {
             let name = name_of(used);
-            if matches!(touch, Touch::Read) && text.is_length(line, name) {
+            if matches!(touch, Touch::Read) && text.is_length(line, name, None) {
                 return length(text, name, *holder, line, *since);
             }
             held(name, *touch, *holder, line, *since)
@@ -50,8 +50,12 @@ pub fn phrase_of<'a>(text: &Text<'_>, line: u32, reason: &'a Disowned<'_>) -> Ph
             outer_array(name, *touch, *head, is_const)
         }
         Disowned::OtherElement(used, touch, variable, head) => {
-            let is_length = text.is_length(line, name_of(used));
-            other_element(name_of(used), *touch, name_of(variable), *head, is_length)
+            let name = name_of(used);
+            let variable = name_of(variable);
+            if text.is_length(line, name, Some(variable)) {
+                return length_in_loop(text, name, *head);
+            }
+            other_element(name, *touch, variable, *head)
         }
     }
 }
@@ -275,16 +279,24 @@ fn outer_array(name: Word<'_>, touch: Touch, head: u32, is_const: bool) -> Phras
     }
 }
 
+// A loop's body that uses the length of an array of the loop.
+fn length_in_loop<'a>(text: &Text<'_>, name: Word<'a>, head: u32) -> Phrase<'a> {
+    let fresh = fresh_name(text.bytes, text.tokens);
+    Phrase::of(
+        "the cilk_for in line @1 has @a in over, so its body may not use len(@a): write int @b = len(@a); before the loop, and @b here",
+        [
+            name,
+            Word {
+                text: fresh.as_bytes(),
+            },
+        ],
+        [u64::from(head), 0, 0],
+    )
+}
+
 // A loop's body that uses an array of the loop in another way than it may.
-fn other_element<'a>(
-    name: Word<'a>,
-    touch: Touch,
-    variable: Word<'a>,
-    head: u32,
-    is_length: bool,
-) -> Phrase<'a> {
+fn other_element<'a>(name: Word<'a>, touch: Touch, variable: Word<'a>, head: u32) -> Phrase<'a> {
     let remedy = match touch {
-        _ if is_length => ": write int n = len(@a); before the loop, and n here",
         Touch::Read =>
             ": copy the other elements into a const array or integers before the loop, or write a function that halves the range and spawns itself",
         Touch::Written | Touch::Passed | Touch::Cut | Touch::NamedInOver => PARTS,

@@ -7,7 +7,7 @@ use crate::word::Word;
 use crate::{owning, typing};
 use cw_own::Disowned;
 use cw_text::Reasons;
-use cw_types::IllTyped;
+use cw_types::{IllTyped, Other};
 
 /// A line that is rejected, with the rule that it breaks in words, and the other line that matters, if there is one.
 #[derive(Clone, Copy)]
@@ -52,7 +52,12 @@ impl<'a> OfTypes<'a> {
     // What a line does with the name that it is rejected for.
     fn call(&self, line: u32, reason: &IllTyped<'_>) -> Call<'a> {
         match reason {
+            IllTyped::NotInteger(name, Other::Reducer, _) => {
+                self.text.use_of_reducer(line, Word::of(name))
+            }
             IllTyped::NotInteger(name, _, _) => self.text.use_of(line, Word::of(name)),
+            IllTyped::OnlyRead(name, _) => self.text.use_of_const(line, Word::of(name)),
+            IllTyped::Unknown(name) => self.text.ended(line, Word::of(name)),
             IllTyped::NotReducer(name, _) => self.text.outer(line, Word::of(name)),
             IllTyped::ArgumentNotArray(place, name, _, _) => {
                 self.text.argument(line, Word::of(name), *place)
@@ -72,7 +77,9 @@ impl Refusals for OfTypes<'_> {
                 Some(Refusal {
                     line: at.line,
                     phrase: typing::phrase_of(&at.reason, &context),
-                    other_line: typing::other_line(&at.reason).or(inside),
+                    other_line: typing::other_line(&at.reason)
+                        .or(inside)
+                        .or(call.other_line()),
                 })
             }
             _ => None,

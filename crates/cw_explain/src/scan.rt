@@ -230,13 +230,19 @@ fn of_dot(bytes: &[u8], at: usize) -> Change {
     spaces(at, after_word(bytes, next), b' ', true)
 }
 
-// What replaces a text in quotes.
+// Whether the word before a place, and before a space there, is region.
+fn is_tag(bytes: &[u8], at: usize) -> bool {
+    let end = at.saturating_sub(1);
+    byte_at(bytes, end) == b' ' && bytes.get(end.saturating_sub(6)..end) == Some(b"region")
+}
+
+// What replaces a text in quotes: a name if it is the tag of a region.
 fn of_text(bytes: &[u8], at: usize) -> Change {
-    let end = match after_quotes(bytes, at, b'"') {
-        Some(end) => end,
-        None => line_end(bytes, at),
-    };
-    spaces(at, end, b'0', false)
+    match after_quotes(bytes, at, b'"') {
+        Some(end) if is_tag(bytes, at) => spaces(at, end, b'r', true),
+        Some(end) => spaces(at, end, b'0', false),
+        None => spaces(at, line_end(bytes, at), b'0', false),
+    }
 }
 
 // What replaces a comment of C; what follows one that is not closed is unknown.
@@ -279,12 +285,12 @@ fn change_of(bytes: &[u8], at: usize, reason: &Uncut<'_>) -> Change {
     }
 }
 
-/// Replaces what starts no token, and the comments of C.
+/// Replaces what starts no token, and the comments of C, up to a number of bytes after the first of them.
 ///
 /// # Errors
 ///
 /// Returns an error if memory runs out.
-pub fn scanned(alloc: Global, bytes: &[u8]) -> Result<Scan, AllocError> {
+pub fn scanned(alloc: Global, bytes: &[u8], most: usize) -> Result<Scan, AllocError> {
     let mut scanner = Scanner {
         bytes,
         text: Vec::new(alloc),
@@ -293,7 +299,7 @@ pub fn scanned(alloc: Global, bytes: &[u8]) -> Result<Scan, AllocError> {
         questions: 0,
     };
     for _ in 0..bytes.len() {
-        if !scanner.step()? {
+        if scanner.is_beyond(most) || !scanner.step()? {
             break;
         }
     }
@@ -304,6 +310,14 @@ pub fn scanned(alloc: Global, bytes: &[u8]) -> Result<Scan, AllocError> {
 }
 
 impl Scanner<'_> {
+    // Whether more than a number of bytes follow the first that start no token.
+    fn is_beyond(&self, most: usize) -> bool {
+        match self.bad.as_slice() {
+            [first, ..] => self.text.len() > (first.place as usize).saturating_add(most),
+            [] => false,
+        }
+    }
+
     // Reads the next token, separator or comment, or what starts none; returns false at the end.
     fn step(&mut self) -> Result<bool, AllocError> {
         let at = self.text.len();

@@ -1,17 +1,18 @@
 //! The errors of the grammar: each statement and each head that does not parse, and names of libraries in functions that the
 //! stages after the parser do not see.
 
-use crate::around::{Around, Opened};
+use crate::around::{Around, Opened, first_from};
 use crate::checking::is_suspect;
 use crate::excerpt::line_start;
 use crate::listing::{Listing, Spot};
 use crate::phrase::Marks;
+use crate::repairs::Repairs;
 use crate::scan::Bad;
 use crate::shortened::Shortened;
 use crate::unparsed::{nowhere, unparsed_at, update_of};
 use crate::word::Word;
 use cw_model::token::{Kind, Token};
-use cw_parse::{Item, Recovered, Rejected};
+use cw_parse::{Recovered, Rejected};
 use cw_text::Fault;
 use std::alloc::Global;
 use std::fmt;
@@ -19,13 +20,34 @@ use std::fmt;
 /// The most tokens of a source whose names are searched for.
 const MOST_SEARCHED: usize = 8_192;
 
-/// A text, its tokens, what was replaced in it, and what of it parses.
+/// A text, its tokens, what was replaced in it, what of it parses, and the items whose names and types are as they were.
 #[derive(Clone, Copy)]
 pub struct Outline<'a> {
     pub bytes: &'a [u8],
     pub tokens: &'a [Token],
     pub bad: &'a [Bad],
     pub found: &'a Recovered,
+    pub typed: &'a [bool],
+}
+
+impl Outline<'_> {
+    /// Returns where a line with a token begins.
+    pub fn start_of_line(&self, line: Option<u32>) -> Option<usize> {
+        let line = line?;
+        let token = self.tokens.get(first_from(self.tokens, line))?;
+        if token.line != line {
+            return None;
+        }
+        Some(line_start(self.bytes, token.start as usize))
+    }
+
+    /// Returns whether names and types of the item with an index are as they were.
+    pub fn is_typed(&self, index: usize) -> bool {
+        match self.typed.get(index) {
+            Some(is_typed) => *is_typed,
+            None => true,
+        }
+    }
 }
 
 /// What to write instead of a name of a library.
@@ -66,8 +88,8 @@ struct Traversal<'a> {
     at: usize,
     /// The next item.
     item: usize,
-    /// The item with the last token.
-    last: Option<Item>,
+    /// Whether the stages after the parser see the item with the last token as it is.
+    is_seen: bool,
     /// The first replaced bytes that are not before the last rejected statement, and not before the line of the last token.
     bad: usize,
     on_line: usize,
@@ -79,6 +101,7 @@ struct Traversal<'a> {
     is_first: bool,
     /// Where tokens end that seem to be statements outside of functions.
     outside: usize,
+    repairs: Repairs,
 }
 
 // The place where a token begins, or the end of the text.
@@ -129,7 +152,7 @@ impl<'a> Traversal<'a> {
             short: Shortened::new(alloc),
             at: 0,
             item: 0,
-            last: None,
+            is_seen: true,
             bad: 0,
             on_line: 0,
             line: 0,
@@ -137,7 +160,42 @@ impl<'a> Traversal<'a> {
             held: usize::MAX,
             is_first: true,
             outside: usize::MAX,
+            repairs: Repairs::new(alloc),
         }
+    }
+
+    // Adds the tokens before a place; the next statement that does not parse begins at `rejected`. Skips items without errors.
+    fn go(&mut self, listing: &mut Listing, until: usize, rejected: usize) -> Result<(), Fault> {
+        for _ in self.at..until {
+            if self.at >= until {
+                break;
+            }
+            match self.seen_until(until) {
+                Some(end) => self.skip(end),
+                None => self.step(listing, rejected)?,
+            }
+        }
+        Ok(())
+    }
+
+    // The end of the item that begins with the next token, if it has no error and ends before a place.
+    fn seen_until(&self, until: usize) -> Option<usize> {
+        let item = self.outline.found.items.get(self.item)?;
+        let is_next = item.first == self.at && item.first != self.held;
+        let is_inside = self.at < item.end && item.end <= until;
+        if is_next && is_inside && item.is_whole && self.outline.is_typed(self.item) {
+            return Some(item.end);
+        }
+        None
+    }
+
+    // Goes on after an item.
+    fn skip(&mut self, end: usize) {
+        self.is_seen = true;
+        self.item = self.item.saturating_add(1);
+        self.opened.restart(end);
+        self.short.restart();
+        self.at = end;
     }
 
     // Adds the next token; the next statement that does not parse begins at `rejected`.
@@ -172,7 +230,7 @@ impl<'a> Traversal<'a> {
     fn enter(&mut self) {
         if let Some(item) = self.outline.found.items.get(self.item) {
             if item.first <= self.at && item.first != self.held {
-                self.last = Some(*item);
+                self.is_seen = item.is_whole && self.outline.is_typed(self.item);
                 self.item = self.item.saturating_add(1);
                 self.opened.restart(self.at);
                 self.short.restart();
@@ -182,11 +240,7 @@ impl<'a> Traversal<'a> {
 
     // Whether the next token is in a function that the stages after the parser do not see, in a line as it was.
     fn is_unseen(&mut self, line: u32) -> bool {
-        match self.last {
-            Some(item) if !item.is_whole => {}
-            _ => return false,
-        }
-        self.outline.tokens.len() <= MOST_SEARCHED && !self.is_bad_line(line)
+        !self.is_seen && self.outline.tokens.len() <= MOST_SEARCHED && !self.is_bad_line(line)
     }
 
     // Adds what to write instead of a += on a name that is not a reducer, in a function that the stages after the parser do not
@@ -204,7 +258,7 @@ impl<'a> Traversal<'a> {
         }
         if let Some(says) = update_of(&around) {
             if listing.takes() {
-                listing.add(self.spot(token, None), &Said { around, says })?;
+                listing.add(self.spot(name, None), &Said { around, says })?;
             }
         }
         Ok(())
@@ -265,7 +319,10 @@ impl<'a> Traversal<'a> {
             self.line = token.line;
             self.start = line_start(self.outline.bytes, place);
         }
-        Spot::at(token.line, self.start, place, other)
+        Spot {
+            other_start: self.outline.start_of_line(other),
+            ..Spot::at(token.line, self.start, place, other)
+        }
     }
 
     // Whether bytes of a statement up to the token where it does not parse were replaced, so that this may follow from it.
@@ -330,9 +387,11 @@ impl<'a> Traversal<'a> {
     ) -> Result<(), Fault> {
         let around = Around::behind(self.outline.bytes, self.outline.tokens, &self.opened);
         let is_known = self.is_known(&around, rejected) || self.follows(rejected);
+        let mut is_done = false;
         if !is_known && listing.takes() {
-            self.add(alloc, listing, around)?;
+            is_done = self.add(alloc, listing, around, rejected.next)?;
         }
+        self.repairs.done.push(is_done)?;
         self.is_first = false;
         self.held = usize::MAX;
         let next = rejected.next.min(self.outline.tokens.len());
@@ -346,19 +405,21 @@ impl<'a> Traversal<'a> {
         Ok(())
     }
 
-    // Adds what is unexpected at the next token.
+    // Adds what is unexpected at the next token, and what replaces its statement; returns whether anything does.
     fn add(
         &mut self,
         alloc: Global,
         listing: &mut Listing,
         around: Around<'a>,
-    ) -> Result<(), Fault> {
+        next: usize,
+    ) -> Result<bool, Fault> {
         let said = unparsed_at(alloc, around, &self.short)?;
         let spot = match said.found() {
             Some(token) => self.spot(token, said.other_line()),
             None => Spot::of_line(end_line(self.outline.bytes), said.other_line()),
         };
-        listing.add(spot, &said)
+        listing.add(spot, &said)?;
+        self.repairs.repair(&said, next)
     }
 }
 
@@ -374,24 +435,21 @@ fn end_line(bytes: &[u8]) -> u32 {
 }
 
 /// Adds each statement and each head that does not parse, unless this follows from what was replaced in it, and the names of
-/// libraries in functions with such errors.
+/// libraries in functions with such errors. Returns what replaces these statements.
 pub fn add_syntax(
     alloc: Global,
     listing: &mut Listing,
     outline: &Outline<'_>,
-) -> Result<(), Fault> {
+) -> Result<Repairs, Fault> {
     let mut traversal = Traversal::new(alloc, *outline);
     listing.begin();
     for rejected in outline.found.rejected.as_slice() {
         traversal.hold(rejected);
-        for _ in traversal.at..rejected.place.min(outline.tokens.len()) {
-            traversal.step(listing, rejected.first)?;
-        }
+        let until = rejected.place.min(outline.tokens.len());
+        traversal.go(listing, until, rejected.first)?;
         traversal.enter();
         traversal.reject(alloc, listing, rejected)?;
     }
-    for _ in traversal.at..outline.tokens.len() {
-        traversal.step(listing, usize::MAX)?;
-    }
-    Ok(())
+    traversal.go(listing, outline.tokens.len(), usize::MAX)?;
+    Ok(traversal.repairs)
 }

@@ -47,6 +47,8 @@ pub fn phrase_of<'a>(reason: &'a IllTyped<'_>, context: &Context<'a>) -> Phrase<
             other_at(not_integer(*other, context.call), name, *other, *line)
         }
         IllTyped::NotReducer(name, how) => not_reducer(name, *how, context),
+        IllTyped::Unknown(name) => not_declared(name, context.call),
+        IllTyped::OnlyRead(name, line) => named_at(only_read(context.call), name, *line),
         _ => of_head(reason),
     }
 }
@@ -175,20 +177,10 @@ fn may_not_return(name: &Name, inside: Option<u32>) -> Phrase<'_> {
 // Names in statements, and then what follows.
 fn of_name<'a>(reason: &'a IllTyped<'_>) -> Phrase<'a> {
     match reason {
-        IllTyped::Unknown(name) => unknown(
-            "@a is not declared here: ",
-            "declare int @a = 0; before this statement, in this block or one around it",
-            name,
-        ),
         IllTyped::NotArray(name, other, line) => other_at(
             "@a is @b (line @1), but an array is required here: declare int @a[n]; or rename one of them",
             name,
             *other,
-            *line,
-        ),
-        IllTyped::OnlyRead(name, line) => named_at(
-            "@a is const (line @1): delete const to write or cut it; a const array is read by @a[..] and len(@a), and passed whole to a const parameter, with the ends of a range",
-            name,
             *line,
         ),
         IllTyped::Known(name, line) => named_at(
@@ -209,7 +201,33 @@ fn of_name<'a>(reason: &'a IllTyped<'_>) -> Phrase<'a> {
     }
 }
 
-// A name that is not declared.
+// A name that is not declared in a statement, or only in a block that ends before it.
+fn not_declared<'a>(name: &'a Name, call: Call<'_>) -> Phrase<'a> {
+    match call {
+        Call::Ended(line) => named_at(
+            "@a is declared in line @1, in a block that ends before this statement: declare it, and the other names of that block that this statement uses, before the block",
+            name,
+            line,
+        ),
+        _ => unknown(
+            "@a is not declared here: ",
+            "declare int @a = 0; before this statement, in this block or one around it",
+            name,
+        ),
+    }
+}
+
+// A const array that is written, cut or listed in over.
+fn only_read(call: Call<'_>) -> &'static str {
+    match call {
+        Call::Listed =>
+            "@a is const (line @1), and over lists arrays that iterations may write: delete const if each iteration uses only its own element of @a; to read other elements, write a function that halves the range, spawns itself on one half and calls itself on the other, and passes @a to its const parameter",
+        _ =>
+            "@a is const (line @1): delete const to write or cut it; a const array is read by @a[..] and len(@a), and passed whole to a const parameter, with the ends of a range",
+    }
+}
+
+// A name that no declaration has.
 fn unknown<'a>(front: &'static str, says: &'static str, name: &'a Name) -> Phrase<'a> {
     let name = Word::of(name);
     let (front, says) = match advice_for(name) {
@@ -226,6 +244,8 @@ fn unknown<'a>(front: &'static str, says: &'static str, name: &'a Name) -> Phras
 // A name that is not an integer's, by what the line does with it.
 fn not_integer(other: Other, call: Call<'_>) -> &'static str {
     match (other, call) {
+        (Other::Reducer, Call::Largest) =>
+            "@a is @b (line @1), and no statement reads it: write @a max= e; for if (e > @a) { @a = e; }, and delete other uses; the run prints @a at its end",
         (Other::Reducer, Call::Target) =>
             "@a is @b (line @1): write @a += e; for @a = @a + e; no other statement uses it, and the run prints @a at its end",
         (Other::Reducer, _) =>

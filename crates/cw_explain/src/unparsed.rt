@@ -21,7 +21,7 @@ use std::fmt;
 
 /// Why a token is unexpected.
 #[derive(Clone, Copy)]
-enum Why<'a> {
+pub enum Why<'a> {
     /// This text, with its marks.
     Says(&'static str),
     /// A name that is near to this word.
@@ -39,8 +39,8 @@ enum Why<'a> {
 /// The first unexpected token, or the end of the tokens, with what is expected there.
 #[derive(Drop)]
 pub struct Unparsed<'a> {
-    around: Around<'a>,
-    why: Why<'a>,
+    pub around: Around<'a>,
+    pub why: Why<'a>,
     /// What is expected instead, each by a word that spells it.
     expected: Vec<&'static str>,
 }

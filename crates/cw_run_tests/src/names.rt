@@ -418,8 +418,8 @@ static RULES: &[Habit] = &[
     ),
     (
         "int a[8]; cilk_for (int i = 0; i < 8; i++) over (a) {\n a[i] = i;\n total += len(a); }",
-        "write int n = len(a); before the loop, and n here",
-        "int a[8]; int m = len(a); cilk_for (int i = 0; i < 8; i++) over (a) {\n a[i] = i;\n total += m; }",
+        "write int r = len(a); before the loop, and r here",
+        "int a[8]; int r = len(a); cilk_for (int i = 0; i < 8; i++) over (a) {\n a[i] = i;\n total += r; }",
     ),
     (
         "int a[8]; cut a at 4 as l, r { a[0] = 1; }",

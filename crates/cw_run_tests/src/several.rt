@@ -40,7 +40,7 @@ static SEVERAL: &[(&str, &str)] = &[
     // blocks of C, the end of one, and an update in a function that does not parse
     (
         "int main(int n) {\n  for (int j = 0; j < n; j++) { n--; }\n  do { n += 3; } while (n < 5);\n  return n;\n}",
-        "refused 2 line 2\nt:2: unexpected int: there is no for: write int j = LOW; while (j < HIGH) { .. j = j + 1; } (without int if j is declared), or cilk_for (int j = LOW; j < HIGH; j++) { .. } for independent iterations\n  2 |   for (int j = 0; j < n; j++) { n--; }\n    |        ^\nt:2: unexpected -: there is no --: write n = n - 1;\n  2 |   for (int j = 0; j < n; j++) { n--; }\n    |                                  ^\nt:3: unexpected {: there is no do: write the body once, and then while (..) { .. }\n  3 |   do { n += 3; } while (n < 5);\n    |      ^\nt:3: n is not a reducer: write n = n + 3;\n  3 |   do { n += 3; } while (n < 5);\n    |          ^\n",
+        "refused 2 line 2\nt:2: unexpected int: there is no for: write int j = LOW; while (j < HIGH) { .. j = j + 1; } (without int if j is declared), or cilk_for (int j = LOW; j < HIGH; j++) { .. } for independent iterations\n  2 |   for (int j = 0; j < n; j++) { n--; }\n    |        ^\nt:2: unexpected -: there is no --: write n = n - 1;\n  2 |   for (int j = 0; j < n; j++) { n--; }\n    |                                  ^\nt:3: unexpected {: there is no do: write the body once, and then while (..) { .. }\n  3 |   do { n += 3; } while (n < 5);\n    |      ^\nt:3: n is not a reducer: write n = n + 3;\n  3 |   do { n += 3; } while (n < 5);\n    |        ^\n",
     ),
     // a brace that is missing before a function
     (

@@ -29,6 +29,36 @@ static SOURCES: &[Habit] = &[
         "reducer max s;\nint main(int n) {\n  return n;\n}",
     ),
     (
+        "reducer sum s[2];\nint main(int n) {\n  return n;\n}",
+        "write reducer sum s0; and so on",
+        "reducer sum s0;\nreducer sum s1;\nint main(int n) {\n  return n;\n}",
+    ),
+    (
+        "int main(n) {\n  return n;\n}",
+        "a parameter has a type: write int n",
+        "int main(int n) {\n  return n;\n}",
+    ),
+    (
+        "int main(n, int m) {\n  return m;\n}",
+        "a parameter has a type: write int n",
+        "int main(int n, int m) {\n  return m;\n}",
+    ),
+    (
+        "int main(int m, n) {\n  return n;\n}",
+        "a parameter has a type: write int n",
+        "int main(int m, int n) {\n  return n;\n}",
+    ),
+    (
+        "int main(int m, n, int k) {\n  return n;\n}",
+        "a parameter has a type: write int n",
+        "int main(int m, int n, int k) {\n  return n;\n}",
+    ),
+    (
+        "int main(int n) {\n  region a-b { n = 1; }\n  return n;\n}",
+        "write region a_b",
+        "int main(int n) {\n  region a_b { n = 1; }\n  return n;\n}",
+    ),
+    (
         "/* c */\nint main(int n) {\n  return n;\n}",
         "write a comment after //",
         "// c\nint main(int n) {\n  return n;\n}",

@@ -48,7 +48,7 @@ static NAMES: &[(&str, &str)] = &[
     ),
     (
         "int main(int n) {\n  if (n) {\n    int x = 1;\n  }\n  print(x);\n  return 0;\n}",
-        "refused 3 line 5\nt:5: x is not declared here: declare int x = 0; before this statement, in this block or one around it\n  5 |   print(x);\n    |         ^\n",
+        "refused 3 line 5\nt:5: x is declared in line 3, in a block that ends before this statement: declare it, and the other names of that block that this statement uses, before the block\n  3 |     int x = 1;\n  5 |   print(x);\n    |         ^\n",
     ),
     (
         "int main() {\n  int a[3];\n\n\n\n\n\n\n\n  return a + 1;\n}",
@@ -111,7 +111,7 @@ static NAMES: &[(&str, &str)] = &[
     // the value names what it may not
     (
         "reducer max m;\nint main() {\n  m max= m;\n  return 0;\n}",
-        "refused 3 line 3\nt:3: m is a reducer (line 1), and no statement reads it: delete the use; the run prints m at its end. If the program needs the value, return it from functions or write it to arrays instead\n  1 | reducer max m;\n  3 |   m max= m;\n    |   ^\n",
+        "refused 3 line 3\nt:3: m is a reducer (line 1), and no statement reads it: write m max= e; for if (e > m) { m = e; }, and delete other uses; the run prints m at its end\n  1 | reducer max m;\n  3 |   m max= m;\n    |   ^\n",
     ),
 ];
 
