@@ -1,5 +1,5 @@
 -- The lines so far, and those that are left.
-use Rattle.std.proofs.Common.{◌≡◌, ◌++◌, drop}
+use Rattle.std.proofs.Common.{◌≡◌, ◌++◌, drop, true}
 use Rattle.cw_report.specs.Sized.{sized_row, sized_rows}
 use Rattle.cw_report.proofs.aligned.table.Given as goal
 
