@@ -72,6 +72,7 @@ pub mod Unread
 pub mod Unwinds
 pub mod Trimming
 pub mod Inner
+pub mod Plain
 pub mod Nothing
 pub mod Freezing
 pub mod SpawnLends

@@ -58,9 +58,7 @@ means_root v args n burden d root e r means ok f found =
 abbrev Few : ℕ → jobs.Effect → Type 0
 Few n (jobs.Ended x arrays t cost) = (length t.updates ≤ n) × (cost ≤ n)
 Few n (jobs.Joined frame t cost) = ⊥
-Few n (jobs.TrapIn trap line lines cost) = Unit {0}
-Few n jobs.OverLimit = Unit {0}
-Few n jobs.Memory = Unit {0}
+Few n _ = Unit {0}
 
 few : (code : Code) (f : Func) (args : List ℤ) (n : ℕ) (e : jobs.Effect) → JobMeaning code (root_job f args n) e → Few n e
 few code f args n e (Same h) = cases (course code (root_job f args n) n) (travelled code n (first_state f args [] [])) h
@@ -115,10 +113,7 @@ module _ (laws : RootsAreSerial) (v : Verified) (ok : IsFit v) (f : Func) (args 
     where
       cases : (w : jobs.Effect) → Tells (code_view v.code) (root_job f args n) root.parts.value.rest (effect.Joined frame replaced shown) w → Few n w → ⊥
       cases (jobs.Joined frame t c) h w = w
-      cases (jobs.Ended x arrays t c) h w = absurd h
-      cases (jobs.TrapIn t l ls c) h w = absurd h
-      cases jobs.OverLimit h w = absurd h
-      cases jobs.Memory h w = absurd h
+      cases _ h w = absurd h
 
   -- a run that ended is within the limit, and has the value of the code
   pub gave : (x : Option ℤ) (shown : PieceOutput) (e : Values) → e.value ≡ int_given x → e.lines.items ≡ shown.lines.items → e.totals ≡ shown.totals

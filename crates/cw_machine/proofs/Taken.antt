@@ -31,9 +31,7 @@ ended_is (effect.Ended y other) x shown told =
     cc
 ended_is (effect.Joined frame replaced other) x shown told = absurd told
 ended_is (effect.Trapped trap line lines cost back) x shown told = let is = told.1 in cc
-ended_is (effect.OverLimit back) x shown told = cc
-ended_is (effect.Memory back) x shown told = cc
-ended_is (effect.GivenUp back) x shown told = cc
+ended_is _ x shown told = cc
 
 -- why a run has not ended does not depend on what is returned for a run that has ended
 pub fault_told : (A : Type 0) (ended : Option ℤ → PieceOutput → Type 0) (e : Effect) (f : Fault) → TakesOut e (Err f) → TellsOf {A = A} ended e (Err f)

@@ -153,8 +153,9 @@ impl Machine {
             if left == 0 {
                 return Halt::Over;
             }
-            let had = self.had(code, op_at(ops, self.place));
-            match self.step::<UpToTrap>(code, ops) {
+            let o = op_at(ops, self.place);
+            let had = self.had(code, o);
+            match self.step::<UpToTrap>(code, o) {
                 Moved::On => {}
                 Moved::Gave(_value) => return Halt::Ended,
                 Moved::Trapped(trap, line) => return Halt::Trapped(trap, line, had),

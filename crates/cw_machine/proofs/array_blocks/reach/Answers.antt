@@ -1,6 +1,6 @@
 use Rattle.std.proofs.Common.{◌∙◌, sym, subst, arith}
 use Rattle.cw_machine.specs.Padded.{IsNone, HasReached}
-use Rattle.cw_machine.proofs.Padding.{left_is, lent_is, reached_none, reached_more}
+use Rattle.cw_machine.proofs.Padding.{left_is, lent_is, reached_more}
 use Rattle.cw_machine.proofs.array_blocks.reach.Goals as goal
 
 pub loop-made-preserved : goal.loop-made-preserved
