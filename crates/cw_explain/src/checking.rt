@@ -18,7 +18,7 @@ use cw_lex::lex;
 use cw_model::token::{Kind, Token};
 use cw_own::disowned;
 use cw_parse::{Item, Rejected, parse};
-use cw_text::{At, Fault, MOST_TOLD, Source};
+use cw_text::{At, Fault, MOST_RECORDED, Source};
 use cw_tree::syntax::Ast;
 use cw_types::{IllTyped, check, ill_typed};
 use std::alloc::{AllocError, Global};
@@ -362,7 +362,7 @@ fn add_types(
     let told = OfTypes { told, inside, text };
     listing.begin();
     let mut is_first = true;
-    for place in 0..MOST_TOLD {
+    for place in 0..MOST_RECORDED {
         if let Some(Some(at)) = told.told.places.get(place) {
             lines.push(at.line)?;
             if !follows(outline, &at.reason) {
@@ -399,7 +399,7 @@ pub fn add_ownership(
         },
     };
     listing.begin();
-    for place in 0..MOST_TOLD {
+    for place in 0..MOST_RECORDED {
         if let Some(refusal) = told.at(place) {
             add_refusal(listing, outline, &refusal)?;
         }

@@ -68,10 +68,10 @@ impl<'a> Refused<'a> {
 ///
 /// Returns the rule that is broken and what to write instead, on one line that begins with the source and its line; then the
 /// lines of the source that matter, with their numbers and a caret if the column is known. For bytes, tokens, names, types and
-/// ownership these are all errors that are found, in order of lines: at most fifty (at most twenty lines for names and types,
-/// and for ownership) and the number of the others, with at most 4 KiB for each ten. In a source of more than `MOST_BYTES` they
-/// are errors of one stage, for bytes and tokens near the first. Each line ends with a line feed. The text is empty if memory
-/// ran out or the verifier rejected code.
+/// ownership these are all errors that are found, in order of lines: at most fifty and the number of the others, with at most
+/// 4 KiB for each ten. Names and types find errors in at most fifty lines, and so does ownership. In a source of more than
+/// `MOST_BYTES` they are errors of one stage, for bytes and tokens near the first. Each line ends with a line feed. The text is
+/// empty if memory ran out or the verifier rejected code.
 ///
 /// # Errors
 ///

@@ -94,8 +94,3 @@ fault_reached text ts at line found r n = record {
   faulty = n.faulty;
   same_line = n.same_line;
 }
-
--- some tokens satisfy `IsReached` for this place and line
-pub record IsPassed (text : List ℕ) (at line : ℕ) : Type 0 where
-  pub tokens : List Token
-  pub reached : IsReached text tokens at line

@@ -1,7 +1,5 @@
 -- Reasons are faults.
-use Rattle.std.proofs.Common.{ℕ, ◌<◌, ◌≤◌, List, length, get_or, drop, arith, inl, inr}
-use Rattle.std.proofs.lemmas.Grind.{get_or_default_zero}
-use Rattle.cw_model.specs.Text.{IsAscii, IsSourceText}
+use Rattle.std.proofs.Common.{ℕ, List, drop, inl, inr}
 use Rattle.cw_model.specs.Tokens.{FaultAt}
 use Rattle.cw_text.specs.declared.reasons.At.{At}
 use Rattle.cw_lex.specs.declared.reason.Uncut.{Uncut}
@@ -20,14 +18,6 @@ no_cut_for text (reason.NoToken b) line f = with_fault text line (λ bytes h. in
 no_cut_for text (reason.LargeNumber w) line f = with_fault text line (λ bytes h. inr h.0) f
 no_cut_for text (reason.LongName w) line f = with_fault text line (λ bytes h. h.0) f
 
--- the reason for the first fault of a text is the reason why its bytes are not cut
-pub uncut_for : (text : List ℕ) (r : Uncut) (line : ℕ) → IsSourceText text → FaultAt (IsNoToken r) text line → IsUncutFor text r line
-uncut_for text (reason.TooLong n) line s f = absurd f.faulty
-uncut_for text (reason.NotAscii b) line s f = absurd f.faulty
-uncut_for text (reason.NoToken b) line s f = (s, f)
-uncut_for text (reason.LargeNumber w) line s f = (s, f)
-uncut_for text (reason.LongName w) line s f = (s, f)
-
 refused_for : (bytes : List ℕ) (r : Uncut) (line : ℕ) → IsUncutFor bytes r line → IsRefused bytes (fault_of r line)
 refused_for bytes (reason.TooLong n) line h = inl h.0
 refused_for bytes (reason.NotAscii b) line h = inl h.0
@@ -37,9 +27,3 @@ refused_for bytes (reason.LongName w) line h = inr (h.0, no_cut_for bytes (reaso
 
 pub are_faults : (bytes : List ℕ) (found : At Uncut) → IsUncut bytes found → IsRefused bytes (fault_of found.reason found.line)
 are_faults bytes found h = refused_for bytes found.reason found.line h
-
-pub below_all : (bytes : List ℕ) (n : ℕ) → ((k : ℕ) → k < n → get_or bytes k 0 < 128) → length bytes ≤ n → IsAscii bytes
-below_all bytes n before le k d lt =
-    let low = before k (omega arith) in
-    let same = get_or_default_zero bytes k d lt in
-    omega (arith, low, same)

@@ -1,8 +1,7 @@
 -- The reasons why bytes are not cut into tokens.
 use Rattle.std.specs.Prelude.{◌≡◌, ℕ, List, length, take, slice_index, ◌⊎◌}
-use Rattle.cw_model.specs.declared.token.Token.{Token}
 use Rattle.cw_model.specs.Text.{IsSourceText, IsTooLong, IsNotAscii}
-use Rattle.cw_model.specs.Tokens.{IsTokenCut, StartsNothing, HasLargeNumber, HasLongName, FaultAt}
+use Rattle.cw_model.specs.Tokens.{StartsNothing, HasLargeNumber, HasLongName, FaultAt}
 use Rattle.cw_text.specs.declared.reasons.At.{At}
 use Rattle.cw_text.specs.declared.fault.Fault.{Fault}
 use Rattle.cw_text.specs.declared.fault.Fault.TheVariants as fault
@@ -28,12 +27,6 @@ IsUncutFor bytes r line = IsSourceText bytes × FaultAt (IsNoToken r) bytes line
 
 abbrev pub IsUncut : List ℕ → At Uncut → Type 0
 IsUncut bytes found = IsUncutFor bytes found.reason found.line
-
--- the bytes are a source, and these are its tokens
-pub record HasCut (bytes : List ℕ) : Type 0 where
-  pub source : IsSourceText bytes
-  pub tokens : List Token
-  pub cut : IsTokenCut bytes tokens
 
 -- the fault that reports a reason
 abbrev pub fault_of : Uncut → (line : ℕ) → Fault

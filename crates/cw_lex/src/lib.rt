@@ -11,5 +11,5 @@ mod tables;
 mod walk;
 
 pub use front::{Front, front_of};
-pub use lexer::{first_uncut, lex};
+pub use lexer::lex;
 pub use reason::Uncut;

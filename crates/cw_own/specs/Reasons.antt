@@ -8,7 +8,7 @@ use Rattle.cw_tree.specs.Resolved.{Use, Listed, Expr, Number, Variable, Element,
 use Rattle.cw_tree.specs.Resolved.{Int, Array, Shared, Stmt, Declare, DeclareArray, Assign, AssignElement, Reduce, Call}
 use Rattle.cw_tree.specs.Resolved.{Sync, If, IfElse, While, For, Scope, Cut, Region, Print, Return, Head, Parts, Block}
 use Rattle.cw_tree.specs.Resolved.{End, Then, Function, Resolved}
-use Rattle.cw_text.specs.declared.reasons.TheConstants.{MOST_TOLD}
+use Rattle.cw_text.specs.declared.reasons.TheConstants.{MOST_RECORDED}
 use Rattle.cw_text.specs.Rising.{rising}
 use Rattle.cw_own.specs.declared.reason.Touch.{Touch}
 use Rattle.cw_own.specs.declared.reason.Touch.TheVariants as touch
@@ -323,6 +323,6 @@ IsDisowned tree line r = Contains (ownership_reasons tree) (line, r)
 abbrev pub line_in : ℕ × Reason → ℕ
 line_in r = r.0
 
--- the least lines that break a rule, increasing, at most `MOST_TOLD` of them, each with the first rule that it breaks
+-- the least lines that break a rule, increasing, at most `MOST_RECORDED` of them, each with the first rule that it breaks
 abbrev pub reasons_told : Resolved → List (ℕ × Reason)
-reasons_told tree = take MOST_TOLD (rising line_in (ownership_reasons tree))
+reasons_told tree = take MOST_RECORDED (rising line_in (ownership_reasons tree))

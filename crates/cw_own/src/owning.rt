@@ -54,7 +54,7 @@ fn first_broken(alloc: Global, typed: &Typed) -> Result<Option<At<Disowned<'_>>>
     Ok(told.first())
 }
 
-/// Returns the least twenty lines that break a rule of ownership, increasing, each with the first rule that it breaks
+/// Returns the least fifty lines that break a rule of ownership, increasing, each with the first rule that it breaks
 /// and the names that break it; no lines if the tree keeps ownership. If a name is held in the first of these lines,
 /// its reason has the line since which the name is held.
 ///

@@ -135,3 +135,122 @@ fn explanations_are_short(rt: HostRuntime) {
         assert!(rt; holds, "{statement}");
     }
 }
+
+// A source with one statement in each of several lines, the first of which is line 10, and its explanation.
+struct Many {
+    front: &'static str,
+    statement: &'static str,
+    times: usize,
+    back: &'static str,
+    // The line of the first fault.
+    fault: &'static str,
+    // The error of a line, up to the number of its source line, and from there on.
+    said: &'static str,
+    shown: &'static str,
+    // What follows the errors of the first fifty lines.
+    more: &'static str,
+}
+
+// The lines of the errors that are listed: from the first up to the end.
+const FIRST: u32 = 10;
+const END: u32 = 60;
+
+// What precedes the statements that have an error of names.
+const NAMES: &str = "int main(int n) {\n\n\n\n\n\n\n\n\n";
+
+// The error of such a statement.
+const UNKNOWN: &str = ": x is not declared here: declare int x = 0; before this statement, in this block or one around it\n  ";
+
+// The source line of this error.
+const SHOWN: &str = " |   n = x;\n     |       ^\n";
+
+static MANY: &[Many] = &[
+    // fifty errors of names are listed
+    Many {
+        front: NAMES,
+        statement: "  n = x;\n",
+        times: 50,
+        back: "  return n;\n}\n",
+        fault: "refused 3 line 10\n",
+        said: UNKNOWN,
+        shown: SHOWN,
+        more: "",
+    },
+    // names find errors in at most fifty lines
+    Many {
+        front: NAMES,
+        statement: "  n = x;\n",
+        times: 60,
+        back: "  return n;\n}\n",
+        fault: "refused 3 line 10\n",
+        said: UNKNOWN,
+        shown: SHOWN,
+        more: "",
+    },
+    // a statement that does not parse is counted after fifty errors of names
+    Many {
+        front: NAMES,
+        statement: "  n = x;\n",
+        times: 50,
+        back: "  return n;\n}\nint f(int n) {\n  int a;\n  return n;\n}\n",
+        fault: "refused 2 line 63\n",
+        said: UNKNOWN,
+        shown: SHOWN,
+        more: "t: and 1 more error\n",
+    },
+    // and so are two errors of ownership in another function
+    Many {
+        front: NAMES,
+        statement: "  n = x;\n",
+        times: 50,
+        back: "  return n;\n}\nint f(int n) {\n  int y = 0;\n  y = cilk_spawn f(n);\n  print(y);\n  y = 1;\n  cilk_sync;\n  return y;\n}\n",
+        fault: "refused 3 line 10\n",
+        said: UNKNOWN,
+        shown: SHOWN,
+        more: "t: and 2 more errors\n",
+    },
+    // fifty errors of ownership
+    Many {
+        front: "int f(int n) {\n  return n;\n}\nint main(int n) {\n  int x = 0;\n\n\n\n  x = cilk_spawn f(n);\n",
+        statement: "  print(x);\n",
+        times: 50,
+        back: "  cilk_sync;\n  return x;\n}\n",
+        fault: "refused 4 line 10\n",
+        said: ": this statement reads x, but the spawn in line 9 assigns to x at the next cilk_sync: write cilk_sync; before this statement\n   9 |   x = cilk_spawn f(n);\n  ",
+        shown: " |   print(x);\n     |         ^\n",
+        more: "",
+    },
+];
+
+// What standard error has for such a source: an error for each of fifty lines, and what follows them.
+fn listed(alloc: Global, many: &Many) -> Result<String, AllocError> {
+    let mut text = String::from_str(alloc, many.fault)?;
+    for line in FIRST..END {
+        let entry = format!(in alloc; "t:{line}{}{line}{}", many.said, many.shown)?;
+        text.push_str(entry.as_str())?;
+    }
+    text.push_str(many.more)?;
+    Ok(text)
+}
+
+// Whether such a source has this explanation.
+fn is_listed(alloc: Global, many: &Many) -> bool {
+    let Ok(text) = repeated(alloc, many.statement, many.times) else {
+        return false;
+    };
+    let Ok(wanted) = listed(alloc, many) else {
+        return false;
+    };
+    match told_between(alloc, many.front, text.as_str(), many.back) {
+        Ok(told) => told.as_str() == wanted.as_str(),
+        Err(_) => false,
+    }
+}
+
+#[test]
+fn fifty_errors_are_listed(rt: HostRuntime) {
+    for many in MANY {
+        let holds = is_listed(rt.alloc(), many);
+        assert!(rt; holds, "{} of {}", many.times, many.statement);
+    }
+}

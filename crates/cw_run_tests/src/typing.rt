@@ -1,6 +1,6 @@
 //! A row for each rule of names and types.
 
-use crate::told::{all_told, is_said};
+use crate::told::all_told;
 
 static HEADS: &[(&str, &str)] = &[
     (
@@ -191,23 +191,6 @@ static SEVERAL: &[(&str, &str)] = &[
         "refused 3 line 2\nt:2: p is not declared here: declare int p = 0; before this statement, in this block or one around it\n  2 |   p = 1; q = 2;\n    |   ^\nt:3: r is not declared here: declare int r = 0; before this statement, in this block or one around it\n  3 |   r = 3;\n    |   ^\n",
     ),
 ];
-
-// A statement that breaks a rule, in 21 lines.
-const LINES: &str =
-    "y=1;\ny=1;\ny=1;\ny=1;\ny=1;\ny=1;\ny=1;\ny=1;\ny=1;\ny=1;\ny=1;\ny=1;\ny=1;\ny=1;\ny=1;\ny=1;\ny=1;\ny=1;\ny=1;\ny=1;\ny=1;\n";
-
-#[test]
-fn twenty_lines_of_names_and_types(rt: HostRuntime) {
-    let holds = is_said(
-        rt.alloc(),
-        "int main(){\n",
-        LINES,
-        "return 0;}",
-        "\nt:21: y is not declared",
-        "\nt:22:",
-    );
-    assert!(rt; holds);
-}
 
 #[test]
 fn rules_of_names_and_types(rt: HostRuntime) {

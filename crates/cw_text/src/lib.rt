@@ -9,5 +9,5 @@ pub mod source;
 
 pub use fault::{Fault, Place};
 pub use least::LeastLine;
-pub use reasons::{At, MOST_TOLD, Reasons};
+pub use reasons::{At, MOST_RECORDED, Reasons};
 pub use source::Source;

@@ -66,7 +66,7 @@ pub fn too_large(alloc: Global, ast: &Ast) -> Result<Option<At<TooLarge<'_>>>, A
     Ok(size.first)
 }
 
-/// Returns the least twenty lines of a tree that break a rule of names and types, in increasing order. Each line has
+/// Returns the least fifty lines of a tree that break a rule of names and types, in increasing order. Each line has
 /// the first reason found for it, which is true there. Returns no lines if a limit is exceeded.
 ///
 /// # Errors
