@@ -500,6 +500,7 @@ def explained():
         ("statements of C in one line of 1 MiB", "int main(int x){" + "x++;break;long y;" * 60_000 + "}", plain),
         ("unknown names in one line of 1 MiB", "int main(int x){" + "totl=totl+total;" * 64_000 + "return x;}", plain),
         ("an unknown name in each line of 1 MiB", "int main(int x){\n" + "z=1;\n" * 200_000 + "return x;}", plain),
+        ("a reducer that is read in each line of 1 MiB", "int main(int x){\n" + "x=z;\n" * 200_000 + "return x;}\nreducer max z;\n", plain),
         ("a long name that is taken in each line of 1 MiB", f"int g(){{return 1;}} int main(){{int {long}=0;{long}=cilk_spawn g();\n" + f"{long}=1;\n" * 15_000 + "return 0;}", plain),
         ("an array from outside in each line of a loop", f"int main(){{int {long}[1];cilk_for(int i=0;i<1;i++){{\n" + f"{long}[0]=1;\n" * 15_000 + "}return 0;}", plain),
         ("1,000 functions, and a call of none of them", "".join(f"int f{i:04}(){{return 1;}}" for i in range(1_000)) + "\nint main(){f10000();return 0;}", plain),

@@ -112,9 +112,11 @@ impl<'a> Text<'a> {
         Call::Other
     }
 
-    /// Returns what a line does with a reducer.
-    pub fn use_of_reducer(&self, line: u32, name: Word<'_>) -> Call<'a> {
-        match reduction_of(self.bytes, self.tokens, name) {
+    /// Returns what a line does with a reducer that another line declares.
+    pub fn use_of_reducer(&self, line: u32, name: Word<'_>, declared: u32) -> Call<'a> {
+        let start = self.place_of(declared);
+        let tokens = self.tokens.get(start..).unwrap_or(&[]);
+        match reduction_of(self.bytes, tokens, name) {
             Some(Kind::Max) => Call::Largest,
             _ => self.use_of(line, name),
         }

@@ -52,8 +52,8 @@ impl<'a> OfTypes<'a> {
     // What a line does with the name that it is rejected for.
     fn call(&self, line: u32, reason: &IllTyped<'_>) -> Call<'a> {
         match reason {
-            IllTyped::NotInteger(name, Other::Reducer, _) => {
-                self.text.use_of_reducer(line, Word::of(name))
+            IllTyped::NotInteger(name, Other::Reducer, declared) => {
+                self.text.use_of_reducer(line, Word::of(name), *declared)
             }
             IllTyped::NotInteger(name, _, _) => self.text.use_of(line, Word::of(name)),
             IllTyped::OnlyRead(name, _) => self.text.use_of_const(line, Word::of(name)),
