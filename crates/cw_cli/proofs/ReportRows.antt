@@ -22,7 +22,7 @@ use Rattle.cw_sites.specs.Tables as sites
 use Rattle.cw_sites.specs.lemmas.Tables.{AreRowsFrom}
 use Rattle.cw_regions.specs.declared.table.RegionRow.{RegionRow}
 use Rattle.cw_meter.specs.Whole.{AreReadings, AreSiteRows, AreRegionRows}
-use Rattle.cw_code.specs.Code.{Code, told_sites}
+use Rattle.cw_code.specs.Code.{Code, reported_sites}
 use Rattle.cw_machine.specs.declared.alone.Ended as run
 use Rattle.cw_machine.specs.Runs.{tags_in}
 use Rattle.cw_code.specs.Heads.{head_view}
@@ -96,7 +96,7 @@ all_rows_are root all (row ∷ rows) t first numbered h =
     there_at : (k site : ℕ) (r : SiteRow) → site ≡ suc k → slice_get rows k ≡ Some r → slice_get (row ∷ rows) site ≡ Some r
     there_at k site r at there = ap (slice_get (row ∷ rows)) at ∙ there
 
-pub sites_are : (program : Program) (code : Code) (e : run.Ended) (t : Tree) → told_sites code ≡ call_sites program → code.main_line ≡ (root_site program).line
+pub sites_are : (program : Program) (code : Code) (e : run.Ended) (t : Tree) → reported_sites code ≡ call_sites program → code.main_line ≡ (root_site program).line
     → are_numbered 0 (call_sites program) ≡ true → AreSiteRows (length code.sites + 1) t (values e.sites)
     → texts.sites_of code (Ok e) ≡ sites_text program (Ended e.value e.lines.items e.totals.items t)
 sites_are program code e t told line numbered rows =
@@ -128,11 +128,11 @@ whole_is t work' span' burdened burdened' w s b =
     ∙ ap (gain_line (whole_row t) (work t) (span t)) b
 
 -- all call sites of the code of a program are the call sites of the program
-all_sites_are : (program : Program) (code : Code) → told_sites code ≡ call_sites program → code.main_line ≡ (root_site program).line → all_sites code ≡ sites_of program
+all_sites_are : (program : Program) (code : Code) → reported_sites code ≡ call_sites program → code.main_line ≡ (root_site program).line → all_sites code ≡ sites_of program
 all_sites_are program code told line = ap₂ (λ l all. root_at l ∷ all) line told
 
 pub gains_are : (program : Program) (code : Code) (heads : List Head) (top : ℕ) (burden : Burden) (g : Gains) (t : Tree) (value : ℤ) (lines : List ℤ) (totals : List Total)
-    → map head_view heads ≡ heads_of program → told_sites code ≡ call_sites program → code.main_line ≡ (root_site program).line → AreReadings burden t g.measure
+    → map head_view heads ≡ heads_of program → reported_sites code ≡ call_sites program → code.main_line ≡ (root_site program).line → AreReadings burden t g.measure
     → map gain_view g.functions.items ≡ map (free_row (all_sites code) burden t) (worth_telling top (map head_view heads) (all_sites code) t)
     → texts.gain_report (Ok g) ≡ gain_text top program burden (Ended value lines totals t)
 gains_are program code heads top burden g t value lines totals heads_are told line whole functions =

@@ -52,7 +52,7 @@ use Rattle.cw_cli.specs.Speedups.{readings_of}
 use Rattle.cw_report.specs.Speedups.{speedup_report}
 use Rattle.cw_report.specs.Speedups as texts
 use Rattle.cw_cli.specs.Forms.{in_form}
-use Rattle.cw_cli.specs.ModeTexts.{HasTables, shown_of, told_of}
+use Rattle.cw_cli.specs.ModeTexts.{HasTables, shown_of, tables_of_mode}
 use Rattle.cw_report.specs.Layouts.{gain_columns, shown, speedup_columns}
 use Rattle.cw_cli.proofs.Ordered.{are_bounded}
 use Rattle.cw_cli.proofs.ReportRows.{scale_is, sites_are, gains_are}
@@ -96,19 +96,19 @@ sites_numbered law bytes code compiled =
 -- the report that is asked for of what is counted
 report_is : (i : Input) (m : Mode) (program : Program) (code : Code) (args : List ℤ) (n : ℕ) (burden : Burden) (e : run.Ended) (r : Runs code args n burden e) → HasTables m
     → Generates program code → are_numbered 0 (call_sites program) ≡ true
-    → told_of m code (Ok e) ≡ analyses.text_in i m program burden (Ended e.value e.lines.items e.totals.items r.tree)
+    → tables_of_mode m code (Ok e) ≡ analyses.text_in i m program burden (Ended e.value e.lines.items e.totals.items r.tree)
 report_is i mode.Scale program code args n burden e r has g numbered = scale_is program code burden e r.tree g.tags r.tags r.measure r.regions
 report_is i mode.Sites program code args n burden e r has g numbered = sites_are program code e r.tree g.sites g.main_line numbered r.sites
 report_is i _ program code args n burden e r has g numbered = absurd has
 
 printed_is : (i : Input) (m : Mode) (program : Program) (code : Code) (burden : Burden) (trap : Trap) (line : ℕ) (lines : Vec ℤ) → HasTables m
-    → told_of m code (Err (fault.Trap trap line lines)) ≡ analyses.text_in i m program burden (TrappedAt trap line lines.items)
+    → tables_of_mode m code (Err (fault.Trap trap line lines)) ≡ analyses.text_in i m program burden (TrappedAt trap line lines.items)
 printed_is i mode.Scale program code burden trap line lines has = refl
 printed_is i mode.Sites program code burden trap line lines has = refl
 printed_is i _ program code burden trap line lines has = absurd has
 
 -- the report of a run that has no tables, for another reason than a trap, is empty
-over_is : (m : Mode) (code : Code) → told_of m code (Err fault.OverLimit) ≡ []
+over_is : (m : Mode) (code : Code) → tables_of_mode m code (Err fault.OverLimit) ≡ []
 over_is mode.Check code = refl
 over_is mode.Run code = refl
 over_is mode.Scale code = refl
@@ -118,7 +118,7 @@ over_is (mode.Greedy processors) code = refl
 over_is (mode.Speedup most) code = refl
 over_is (mode.Page top most) code = refl
 
-memory_is : (m : Mode) (code : Code) → told_of m code (Err fault.Memory) ≡ []
+memory_is : (m : Mode) (code : Code) → tables_of_mode m code (Err fault.Memory) ≡ []
 memory_is mode.Check code = refl
 memory_is mode.Run code = refl
 memory_is mode.Scale code = refl
@@ -128,7 +128,7 @@ memory_is (mode.Greedy processors) code = refl
 memory_is (mode.Speedup most) code = refl
 memory_is (mode.Page top most) code = refl
 
-arguments_are : (m : Mode) (code : Code) → told_of m code (Err fault.Arguments) ≡ []
+arguments_are : (m : Mode) (code : Code) → tables_of_mode m code (Err fault.Arguments) ≡ []
 arguments_are mode.Check code = refl
 arguments_are mode.Run code = refl
 arguments_are mode.Scale code = refl
@@ -138,7 +138,7 @@ arguments_are (mode.Greedy processors) code = refl
 arguments_are (mode.Speedup most) code = refl
 arguments_are (mode.Page top most) code = refl
 
-strands_are : (m : Mode) (code : Code) (count : ℕ) → told_of m code (Err (fault.Strands count)) ≡ []
+strands_are : (m : Mode) (code : Code) (count : ℕ) → tables_of_mode m code (Err (fault.Strands count)) ≡ []
 strands_are mode.Check code count = refl
 strands_are mode.Run code count = refl
 strands_are mode.Scale code count = refl

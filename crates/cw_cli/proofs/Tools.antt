@@ -35,7 +35,7 @@ idle seen w = inl (record { bytes = nothing (seen w).bytes; failed = refl })
     nothing (Some xs) = sym (append-nil xs)
 
 -- a text with nothing after it
-pub alone : {W : Type 0} (seen : W → Seen) (old new : W) (explain : Bool) (text : List ℕ) → tools.TriesText seen old new text → tools.IsTold seen old new explain text
+pub alone : {W : Type 0} (seen : W → Seen) (old new : W) (explain : Bool) (text : List ℕ) → tools.TriesText seen old new text → tools.WritesMessage seen old new explain text
 alone seen old new explain text p = record { between = new; line = p; behind = []; explanation = idle seen new; plain = λ _. refl }
 
 -- one byte more than a source may have
@@ -165,7 +165,7 @@ module _ {W E : Type 0} (seen : W → Seen) (seen' : E → Seen) (old new : W) (
     pub answered : limit ≡ most_read → inner ≡ source → before ≡ [] → slice ≡ read → args ≡ asked.args.items → name ≡ source_name (string_bytes asked.file) →
         IfSome (option_map (take limit) (remaining inner)) (λ xs. read ≡ before ++ xs) →
         (r : Result (Unit {0}) Fault) (status : ℕ) → status ≡ tools.status_of r → IsAnalysedBy seen old new name slice args asked.options bodies r
-        → tools.IsTold seen' old' new' asked.explain (tools.line_of r) →
+        → tools.WritesMessage seen' old' new' asked.explain (tools.line_of r) →
         tools.OnItsBytes (remaining source) (λ bytes. tools.IsToolAnswer seen old new seen' old' new' asked bodies reads_before reads_after bytes status)
     answered l i b s a n h r status st analysis told =
         let h1 = subst (λ d. IfSome (option_map (take limit) (remaining d)) (λ xs. read ≡ before ++ xs)) i h in

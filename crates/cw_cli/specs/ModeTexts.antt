@@ -16,19 +16,19 @@ HasTables mode.Sites = Unit {0}
 HasTables _ = ⊥
 
 -- the tables of a run: work and span by region, or call sites; other modes have no such table
-abbrev pub told_of : Mode → Code → Result Ended Fault → List ℕ
-told_of mode.Check code ended = []
-told_of mode.Run code ended = []
-told_of (mode.Gain top) code ended = []
-told_of (mode.Greedy processors) code ended = []
-told_of (mode.Speedup most) code ended = []
-told_of (mode.Page top most) code ended = []
-told_of mode.Scale code ended = scale_report ended
-told_of mode.Sites code ended = sites_of code ended
+abbrev pub tables_of_mode : Mode → Code → Result Ended Fault → List ℕ
+tables_of_mode mode.Check code ended = []
+tables_of_mode mode.Run code ended = []
+tables_of_mode (mode.Gain top) code ended = []
+tables_of_mode (mode.Greedy processors) code ended = []
+tables_of_mode (mode.Speedup most) code ended = []
+tables_of_mode (mode.Page top most) code ended = []
+tables_of_mode mode.Scale code ended = scale_report ended
+tables_of_mode mode.Sites code ended = sites_of code ended
 
 -- the same as they are written: CSV or aligned columns
 abbrev pub shown_of : Mode → (table : Bool) → Code → Result Ended Fault → List ℕ
-shown_of m table code ended = in_form m table (told_of m code ended)
+shown_of m table code ended = in_form m table (tables_of_mode m code ended)
 
 -- the same of verified code
 abbrev pub told_in : Mode → (table : Bool) → Verified → Result Ended Fault → List ℕ

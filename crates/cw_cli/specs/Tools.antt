@@ -33,7 +33,7 @@ abbrev pub TriesText : {W : Type 0} → (W → Seen) → (old new : W) → List 
 TriesText seen old new text = WritesAll (seen old) (seen new) text ⊎ WritesPart (seen old) (seen new) text
 
 -- a text was written to a sink, and after it, if it is asked for, a further one
-pub record IsTold {E : Type 0} (seen : E → Seen) (old new : E) (explain : Bool) (text : List ℕ) : Type 0 where
+pub record WritesMessage {E : Type 0} (seen : E → Seen) (old new : E) (explain : Bool) (text : List ℕ) : Type 0 where
   pub between : E
   pub line : TriesText seen old between text
   pub behind : List ℕ
@@ -48,7 +48,7 @@ pub record IsRefusal {E : Type 0} (seen : E → Seen) (old new : E) (f : Fault) 
 -- the word for a source that cannot be read was written to standard error, and after it, if it is asked for, a
 -- further text
 pub record IsFileAnswer {E : Type 0} (seen : E → Seen) (old new : E) (explain : Bool) (status : ℕ) : Type 0 where
-  pub told : IsTold seen old new explain (codes "file" ++ codes "\n")
+  pub told : WritesMessage seen old new explain (codes "file" ++ codes "\n")
   pub status_is : status ≡ 5
 
 -- a source cannot be opened for this reason; out of memory is reported as such
@@ -77,7 +77,7 @@ module _ {W E : Type 0} (seen : W → Seen) (old new : W) (seen' : E → Seen) (
           → IsFileAnswer seen' old' new' asked.explain status → IsToolAnswer status
       starved : {status : ℕ} → new ≡ old → IsRefusal seen' old' new' fault.Memory status → IsToolAnswer status
       analysed : (r : Result (Unit {0}) Fault) → IsAnalysedBy seen old new (source_name (string_bytes asked.file)) bytes asked.args.items asked.options bodies r
-          → IsTold seen' old' new' asked.explain (line_of r) →
+          → WritesMessage seen' old' new' asked.explain (line_of r) →
           IsToolAnswer (status_of r)
 
   -- the help was written to standard output; or a prefix of it, and the line of the failed write to standard error
@@ -106,7 +106,7 @@ module _ {W E : Type 0} (seen : W → Seen) (old new : W) (seen' : E → Seen) (
   -- the line of the fault was written to standard error, and after it a further text
   pub record IsFaultTold (f : Fault) (status : ℕ) : Type 0 where
     pub untouched : new ≡ old
-    pub told : IsTold seen' old' new' true (fault_line f)
+    pub told : WritesMessage seen' old' new' true (fault_line f)
     pub status_is : status ≡ fault_status f
 
   -- the answer is like `IsSaidAnswer`, except that a fault's line is followed by its reason

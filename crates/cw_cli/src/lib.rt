@@ -6,9 +6,9 @@ mod crews;
 mod misuse;
 mod paging;
 mod reporting;
-mod telling;
+mod responses;
 
 pub use analysis::{analyse, analyse_alone, analyse_named, analyse_named_alone};
 pub use crews::crew_of;
 pub use cw_compile::compile;
-pub use telling::{refuse, say, say_why, tool, unread};
+pub use responses::{refuse, say, say_why, tool, unread};

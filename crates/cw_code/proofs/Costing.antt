@@ -9,7 +9,7 @@ use Rattle.cw_code.specs.declared.code.Instr.{Instr}
 use Rattle.cw_code.specs.Code.{Code}
 use Rattle.cw_code.specs.Run.{Slots, Opened, Around, Caller, Block, State, Transition, On, Ends, Stops, Stuck, synced, settled, put_in, event_of, back, block_event, resumes, act, step}
 use Rattle.cw_code.specs.Jobs.{Extent, WholeCall, ToJoin, has_come, Came, Arrives, Returns, Falls, Beyond, Lost, moved, travel, job_start, Effect, Ended, Joined, TrapIn, OverLimit, Memory}
-use Rattle.cw_code.specs.Promises.{StandsFor}
+use Rattle.cw_code.specs.Promises.{RepresentsRun}
 use Rattle.cw_code.specs.Costs.{CostIsWork, CostsAreWork}
 use Rattle.cw_code.specs.lemmas.Acts.{returning}
 use Rattle.cw_code.specs.lemmas.StrandActs.{acts_by}
@@ -145,7 +145,7 @@ module _ (x : Extent) (code : Code) where
 pub costs_are_work : CostsAreWork
 costs_are_work code job e m = by_effect e (meaning_stands code job e m)
   where
-    by_effect : (f : Effect) → StandsFor code job f → CostIsWork f
+    by_effect : (f : Effect) → RepresentsRun code job f → CostIsWork f
     by_effect (Ended v arrays t cost) h =
         let paid = subst (Paid 0 (cost + 0)) (h.next 0) (pays job.extent code (cost + 0) (job_start job)) in
         let same = work_parts t.events in

@@ -9,7 +9,7 @@ use Rattle.cw_code.specs.Fits.{Fits}
 use Rattle.cw_code.specs.Run.{Around, State, Transition, On, Ends, Stops, Stuck, step}
 use Rattle.cw_code.specs.Good.{GoodState, GoodTransition, FitSteps}
 use Rattle.cw_code.specs.Staying.{IsInside, outermost, FitStays}
-use Rattle.cw_code.specs.Jobs.{ToJoin, joins, is_first, has_come, Standing, standing, Came, Arrives, Returns, Falls, Beyond, Lost}
+use Rattle.cw_code.specs.Jobs.{ToJoin, joins, is_first, has_come, JoinFrame, standing, Came, Arrives, Returns, Falls, Beyond, Lost}
 use Rattle.cw_code.specs.Jobs.{moved, travel, Job, job_start, course, Joined, IsOf, JobMeaning, Same, Passed, Short}
 use Rattle.cw_code.specs.Over.{under, transition_under}
 use Rattle.cw_code.specs.lemmas.Under.{act_under}
@@ -65,13 +65,13 @@ module _ (code : Code) (fits : Fits code) (steps_well : FitSteps code fits) (sta
   comes (suc n) s here =
       either (suc n) s (has_come ToJoin code s) refl here (λ e. further n s e here (λ s' there. comes n s' there))
 
-  means : (job : Job) (frame : Standing) (t : Trace) (cost : ℕ) → job.extent ≡ ToJoin → Here (job_start job) → JobMeaning code job (Joined frame t cost) → IsInside f (outermost frame.place b.around)
+  means : (job : Job) (frame : JoinFrame) (t : Trace) (cost : ℕ) → job.extent ≡ ToJoin → Here (job_start job) → JobMeaning code job (Joined frame t cost) → IsInside f (outermost frame.place b.around)
   means job frame t cost x here (Same h) = cases (course code job job.limit) (subst (λ y. Comes (travel y code job.limit (job_start job))) (sym x) (comes job.limit (job_start job) here)) h
     where
       cases : (c : Came) → Comes c → IsOf c job.limit (Joined frame t cost) → IsInside f (outermost frame.place b.around)
-      cases (Arrives frame' t' left) i e = subst (λ (g : Standing). IsInside f (outermost g.place b.around)) (same frame' t' left e) i
+      cases (Arrives frame' t' left) i e = subst (λ (g : JoinFrame). IsInside f (outermost g.place b.around)) (same frame' t' left e) i
         where
-          same : (frame' : Standing) (t' : Trace) (left : ℕ) → Joined frame t cost ≡ Joined frame' t' (job.limit - left) → frame' ≡ frame
+          same : (frame' : JoinFrame) (t' : Trace) (left : ℕ) → Joined frame t cost ≡ Joined frame' t' (job.limit - left) → frame' ≡ frame
           same frame' t' left e = cc
       cases (Returns v arrays t' left) i e = cc
       cases (Falls trap line lines left) i e = cc

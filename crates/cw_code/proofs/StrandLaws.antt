@@ -10,7 +10,7 @@ use Rattle.cw_code.specs.Code.{Code}
 use Rattle.cw_code.specs.Run.{Slots, Results, Waiting, Around, Caller, Block, State, Transition, On, Ends, Stops, Stuck, synced, is_full}
 use Rattle.cw_code.specs.Run.{settled, Entering, begun, given_back, going_on, result_of, returns_to, back, act, step}
 use Rattle.cw_code.specs.lemmas.Runs.{joined_quiet}
-use Rattle.cw_code.specs.Jobs.{Extent, ToJoin, has_come, Standing, standing, Came, Arrives, Falls, Beyond, moved, travel, Job}
+use Rattle.cw_code.specs.Jobs.{Extent, ToJoin, has_come, JoinFrame, standing, Came, Arrives, Falls, Beyond, moved, travel, Job}
 use Rattle.cw_code.specs.Jobs.{job_start, course, Effect, Ended, Joined, TrapIn, OverLimit, Memory, JobMeaning}
 use Rattle.cw_code.specs.Strands.{Strand, Going, Waits, Halted, rest_at, Turn, Goes, HandsOut, ComesBack, turn_back, turn_in, turn_call}
 use Rattle.cw_code.specs.Strands.{turn_of, turn, spawn_job, goes_on, resumed, HasStopped, stopped_after, dropped, cost_of}
@@ -170,7 +170,7 @@ module _ (code : Code) where
     wants_memory strand outs h = let le = before_fits strand h in (omega (arith, le), tt)
 
     -- give
-    pub gives : (out : Job) (s : State) (count : ℕ) (outs : List Job) (frame : Standing) (t : Trace) (cost : ℕ)
+    pub gives : (out : Job) (s : State) (count : ℕ) (outs : List Job) (frame : JoinFrame) (t : Trace) (cost : ℕ)
         → IsStrandOf code job (Waits s count (out ∷ outs)) → JobMeaning code out (Joined frame t cost) → job.before + (count + cost) ≤ job.limit
         → IsStrandOf code job (Going (resumed s frame t) (count + cost) outs)
     gives out s count outs frame t cost h m le =

@@ -35,7 +35,7 @@ has_come ToJoin code s = is_first s.around && joins (slice_get code.instrs s.pla
 
 -- a call at a join, after all its own spawned calls returned what they took, with the arrays that it was lent; the
 -- value of a return is on its operands
-pub record Standing : Type 0 where
+pub record JoinFrame : Type 0 where
   pub place : ℕ
   pub operands : List ℤ
   pub slots : Slots ℤ
@@ -43,7 +43,7 @@ pub record Standing : Type 0 where
   pub readers : Readers
 
 -- the call of a state at a join, after its pending results went back into their slots
-abbrev pub standing : State → Standing
+abbrev pub standing : State → JoinFrame
 standing s =
     record {
       place = s.place;
@@ -56,7 +56,7 @@ standing s =
 -- the result of a run within a budget, with the rest of the budget: it reaches the join, returns, traps, exceeds the
 -- budget, or gets stuck
 pub data Came : Type 0 where
-  Arrives : Standing → Trace → (left : ℕ) → Came
+  Arrives : JoinFrame → Trace → (left : ℕ) → Came
   Returns : Option ℤ → Slots (List ℤ) → Trace → (left : ℕ) → Came
   Falls : (trap : Trap) (line : ℕ) (lines : List ℤ) (left : ℕ) → Came
   Beyond : Came
@@ -113,7 +113,7 @@ root_job f args limit =
 -- the run; or a trap with its cost; or the limit was exceeded; or memory ran out
 pub data Effect : Type 0 where
   Ended : Option ℤ → Slots (List ℤ) → Trace → (cost : ℕ) → Effect
-  Joined : Standing → Trace → (cost : ℕ) → Effect
+  Joined : JoinFrame → Trace → (cost : ℕ) → Effect
   TrapIn : (trap : Trap) (line : ℕ) (lines : List ℤ) (cost : ℕ) → Effect
   OverLimit : Effect
   Memory : Effect

@@ -14,12 +14,12 @@ pub record Takes (cost : ℕ) (run later : ℕ → Came) : Type 0 where
   pub short : (m : ℕ) → m < cost → run m ≡ Beyond
 
 -- an effect represents the run of its job, for every budget
-abbrev pub StandsFor : Code → Job → Effect → Type 0
-StandsFor code job (Ended v arrays t cost) = Takes cost (course code job) (λ n. Returns v arrays t n)
-StandsFor code job (Joined frame t cost) = Takes cost (course code job) (λ n. Arrives frame t n)
-StandsFor code job (TrapIn trap line lines cost) = Takes cost (course code job) (λ n. Falls trap line lines n)
-StandsFor code job OverLimit = (m : ℕ) → job.before + m ≤ job.limit → course code job m ≡ Beyond
-StandsFor code job Memory = Unit {0}
+abbrev pub RepresentsRun : Code → Job → Effect → Type 0
+RepresentsRun code job (Ended v arrays t cost) = Takes cost (course code job) (λ n. Returns v arrays t n)
+RepresentsRun code job (Joined frame t cost) = Takes cost (course code job) (λ n. Arrives frame t n)
+RepresentsRun code job (TrapIn trap line lines cost) = Takes cost (course code job) (λ n. Falls trap line lines n)
+RepresentsRun code job OverLimit = (m : ℕ) → job.before + m ≤ job.limit → course code job m ≡ Beyond
+RepresentsRun code job Memory = Unit {0}
 
 -- the job out at a caller that waits for a spawned call: the caller has no operands, and the cost before the job is
 -- at most `bound`
@@ -62,4 +62,4 @@ IsStrandOf code job (Going s count outs) =
     (job.before + count ≤ job.limit) × ComesTo code job count s × Outs job.limit (job.before + count) s.around outs
 IsStrandOf code job (Waits s count outs) =
     (job.before + count ≤ job.limit) × ComesTo code job count s × OutsHere job.limit (job.before + count) s outs
-IsStrandOf code job (Halted e outs) = (job.before + cost_of e ≤ job.limit) × StandsFor code job e
+IsStrandOf code job (Halted e outs) = (job.before + cost_of e ≤ job.limit) × RepresentsRun code job e

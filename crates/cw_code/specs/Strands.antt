@@ -10,7 +10,7 @@ use Rattle.cw_code.specs.declared.code.Instr.TheVariants as instr
 use Rattle.cw_code.specs.Code.{Code}
 use Rattle.cw_code.specs.Run.{Waiting, Around, Caller, State, On, Ends, Stops, Slots, settled, Taken, Whole}
 use Rattle.cw_code.specs.Run.{slot_taken, taken_from, moved_out, passed_by, step}
-use Rattle.cw_code.specs.Jobs.{ToJoin, has_come, Standing, standing, Job, job_start, Effect, Ended, Joined, TrapIn}
+use Rattle.cw_code.specs.Jobs.{ToJoin, has_come, JoinFrame, standing, Job, job_start, Effect, Ended, Joined, TrapIn}
 use Rattle.cw_code.specs.Jobs.{OverLimit, Memory}
 
 -- a strand, with the jobs that it handed out and that have not come back, the newest first. It is running, at a state
@@ -111,7 +111,7 @@ goes_on (HandsOut target taken) from to limit before count outs =
 goes_on ComesBack from to limit before count outs = Waits to count outs
 
 -- the join: the continuation is done, pending results go back into their slots, and the block continues at its join
-abbrev pub resumed : State → Standing → Trace → State
+abbrev pub resumed : State → JoinFrame → Trace → State
 resumed s frame t =
     record s {
       place = frame.place;
@@ -175,7 +175,7 @@ mutual
     NoMemory : (job : Job) (strand : Strand)
         → Reached code job strand → Reached code job (Halted Memory (outs_of strand))
     -- give: the strand receives the effect of its newest job out
-    Given : (job out : Job) (s : State) (count : ℕ) (outs : List Job) (frame : Standing) (t : Trace) (cost : ℕ)
+    Given : (job out : Job) (s : State) (count : ℕ) (outs : List Job) (frame : JoinFrame) (t : Trace) (cost : ℕ)
         → Reached code job (Waits s count (out ∷ outs)) → Makes code out (Joined frame t cost)
         → job.before + (count + cost) ≤ job.limit
         → Reached code job (Going (resumed s frame t) (count + cost) outs)

@@ -7,7 +7,7 @@ ghost use Rattle.cw_code.specs.RestLaws.{Cut, Kept, RootsAreSerial, SchedulesAre
 ghost use Rattle.cw_code.specs.RestsStay.{RestsStayInside};
 ghost use Rattle.cw_code.specs.Steps.{CallsKeep};
 ghost use Rattle.cw_code.specs.Walks.{FailingWalks, PrintingWalks};
-ghost use Rattle.cw_code.specs.Wants.{MemoryWasWanting};
+ghost use Rattle.cw_code.specs.AmpleMemory.{MemoryRanOutBefore};
 ghost use Rattle.cw_code.specs.Worlds.{EffectsMean, NoneIsUnfit, OwnersAreSingle, WorldsAreSerial};
 
 /// States that the serial run from a spawn is the child's run, then the run of the continuation up to its join from
@@ -57,8 +57,8 @@ pub fn every_effect_of_a_world_means_its_job()
 {}
 
 /// States that after any events, an effect is out of memory only if memory ran out before.
-pub fn memory_is_answered_only_where_it_was_wanting()
-    ensures { MemoryWasWanting }
+pub fn memory_is_answered_only_if_it_ran_out()
+    ensures { MemoryRanOutBefore }
 {}
 
 /// States that in well-formed code, no strand of any world gets stuck.

@@ -22,7 +22,7 @@ use Rattle.cw_freed.specs.declared.meter.FreedMeter.{FreedMeter}
 use Rattle.cw_freed.specs.declared.meter.Part.{Part}
 use Rattle.cw_freed.specs.declared.paths.Paths.{Paths}
 use Rattle.cw_freed.specs.FreedRuns.{unless, freed_events, freed_open}
-use Rattle.cw_freed.specs.Paths.{SpawnsBoth, EndsBoth, JoinsBoth, ReadsBoth, TellsRun}
+use Rattle.cw_freed.specs.Paths.{SpawnsBoth, EndsBoth, JoinsBoth, ReadsBoth, TracksRun}
 use Rattle.cw_freed.specs.Freeing.{spawned_behind, IsKept, AreKept, counted_at, CountsIn, FreesIn, BeginsChild, BeginsHalf, BeginsCall, BeginsQuiet, Ends}
 use Rattle.cw_freed.specs.Freeing.{Returns, Syncs, InstructionsNeedNoCall, Settles, Stacks, JoinsBlock, ClosesPart, Leaves, Reads}
 use Rattle.cw_freed.proofs.FreedRuns.{unless-none, unless_within, unless-sum, freed-append, freed_spawned, freed_closed, freed_regrouped}
@@ -69,9 +69,9 @@ module _ (frees : ℕ → Bool) (burden : Burden) where
   one : (os : List Open) (m : FreedMeter) → m.free ≡ frees (here_in 0 os) → unless m.free 1 ≡ unless (frees (here_in 0 os)) 1
   one os m e = ap (λ (b : Bool). unless b 1) e
 
-  run_as : (count a b : ℕ) (os : List Open) (es fs : List Event) (p q : Paths) → b ≡ a → fs ≡ es → q ≡ p → TellsRun burden count a os es p → TellsRun burden count b os fs q
+  run_as : (count a b : ℕ) (os : List Open) (es fs : List Event) (p q : Paths) → b ≡ a → fs ≡ es → q ≡ p → TracksRun burden count a os es p → TracksRun burden count b os fs q
   run_as count a b os es fs p q e f g h =
-      subst (λ (x : ℕ). TellsRun burden count x os fs q) (sym e) (subst (λ (x : List Event). TellsRun burden count a os x q) (sym f) (subst (λ (x : Paths). TellsRun burden count a os es x) (sym g) h))
+      subst (λ (x : ℕ). TracksRun burden count x os fs q) (sym e) (subst (λ (x : List Event). TracksRun burden count a os x q) (sym f) (subst (λ (x : Paths). TracksRun burden count a os es x) (sym g) h))
 
   -- an instruction
   pub counts_ticked : LatePathsWait → (count : ℕ) (os : List Open) (es : List Event) (m : FreedMeter) → count < MOST_LIMIT
@@ -157,7 +157,7 @@ module _ (frees : ℕ → Bool) (burden : Burden) where
           counted = let n = m.counted in let l = k.noted in omega arith;
           free = k.free ∙ is;
           spawned = k.spawned;
-          run = subst (λ (x : List Event). TellsRun burden (count + 1) (counted_at (count + 1) new) (record { spawned = true; mark = mark; outer = x } ∷ freed_open frees os) [] new.paths) (sym outer)
+          run = subst (λ (x : List Event). TracksRun burden (count + 1) (counted_at (count + 1) new) (record { spawned = true; mark = mark; outer = x } ∷ freed_open frees os) [] new.paths) (sym outer)
               (run_as (count + 1) (counted_at count old + j) (counted_at (count + 1) new)
               (record { spawned = true; mark = mark; outer = events os es ++ Work j ∷ [] } ∷ freed_open frees os) [] [] p new.paths
               (omega (arith, now, same, at)) refl k.paths run);
@@ -223,8 +223,8 @@ module _ (frees : ℕ → Bool) (burden : Burden) where
     abbrev freed_part : Open
     freed_part = record { spawned = o.spawned; mark = o.mark; outer = events os o.outer }
 
-    ended_run : (count a b : ℕ) (p q : Paths) → b ≡ a → q ≡ p → TellsRun burden count a (freed_open frees os) (closed freed_part inner) p
-        → TellsRun burden count b (freed_open frees os) (events os (closed o es)) q
+    ended_run : (count a b : ℕ) (p q : Paths) → b ≡ a → q ≡ p → TracksRun burden count a (freed_open frees os) (closed freed_part inner) p
+        → TracksRun burden count b (freed_open frees os) (events os (closed o es)) q
     ended_run count a b p q e f h = run_as count a b (freed_open frees os) (closed freed_part inner) (events os (closed o es)) p q e (sym (freed_closed frees o (here_in 0 os) es)) f h
 
     joined_inner : (m : FreedMeter) → m.spawned ≡ false → m.spawned ≡ has_spawned es → has_spawned inner ≡ false

@@ -13,7 +13,7 @@ use Rattle.cw_freed.specs.declared.meter.Freed.{Freed}
 use Rattle.cw_freed.specs.declared.meter.FreedMeter.{FreedMeter}
 use Rattle.cw_freed.specs.declared.meter.Part.{Part}
 use Rattle.cw_freed.specs.FreedRuns.{unless, freed_events, freed_open}
-use Rattle.cw_freed.specs.Paths.{HaveRoom, TellsRun}
+use Rattle.cw_freed.specs.Paths.{HaveRoom, TracksRun}
 
 -- whether the enclosing block has spawned after the end of a part
 abbrev pub spawned_behind : (child spawned : Bool) → Bool
@@ -50,7 +50,7 @@ pub record CountsIn (frees : ℕ → Bool) (burden : Burden) (count : ℕ) (os :
   pub counted : m.counted ≤ m.noted
   pub free : m.free ≡ frees (here_in 0 os)
   pub spawned : m.spawned ≡ has_spawned es
-  pub run : TellsRun burden count (counted_at count m) (freed_open frees os) (freed_events frees (here_in 0 os) es)
+  pub run : TracksRun burden count (counted_at count m) (freed_open frees os) (freed_events frees (here_in 0 os) es)
       m.paths
 
 -- the meter represents the run: its counts and its entries for open parts
@@ -60,9 +60,9 @@ pub record FreesIn (frees : ℕ → Bool) (burden : Burden) (count : ℕ) (os : 
   pub parts : AreKept frees os (reverse m.parts.items)
 
 -- a step of the meter from one run so far to another, with one more instruction, if that is within the maximum limit
-abbrev pub Tells : (frees : ℕ → Bool) → Burden → (old new : FreedMeter) → (count : ℕ) → (os os' : List Open)
+abbrev pub Tracks : (frees : ℕ → Bool) → Burden → (old new : FreedMeter) → (count : ℕ) → (os os' : List Open)
     → (es es' : List Event) → Type 0
-Tells frees burden old new count os os' es es' =
+Tracks frees burden old new count os os' es es' =
     count < MOST_LIMIT → FreesIn frees burden count os es old → FreesIn frees burden (count + 1) os' es' new
 
 -- the meter of a run at its start
@@ -74,49 +74,49 @@ Starts burden free m =
 abbrev pub BeginsChild : (old new : FreedMeter) → (count : ℕ) → (free : Bool) → Type 0
 BeginsChild old new count free =
     (frees : ℕ → Bool) (burden : Burden) (mark : Option Mark) (os : List Open) (es : List Event)
-    → free ≡ frees (inside mark (here_in 0 os)) → Tells frees burden old new count os (begun true mark es os) es []
+    → free ≡ frees (inside mark (here_in 0 os)) → Tracks frees burden old new count os (begun true mark es os) es []
 
 -- begins a spawned part that is not a call of a call statement
 abbrev pub BeginsHalf : (old new : FreedMeter) → (count : ℕ) → Type 0
 BeginsHalf old new count =
     (frees : ℕ → Bool) (burden : Burden) (mark : Option Mark) (os : List Open) (es : List Event)
-    → inside mark (here_in 0 os) ≡ here_in 0 os → Tells frees burden old new count os (begun true mark es os) es []
+    → inside mark (here_in 0 os) ≡ here_in 0 os → Tracks frees burden old new count os (begun true mark es os) es []
 
 -- begins a plain call
 abbrev pub BeginsCall : (old new : FreedMeter) → (count : ℕ) → (free : Bool) → Type 0
 BeginsCall old new count free =
     (frees : ℕ → Bool) (burden : Burden) (site : ℕ) (os : List Open) (es : List Event) → free ≡ frees site
-    → Tells frees burden old new count os (begun false (Some (Invocation site)) es os) es []
+    → Tracks frees burden old new count os (begun false (Some (Invocation site)) es os) es []
 
 -- begins any other part in series
 abbrev pub BeginsQuiet : (old new : FreedMeter) → (count : ℕ) → Type 0
 BeginsQuiet old new count =
     (frees : ℕ → Bool) (burden : Burden) (mark : Option Mark) (os : List Open) (es : List Event)
-    → inside mark (here_in 0 os) ≡ here_in 0 os → Tells frees burden old new count os (begun false mark es os) es []
+    → inside mark (here_in 0 os) ≡ here_in 0 os → Tracks frees burden old new count os (begun false mark es os) es []
 
 -- joins and ends a scope, a cut or a region; the ending instruction belongs to the enclosing block
 abbrev pub Ends : (old new : FreedMeter) → (count : ℕ) → Type 0
 Ends old new count =
     (frees : ℕ → Bool) (burden : Burden) (o : Open) (os : List Open) (es : List Event) → o.spawned ≡ false
-    → Tells frees burden old new count (o ∷ os) os es (ticked (closed o es))
+    → Tracks frees burden old new count (o ∷ os) os es (ticked (closed o es))
 
 -- joins and ends a call, with an instruction of the call
 abbrev pub Returns : (old new : FreedMeter) → (count : ℕ) → Type 0
 Returns old new count =
     (frees : ℕ → Bool) (burden : Burden) (o : Open) (os : List Open) (es : List Event)
-    → Tells frees burden old new count (o ∷ os) os es (closed o (synced es))
+    → Tracks frees burden old new count (o ∷ os) os es (closed o (synced es))
 
 -- joins the current block
 abbrev pub Syncs : (old new : FreedMeter) → (count : ℕ) → Type 0
 Syncs old new count =
     (frees : ℕ → Bool) (burden : Burden) (os : List Open) (es : List Event)
-    → Tells frees burden old new count os os es (synced es)
+    → Tracks frees burden old new count os os es (synced es)
 
 -- an instruction that begins, ends and joins nothing needs no call
 abbrev pub InstructionsNeedNoCall : Type 0
 InstructionsNeedNoCall =
     (m : FreedMeter) (count : ℕ) (frees : ℕ → Bool) (burden : Burden) (os : List Open) (es : List Event)
-    → Tells frees burden m m count os os es (ticked es)
+    → Tracks frees burden m m count os os es (ticked es)
 
 -- all instructions up to this count are noted, and nothing else changes
 pub record Settles (old new : FreedMeter) (count : ℕ) : Type 0 where

@@ -7,7 +7,7 @@ use Rattle.cw_model.specs.Sites.{are_numbered}
 use Rattle.cw_text.specs.declared.fault.Fault.{Fault}
 use Rattle.cw_sites.specs.declared.table.SiteRow.{SiteRow}
 use Rattle.cw_meter.specs.Whole.{AreReadings, AreSiteRows}
-use Rattle.cw_code.specs.Code.{code_view, told_sites}
+use Rattle.cw_code.specs.Code.{code_view, reported_sites}
 use Rattle.cw_runnable.specs.declared.verified.Verified.{Verified}
 use Rattle.cw_machine.specs.declared.alone.Ended.{Ended}
 use Rattle.cw_machine.specs.Runs.{Runs, IsFailure}
@@ -32,7 +32,7 @@ module _ (v : Verified) (heads : List Head) (args : List ℤ) (n : ℕ) (burden 
       (subst (IsFailure (code_view v.code) args n burden) (sym (only runs.tree ends)) runs.asked) h
 
   -- the first of the ranked functions, each with its spans
-  pub gained : (g : declared.Gains) (rows : List SiteRow) (counted : List Counted) → are_numbered 0 (told_sites (code_view v.code)) ≡ true
+  pub gained : (g : declared.Gains) (rows : List SiteRow) (counted : List Counted) → are_numbered 0 (reported_sites (code_view v.code)) ≡ true
       → g.measure ≡ ended.measure → AreSiteRows (length (code_view v.code).sites + 1) runs.tree rows
       → counted ≡ take top (ranked_from heads (code_view v.code).sites rows)
       → AreFreeOf v args n burden counted g.functions → Gains (code_view v.code) heads args n burden top g

@@ -8,7 +8,7 @@ use Rattle.cw_model.specs.Sites.{CallSite, Root, are_numbered}
 use Rattle.cw_model.specs.Freed.{FunctionRow, span_if_free, burdened_if_free, is_site_of, worth_telling}
 use Rattle.cw_text.specs.declared.fault.Fault.{Fault}
 use Rattle.cw_meter.specs.Whole.{AreReadings}
-use Rattle.cw_code.specs.Code.{Code, told_sites}
+use Rattle.cw_code.specs.Code.{Code, reported_sites}
 use Rattle.cw_code.specs.Run.{code_serial}
 use Rattle.cw_machine.specs.Runs.{is_request, IsFailure}
 use Rattle.cw_code.specs.Heads.{head_view}
@@ -23,7 +23,7 @@ root_at line = record { number = 0; kind = Root; line = line; callee = main_name
 
 -- all sites of code
 abbrev pub all_sites : Code → List CallSite
-all_sites code = root_at code.main_line ∷ told_sites code
+all_sites code = root_at code.main_line ∷ reported_sites code
 
 -- a function, and the spans of the run if it took no time
 pub record FreeRow : Type 0 where
@@ -57,7 +57,7 @@ pub record Gains (code : Code) (heads : List Head) (args : List ℤ) (n : ℕ) (
 
 -- the call sites of code are numbered in order, from 1
 abbrev pub HasNumberedSites : Code → Type 0
-HasNumberedSites code = are_numbered 0 (told_sites code) ≡ true
+HasNumberedSites code = are_numbered 0 (reported_sites code) ≡ true
 
 -- THE GAIN TABLE of a run, or why the run has no value
 abbrev pub GainsAsCode : Code → List Head → List ℤ → (n : ℕ) → Burden → (top : ℕ) → Result declared.Gains Fault → Type 0

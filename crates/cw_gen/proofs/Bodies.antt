@@ -25,7 +25,7 @@ use Rattle.cw_code.specs.lemmas.Runs.{joined_quiet}
 use Rattle.cw_gen.specs.Emit.{most_jump, distance, first_list, halves_at, returns}
 use Rattle.cw_gen.proofs.HeldNames.{held_after, held_after_all, held_turn, has_no_half_in}
 use Rattle.cw_gen.specs.Marks.{Marks}
-use Rattle.cw_gen.proofs.Marked.{owned, read_in, told_at, IsOwn, AllOwn, settle_owned, settle_read, get_owned, own_behind}
+use Rattle.cw_gen.proofs.Marked.{owned, read_in, marked_results, IsOwn, AllOwn, settle_owned, settle_read, get_owned, own_behind}
 use Rattle.cw_gen.proofs.MarkedCuts.{OwnHalves, cut_numbers, may_cut_owned, cut_owned, cut_read, uncut_owned, uncut_read}
 use Rattle.cw_gen.proofs.Fine.{IsWritable, ExprFine, Room, PartsFine, FreeAtEnd, EndsFree}
 use Rattle.cw_gen.proofs.Traces.{resume, resume_then, resume_one}
@@ -49,7 +49,7 @@ module _ (code : Code) (fs : List Function) (lists : Lists) (small : length code
   -- a join: what waits for it returns to slots that are not only read
   pub joins_at : (around : List Around) (pc : ℕ) (store : Store) (w : Waits) (t : Trace) → AllOwn marks store.arrived →
       record (at around pc [] (joined_with store w) t) {
-        arrays = settled (told_at marks store.arrived) (owned marks store.arrays);
+        arrays = settled (marked_results marks store.arrived) (owned marks store.arrays);
         readers = read_in marks store.arrays;
       } ≡ at around pc [] (joined_with store w) t
   joins_at around pc store w t own =

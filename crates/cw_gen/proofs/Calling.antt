@@ -25,7 +25,7 @@ use Rattle.cw_code.specs.Run.{slot_taken, may_take, may_keep, may_begin, kept_by
 use Rattle.cw_code.specs.Run.{begun, given_back, returns_to, event_of, rejoined, result_of, back, cuts, go_on, steps}
 use Rattle.cw_code.specs.lemmas.Runs.{joined_quiet}
 use Rattle.cw_gen.specs.Marks.{Marks}
-use Rattle.cw_gen.proofs.Marked.{owned, lent, read_in, told_at, told_all, told_more, taken_at, numbers_at, OwnSlots, AllOwn, both_own, settle_owned}
+use Rattle.cw_gen.proofs.Marked.{owned, lent, read_in, marked_results, told_all, told_more, taken_at, numbers_at, OwnSlots, AllOwn, both_own, settle_owned}
 use Rattle.cw_gen.proofs.Marked.{settle_read, slots_told, given_told, move_owned, move_read, owned_full, read_full, length_owned, length_lent}
 use Rattle.cw_gen.proofs.MarkedParams.{marks_short}
 use Rattle.cw_gen.proofs.Fine.{AllUsable, AllWritable, TargetFine, Room, marks_for}
@@ -105,7 +105,7 @@ module _ (code : Code) (fs : List Function) (lists : Lists) where
         (store : Store) (outer : Outside) (frame : Frame) (back : Results (List ℤ)) (size : ℕ) (t : Trace) : Type 0 where
       pub slots' : Slots ℤ
       pub results' : Results ℤ
-      pub went : result_of kind (option_map (λ x. slot_of x names) target) v (told_at marks back)
+      pub went : result_of kind (option_map (λ x. slot_of x names) target) v (marked_results marks back)
           (at around pc [] (record {
             slots = taken_from kind (option_map (λ x. slot_of x names) target) store.slots;
             arrays = store.arrays;
@@ -129,7 +129,7 @@ module _ (code : Code) (fs : List Function) (lists : Lists) where
     -- the arrays that a call returns immediately, and those that it returns at the next join
     plain_back : (around : List Around) (pc : ℕ) (slots : Slots ℤ) (store : Store) (back : Results (List ℤ)) (t : Trace) → AllOwn marks back →
         record (at around pc [] (record { slots = slots; arrays = store.arrays; results = store.results; arrived = store.arrived }) t)
-        { arrays = settled (told_at marks back) (owned marks store.arrays) }
+        { arrays = settled (marked_results marks back) (owned marks store.arrays) }
         ≡ at around pc [] (record { slots = slots; arrays = settled back store.arrays; results = store.results; arrived = store.arrived }) t
     plain_back around pc slots store back t own =
         ap (λ l. record (at around pc [] (record { slots = slots; arrays = store.arrays; results = store.results; arrived = store.arrived }) t)
@@ -142,7 +142,7 @@ module _ (code : Code) (fs : List Function) (lists : Lists) where
         }) t) { readers = l }) (sym (settle_read marks back store.arrays own))
 
     spawn_back : (around : List Around) (pc : ℕ) (slots : Slots ℤ) (results : Results ℤ) (store : Store) (back : Results (List ℤ)) (t : Trace) →
-        On (record (at around pc [] (record { slots = slots; arrays = store.arrays; results = results; arrived = store.arrived }) t) { arrived = told_at marks back ++ told_at marks store.arrived })
+        On (record (at around pc [] (record { slots = slots; arrays = store.arrays; results = results; arrived = store.arrived }) t) { arrived = marked_results marks back ++ marked_results marks store.arrived })
         ≡ On (at around pc [] (record { slots = slots; arrays = store.arrays; results = results; arrived = back ++ store.arrived }) t)
     spawn_back around pc slots results store back t = ap (λ l. On (record
         (at around pc [] (record { slots = slots; arrays = store.arrays; results = results; arrived = store.arrived }) t) { arrived = l }))
@@ -241,7 +241,7 @@ module _ (code : Code) (fs : List Function) (lists : Lists) where
       arrays = owned marks (moved_out moved store.arrays);
       readers = read_in marks (moved_out moved store.arrays);
       results = store.results;
-      arrived = told_at marks store.arrived;
+      arrived = marked_results marks store.arrived;
       depth = depth;
       kind = kind;
       site = mark;

@@ -3,7 +3,7 @@ use Rattle.std.proofs.Common.{◌≡◌, ℕ, suc, ◌≤◌, Bool, not, cond, f
 use Rattle.std.specs.Prelude.{reverse, take, map, min, is_none}
 use Rattle.std.proofs.lemmas.List.{append-nil, length-reverse, reverse-reverse}
 use Rattle.cw_facts.specs.Tests.{first_true, second_true, not_true}
-use Rattle.cw_model.specs.Syntax.{Name, Expr, Variable, Stmt, Block, End, Then, Param, Function, wants_array}
+use Rattle.cw_model.specs.Syntax.{Name, Expr, Variable, Stmt, Block, End, Then, Param, Function, is_array_param}
 use Rattle.std.specs.List.{list_all}
 use Rattle.cw_model.specs.Frames.{Frame, new_int, new_array, set_result}
 use Rattle.cw_model.specs.Outcome.{Outcome, Trace, then_do}
@@ -20,7 +20,7 @@ use Rattle.cw_code.specs.Run.{Slots, Around, State, Transition, is_full, on_slot
 use Rattle.cw_gen.specs.Emit.{most_jump, distance, emitted_arg}
 use Rattle.cw_gen.proofs.Texts.{expr_code}
 use Rattle.cw_gen.specs.Marks.{Marks}
-use Rattle.cw_gen.proofs.Marked.{owned, read_in, told_at, AllOwn, settle_owned}
+use Rattle.cw_gen.proofs.Marked.{owned, read_in, marked_results, AllOwn, settle_owned}
 use Rattle.cw_gen.proofs.Fine.{NoArray, ArrayAlone, Room, Begins}
 use Rattle.cw_gen.proofs.Stores.{Store, Outside, array_waits, Agrees}
 use Rattle.cw_gen.proofs.Names.{names_in, values_in, names_more, values_more, all_of}
@@ -41,7 +41,7 @@ leaves target ps es frame r = going (set_result target r.0 (returned_arrays ps e
 abbrev pub arrays_named : List Param → List Expr → List Name
 arrays_named [] es = []
 arrays_named (p ∷ ps) [] = []
-arrays_named (p ∷ ps) (e ∷ es) = (if wants_array p then ownership.names_in e else []) ++ arrays_named ps es
+arrays_named (p ∷ ps) (e ∷ es) = (if is_array_param p then ownership.names_in e else []) ++ arrays_named ps es
 
 -- a frame after parameters are bound to values: integers and arrays, each in order
 pub record Bound (ps : List Param) (vs : List ℤ) (xss : List (List ℤ)) (before after : Frame) : Type 0 where
@@ -62,66 +62,66 @@ bound_none g = record {
 }
 
 -- one integer, and then the other parameters
-pub bound_int : (p : Param) (ps : List Param) (v : ℤ) (vs : List ℤ) (xss : List (List ℤ)) (g after : Frame) → (wants_array p) ≡ false
+pub bound_int : (p : Param) (ps : List Param) (v : ℤ) (vs : List ℤ) (xss : List (List ℤ)) (g after : Frame) → (is_array_param p) ≡ false
     → Bound ps vs xss (new_int p.name v g) after → Bound (p ∷ ps) (v ∷ vs) xss g after
 bound_int p ps v vs xss g after is b = record {
   ints = b.ints ∙ ap (λ l. l ++ (locals_of ps).ints) (names_more g.ints p.name v) ∙ append_assoc (names_in g.ints) (p.name ∷ []) (locals_of ps).ints
-      ∙ ap (λ l. names_in g.ints ++ l) (sym (kept (not (wants_array p)) (ap not is)));
+      ∙ ap (λ l. names_in g.ints ++ l) (sym (kept (not (is_array_param p)) (ap not is)));
   values = b.values ∙ ap (λ l. l ++ vs) (values_more g.ints p.name v) ∙ append_assoc (values_in g.ints) (v ∷ []) vs;
-  arrays = b.arrays ∙ ap (λ l. names_in g.arrays ++ l) (sym (left_out (wants_array p) is));
+  arrays = b.arrays ∙ ap (λ l. names_in g.arrays ++ l) (sym (left_out (is_array_param p) is));
   elements = b.elements;
   whole = b.whole;
 }
   where
-    kept : (c : Bool) → c ≡ true → map (λ (q : Param). q.name) (cond c (p ∷ filter (λ q. not (wants_array q)) ps) (filter (λ q. not (wants_array q)) ps)) ≡ p.name ∷ (locals_of ps).ints
+    kept : (c : Bool) → c ≡ true → map (λ (q : Param). q.name) (cond c (p ∷ filter (λ q. not (is_array_param q)) ps) (filter (λ q. not (is_array_param q)) ps)) ≡ p.name ∷ (locals_of ps).ints
     kept true e = refl
     kept false e = cc
 
-    left_out : (c : Bool) → c ≡ false → map (λ (q : Param). q.name) (cond c (p ∷ filter (λ q. (wants_array q)) ps) (filter (λ q. (wants_array q)) ps)) ≡ (locals_of ps).arrays
+    left_out : (c : Bool) → c ≡ false → map (λ (q : Param). q.name) (cond c (p ∷ filter (λ q. (is_array_param q)) ps) (filter (λ q. (is_array_param q)) ps)) ≡ (locals_of ps).arrays
     left_out true e = cc
     left_out false e = refl
 
 -- one array, and then the other parameters
-pub bound_array : (p : Param) (ps : List Param) (xs : List ℤ) (vs : List ℤ) (xss : List (List ℤ)) (g after : Frame) → (wants_array p) ≡ true
+pub bound_array : (p : Param) (ps : List Param) (xs : List ℤ) (vs : List ℤ) (xss : List (List ℤ)) (g after : Frame) → (is_array_param p) ≡ true
     → Bound ps vs xss (new_array p.name xs g) after → Bound (p ∷ ps) vs (xs ∷ xss) g after
 bound_array p ps xs vs xss g after is b = record {
-  ints = b.ints ∙ ap (λ l. names_in g.ints ++ l) (sym (left_out (not (wants_array p)) (ap not is)));
+  ints = b.ints ∙ ap (λ l. names_in g.ints ++ l) (sym (left_out (not (is_array_param p)) (ap not is)));
   values = b.values;
   arrays = b.arrays ∙ ap (λ l. l ++ (locals_of ps).arrays) (names_more g.arrays p.name xs)
-      ∙ append_assoc (names_in g.arrays) (p.name ∷ []) (locals_of ps).arrays ∙ ap (λ l. names_in g.arrays ++ l) (sym (kept (wants_array p) is));
+      ∙ append_assoc (names_in g.arrays) (p.name ∷ []) (locals_of ps).arrays ∙ ap (λ l. names_in g.arrays ++ l) (sym (kept (is_array_param p) is));
   elements = b.elements ∙ ap (λ l. l ++ xss) (values_more g.arrays p.name xs) ∙ append_assoc (values_in g.arrays) (xs ∷ []) xss;
   whole = b.whole;
 }
   where
-    kept : (c : Bool) → c ≡ true → map (λ (q : Param). q.name) (cond c (p ∷ filter (λ q. (wants_array q)) ps) (filter (λ q. (wants_array q)) ps)) ≡ p.name ∷ (locals_of ps).arrays
+    kept : (c : Bool) → c ≡ true → map (λ (q : Param). q.name) (cond c (p ∷ filter (λ q. (is_array_param q)) ps) (filter (λ q. (is_array_param q)) ps)) ≡ p.name ∷ (locals_of ps).arrays
     kept true e = refl
     kept false e = cc
 
-    left_out : (c : Bool) → c ≡ false → map (λ (q : Param). q.name) (cond c (p ∷ filter (λ q. not (wants_array q)) ps) (filter (λ q. not (wants_array q)) ps)) ≡ (locals_of ps).ints
+    left_out : (c : Bool) → c ≡ false → map (λ (q : Param). q.name) (cond c (p ∷ filter (λ q. not (is_array_param q)) ps) (filter (λ q. not (is_array_param q)) ps)) ≡ (locals_of ps).ints
     left_out true e = cc
     left_out false e = refl
 
 -- the frame of main binds its parameters
-pub bound_main : (ps : List Param) (vs : List ℤ) (g : Frame) → list_all (λ p. not (wants_array p)) ps ≡ true → length vs ≡ length ps → Bound ps vs [] g (main_frame ps vs g)
+pub bound_main : (ps : List Param) (vs : List ℤ) (g : Frame) → list_all (λ p. not (is_array_param p)) ps ≡ true → length vs ≡ length ps → Bound ps vs [] g (main_frame ps vs g)
 bound_main [] [] g ints n = bound_none g
 bound_main [] (v ∷ vs) g ints n = absurd (omega (arith, n))
 bound_main (p ∷ ps) [] g ints n = absurd (omega (arith, n))
 bound_main (p ∷ ps) (v ∷ vs) g ints n =
-    let rest = list_all (λ q. not (wants_array q)) ps in
-    bound_int p ps v vs [] g (main_frame ps vs (new_int p.name v g)) (not_true (wants_array p) (first_true (not (wants_array p)) rest ints))
-    (bound_main ps vs (new_int p.name v g) (second_true (not (wants_array p)) rest ints) (omega (arith, n)))
+    let rest = list_all (λ q. not (is_array_param q)) ps in
+    bound_int p ps v vs [] g (main_frame ps vs (new_int p.name v g)) (not_true (is_array_param p) (first_true (not (is_array_param p)) rest ints))
+    (bound_main ps vs (new_int p.name v g) (second_true (not (is_array_param p)) rest ints) (omega (arith, n)))
 
 -- main takes only integers, one for each parameter
-pub main_locals : (ps : List Param) → list_all (λ p. not (wants_array p)) ps ≡ true → (length (locals_of ps).ints ≡ length ps) × (length (locals_of ps).arrays ≡ 0)
+pub main_locals : (ps : List Param) → list_all (λ p. not (is_array_param p)) ps ≡ true → (length (locals_of ps).ints ≡ length ps) × (length (locals_of ps).arrays ≡ 0)
 main_locals [] ints = (refl, refl)
 main_locals (p ∷ ps) ints =
-    let rest = list_all (λ q. not (wants_array q)) ps in
-    let more = main_locals ps (second_true (not (wants_array p)) rest ints) in
-    test (wants_array p) (first_true (not (wants_array p)) rest ints) more.0 more.1
+    let rest = list_all (λ q. not (is_array_param q)) ps in
+    let more = main_locals ps (second_true (not (is_array_param p)) rest ints) in
+    test (is_array_param p) (first_true (not (is_array_param p)) rest ints) more.0 more.1
   where
     test : (b : Bool) → not b ≡ true → length (locals_of ps).ints ≡ length ps → length (locals_of ps).arrays ≡ 0 →
-        (length (map (λ (q : Param). q.name) (cond (not b) (p ∷ filter (λ q. not (wants_array q)) ps) (filter (λ q. not (wants_array q)) ps)))
-        ≡ suc (length ps)) × (length (map (λ (q : Param). q.name) (cond b (p ∷ filter (λ q. (wants_array q)) ps) (filter (λ q. (wants_array q)) ps))) ≡ 0)
+        (length (map (λ (q : Param). q.name) (cond (not b) (p ∷ filter (λ q. not (is_array_param q)) ps) (filter (λ q. not (is_array_param q)) ps)))
+        ≡ suc (length ps)) × (length (map (λ (q : Param). q.name) (cond b (p ∷ filter (λ q. (is_array_param q)) ps) (filter (λ q. (is_array_param q)) ps))) ≡ 0)
     test true h a b = cc
     test false h a b = (ap suc a, b)
 
@@ -165,7 +165,7 @@ here marks depth around place operands store trace = record {
   arrays = owned marks store.arrays;
   readers = read_in marks store.arrays;
   results = store.results;
-  arrived = told_at marks store.arrived;
+  arrived = marked_results marks store.arrived;
   depth = depth;
   around = around;
   trace = trace;
@@ -203,7 +203,7 @@ MayGive Alone v = is_none v ≡ true
 -- the arrays that a call returns at its end are the arrays of its frame
 pub gives_back : (marks : Marks) (room : Room) (locals : Locals) (taken' : Taken) (frame : Frame) (store : Store) (outer : Outside) → outer ≡ []
     → Begins room.given locals.arrays → Agrees locals taken' frame store outer → AllOwn marks store.arrived
-    → GivesBack marks room.given frame (settled (told_at marks store.arrived) (owned marks store.arrays))
+    → GivesBack marks room.given frame (settled (marked_results marks store.arrived) (owned marks store.arrays))
 gives_back marks room locals taken' frame store outer e begins a own = record {
   more = begins.more;
   named = a.arrays.named ∙ begins.is;

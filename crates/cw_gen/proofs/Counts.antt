@@ -3,7 +3,7 @@ use Rattle.std.proofs.Common.{◌≡◌, ℕ, suc, ◌+◌, List, [], ◌∷◌,
 use Rattle.std.specs.Prelude.{sum_by, map}
 use Rattle.std.proofs.lemmas.List.Sums.{sum_by-cons}
 use Rattle.std.proofs.lemmas.List.{length_push}
-use Rattle.cw_model.specs.Syntax.{wants_array, Name, Expr, Number, Variable, Element, Length, Negative, Not, Binary, Stmt, Declare, DeclareArray, Assign, AssignElement, Reduce}
+use Rattle.cw_model.specs.Syntax.{is_array_param, Name, Expr, Number, Variable, Element, Length, Negative, Not, Binary, Stmt, Declare, DeclareArray, Assign, AssignElement, Reduce}
 use Rattle.cw_model.specs.Syntax.{Call, Start, Begin, Sync, If, IfElse, While, Scope, Cut, Region, Print, Return, Block, End, Then, Param, Function, Program}
 use Rattle.cw_model.specs.Meaning.{function_named}
 use Rattle.cw_model.specs.Typing.{Returns, Nowhere, WithInt, Alone}
@@ -43,7 +43,7 @@ args_count : (marks : Marks) (locals : Locals) (taken : Taken) (line : ℕ) (ps 
 args_count marks locals taken line [] [] fine = refl
 args_count marks locals taken line [] (e ∷ es) fine = absurd fine
 args_count marks locals taken line (p ∷ ps) [] fine = absurd fine
-args_count marks locals taken line (p ∷ ps) (e ∷ es) fine = one (wants_array p) e (arg_kept p.kind marks locals taken e fine.0) (args_count marks locals taken line ps es fine.1)
+args_count marks locals taken line (p ∷ ps) (e ∷ es) fine = one (is_array_param p) e (arg_kept p.kind marks locals taken e fine.0) (args_count marks locals taken line ps es fine.1)
   where
     one : (b : Bool) (e : Expr) → ArgKept b locals taken e → length (args_code marks locals line ps es) ≡ arguments_size [] ps es
         → length (emitted_arg marks line (slotted_argument locals (p ∷ ps) e) ++ args_code marks locals line ps es)

@@ -5,7 +5,7 @@ use Rattle.std.specs.Prelude.{flat_map}
 use Rattle.std.proofs.lemmas.List.{length_push}
 use Rattle.cw_model.specs.declared.limits.TheConstants.{MOST_DECLARED}
 use Rattle.cw_model.specs.declared.syntax.Operator.TheVariants.{AtMost, Plus, Divide}
-use Rattle.cw_model.specs.Syntax.{wants_array, Name, Param, Number, Variable, Binary, Stmt, Declare, DeclareArray, Assign, AssignElement, Reduce, Call, Start}
+use Rattle.cw_model.specs.Syntax.{is_array_param, Name, Param, Number, Variable, Binary, Stmt, Declare, DeclareArray, Assign, AssignElement, Reduce, Call, Start}
 use Rattle.cw_model.specs.Syntax.{Begin, Sync, If, IfElse, While, For, Scope, Cut, Region, Print, Return, Block, End, Then, Function, Program}
 use Rattle.cw_model.specs.Captured.{captured}
 use Rattle.cw_model.specs.Sizes.{function_limits}
@@ -120,9 +120,9 @@ both_few first lists (f ∷ fs) gs h k = (h.0, both_few first lists fs gs h.1 k)
 
 few_params : (ps : List Param) → length (locals_of ps).arrays ≤ length ps
 few_params [] = omega arith
-few_params (p ∷ ps) = go (wants_array p) (few_params ps)
+few_params (p ∷ ps) = go (is_array_param p) (few_params ps)
   where
-    go : (b : Bool) → length (locals_of ps).arrays ≤ length ps → length (map (λ (q : Param). q.name) (cond b (p ∷ filter (λ q. wants_array q) ps) (filter (λ q. wants_array q) ps))) ≤ length (p ∷ ps)
+    go : (b : Bool) → length (locals_of ps).arrays ≤ length ps → length (map (λ (q : Param). q.name) (cond b (p ∷ filter (λ q. is_array_param q) ps) (filter (λ q. is_array_param q) ps))) ≤ length (p ∷ ps)
     go true h = omega (arith, h)
     go false h = omega (arith, h)
 

@@ -2,7 +2,7 @@
 use Rattle.std.specs.Prelude.{◌≡◌, ◌++◌, suc, map, not, ℕ, ◌+◌, if◌then◌else◌, ◌-◌, ◌<◌, ◌≤◌, Bool, true, false, List, [], ◌∷◌, length, Option, Some, None, slice_get}
 use Rattle.cw_model.specs.declared.syntax.NameKind.{NameKind}
 use Rattle.cw_model.specs.declared.syntax.NameKind.TheVariants.{Integer, Array, Const}
-use Rattle.cw_model.specs.Syntax.{wants_array, is_array_kind, Name, Expr, Number, Variable, Element, Length, Negative, Not, Binary, Stmt, Declare, DeclareArray, Assign, AssignElement}
+use Rattle.cw_model.specs.Syntax.{is_array_param, is_array_kind, Name, Expr, Number, Variable, Element, Length, Negative, Not, Binary, Stmt, Declare, DeclareArray, Assign, AssignElement}
 use Rattle.cw_model.specs.Syntax.{Reduce, Call, Start, Begin, Sync, If, IfElse, While, Scope, Cut, Region, Print, Return, Block, End, Then, Param, Function, Program}
 use Rattle.cw_model.specs.Names.{same_name, is_among, differ}
 use Rattle.cw_model.specs.Meaning.{function_named}
@@ -158,7 +158,7 @@ IsCallee lists fs f = params_of lists f ≡ (function_named f fs).params
 -- integers precede arrays among the parameters
 abbrev pub ints_first : List Param → Bool
 ints_first [] = true
-ints_first (p ∷ ps) = if wants_array p then list_all (λ q. wants_array q) ps else ints_first ps
+ints_first (p ∷ ps) = if is_array_param p then list_all (λ q. is_array_param q) ps else ints_first ps
 
 -- the marks of a function with these parameters
 abbrev pub marks_for : List Param → Marks
@@ -282,5 +282,5 @@ pub record ProgramFine (program : Program) (lists : Lists) (tables : Tables) : T
   pub names : lists.functions ≡ map (λ f. f.name) program.functions
   pub main : is_function main_name program.functions ≡ true
   pub gives : (function_named main_name program.functions).gives_int ≡ true
-  pub ints : list_all (λ p. not (wants_array p)) (function_named main_name program.functions).params ≡ true
+  pub ints : list_all (λ p. not (is_array_param p)) (function_named main_name program.functions).params ≡ true
   pub reducers : are_apart lists.reducers ≡ true

@@ -32,19 +32,19 @@ use Rattle.cw_gen.proofs.Texts.{block_code, function_code, tables_in, code_of, r
 use Rattle.cw_gen.proofs.Places.{HasAt, has_all, length_within}
 use Rattle.cw_gen.proofs.EmptySlots.{row, array_row, length-row, covers_none}
 use Rattle.cw_gen.proofs.Shapes.{Shapes, shape_at, reached, end_shape, block_shapes, block_as_many}
-use Rattle.cw_gen.proofs.Settings.{Setting, StandsAt, stands_front, stands_back, flat, table_of, exact, takes_less, Returning, FitsAt, AllFit, both_fit}
+use Rattle.cw_gen.proofs.Settings.{Setting, HasShapesFrom, stands_front, stands_back, flat, table_of, exact, takes_less, Returning, FitsAt, AllFit, both_fit}
 use Rattle.cw_gen.proofs.FittingFirsts.{block_enters}
 use Rattle.cw_gen.proofs.Fitting.{block_fits}
 
 -- a part of a list is at the position after the elements before it
-stands_all : (before now later : Shapes) → StandsAt (before ++ (now ++ later)) (length before) now
+stands_all : (before now later : Shapes) → HasShapesFrom (before ++ (now ++ later)) (length before) now
 stands_all before [] later = tt
 stands_all before (s ∷ now) later =
     let within : length before < length (before ++ s ∷ (now ++ later)) = omega (arith, length-append before (s ∷ (now ++ later))) in
     let at = slice_get-get_or (before ++ s ∷ (now ++ later)) (length before) s within ∙ ap Some (get_or-append_seam before s (now ++ later) s) in
     let n : length (before ++ s ∷ []) ≡ length before + 1 = omega (arith, length-append before (s ∷ [])) in
-    let rest = subst (λ l. StandsAt l (length (before ++ s ∷ [])) now) (append_assoc before (s ∷ []) (now ++ later)) (stands_all (before ++ s ∷ []) now later) in
-    (at, subst (λ m. StandsAt (before ++ s ∷ (now ++ later)) m now) n rest)
+    let rest = subst (λ l. HasShapesFrom l (length (before ++ s ∷ [])) now) (append_assoc before (s ∷ []) (now ++ later)) (stands_all (before ++ s ∷ []) now later) in
+    (at, subst (λ m. HasShapesFrom (before ++ s ∷ (now ++ later)) m now) n rest)
 
 -- there is nothing before the first place of a function
 within_shapes : (start : ℕ) (ss : Shapes) (place : ℕ) (shape : Shape) → flat (slice_get (replicate start None ++ ss) place) ≡ Some shape → (start ≤ place) × (place < start + length ss)
@@ -143,14 +143,14 @@ module _ (code : Code) (fs : List Function) (lists : Lists) (small : length code
       within = within;
     }
 
-    stands : StandsAt tab start shapes
+    stands : HasShapesFrom tab start shapes
     stands =
         let nothing : Option Shape = None in
         let before : Shapes = replicate start nothing in
         let all = stands_all before shapes [] in
-        subst (λ k. StandsAt tab k shapes) (length-replicate start nothing) (subst (λ l. StandsAt (before ++ l) (length before) shapes) (append-nil shapes) all)
+        subst (λ k. HasShapesFrom tab k shapes) (length-replicate start nothing) (subst (λ l. HasShapesFrom (before ++ l) (length before) shapes) (append-nil shapes) all)
 
-    at_end : StandsAt tab (start + length body) (end_shapes g.gives_int)
+    at_end : HasShapesFrom tab (start + length body) (end_shapes g.gives_int)
     at_end = stands_back tab start (length body) body_shapes (end_shapes g.gives_int) body_count stands
 
     no_value : block_returns g.body ≡ false → g.gives_int ≡ false
@@ -162,7 +162,7 @@ module _ (code : Code) (fs : List Function) (lists : Lists) (small : length code
 
     closes : block_returns g.body ≡ false → FlowsInto (table_of tab) (start + length body) (end_shape fs size [] locals [] g.body)
     closes goes =
-        let here : StandsAt tab (start + length body) (end_shapes false) = subst (λ b. StandsAt tab (start + length body) (end_shapes b)) (no_value goes) at_end in
+        let here : HasShapesFrom tab (start + length body) (end_shapes false) = subst (λ b. HasShapesFrom tab (start + length body) (end_shapes b)) (no_value goes) at_end in
         exact tab (start + length body) (end_shape fs size [] locals [] g.body) (here.0 ∙ ap (λ r. Some (reached r (end_shape fs size [] locals [] g.body))) goes)
 
     short : length body ≤ most_jump
@@ -206,7 +206,7 @@ module _ (code : Code) (fs : List Function) (lists : Lists) (small : length code
     FitsHere place o i = FitsAt setting place o i
 
     -- the condition on one place
-    at_place : (ss : Shapes) (is : List Instr) (place m : ℕ) (i : Instr) → AllFit setting place ss is → StandsAt tab place ss
+    at_place : (ss : Shapes) (is : List Instr) (place m : ℕ) (i : Instr) → AllFit setting place ss is → HasShapesFrom tab place ss
         → HasAt code.instrs place is → m < length is → slice_get code.instrs (place + m) ≡ Some i → FitsHere (place + m) (flat (slice_get tab (place + m))) i
     at_place [] [] place m i fit stand has below e = absurd (omega (arith, below))
     at_place [] (i' ∷ is) place m i fit stand has below e = absurd fit

@@ -28,7 +28,7 @@ use Rattle.cw_gen.proofs.EmptySlots.{row, array_row, length-row, length_array_ro
 use Rattle.cw_gen.proofs.EmptySlots.{halves_at, slot_is_full, next_is_full, array_is_full, next_array_is_full, array_is_thawed, next_array_is_thawed, no_part}
 use Rattle.cw_gen.proofs.CutsKept.{cuts_more}
 use Rattle.cw_gen.proofs.Shapes.{Opened, depth_in, expr_shapes, reached, end_shape, stmt_shapes, block_shapes, expr_as_many, stmt_as_many, block_as_many}
-use Rattle.cw_gen.proofs.Settings.{Setting, StandsAt, stands_front, stands_back, exact, takes_less, Returning, tables, first, table, size, HasRoom, FitsAt, AllFit, both_fit, lies, made}
+use Rattle.cw_gen.proofs.Settings.{Setting, HasShapesFrom, stands_front, stands_back, exact, takes_less, Returning, tables, first, table, size, HasRoom, FitsAt, AllFit, both_fit, lies, made}
 use Rattle.cw_gen.proofs.FittingHalves.{half_fits}
 use Rattle.cw_gen.proofs.FittingRanges.{range_fits}
 use Rattle.cw_gen.proofs.FittingExprs.{own_below, given_fits, slot_is_there, array_is_there, expr_enters, expr_fits, valued_fits}
@@ -57,7 +57,7 @@ module _ (setting : Setting) where
     pub stmt_fits : (returns : Returns) (level : ℕ) (opened : Opened) (locals : Locals) (taken : Taken) (line : ℕ) (s : Stmt) (place : ℕ)
         → level ≡ depth_in opened → HasRoom setting locals → CutsOpen setting.marks opened locals taken → Returning returns opened setting.f.gives_int
         → StmtFine setting.fs setting.lists (tables setting) setting.marks (size setting) returns level locals taken s →
-        length (stmt_code (first setting) setting.marks setting.lists locals line s) ≤ most_jump → StandsAt setting.tab place (stmt_shapes setting.fs (size setting) opened locals taken s) →
+        length (stmt_code (first setting) setting.marks setting.lists locals line s) ≤ most_jump → HasShapesFrom setting.tab place (stmt_shapes setting.fs (size setting) opened locals taken s) →
         (surely_returns s ≡ false → FlowsInto (table setting) (place + length (stmt_code (first setting) setting.marks setting.lists locals line s))
         (made setting opened (locals_after locals s) (held_after setting.fs (depth_in opened) s taken) 0)) →
         AllFit setting place (stmt_shapes setting.fs (size setting) opened locals taken s) (stmt_code (first setting) setting.marks setting.lists locals line s)
@@ -255,7 +255,7 @@ module _ (setting : Setting) where
         let count_b : length sb ≡ length cb = block_as_many setting.fs setting.lists (tables setting) (size setting) returns level opened locals taken b at fine.1.0 in
         let one_part = Some (made setting opened locals taken 1) ∷ (sb ++ last ∷ []) in
         let second = stands_back setting.tab place (length ce) se (one_part ++ sc) (expr_as_many (made setting opened locals taken) 0 setting.marks locals line e) stands in
-        let in_b : StandsAt setting.tab pb (sb ++ (last ∷ [] ++ sc)) = subst (λ ss. StandsAt setting.tab pb ss) (append_assoc sb (last ∷ []) sc) second.1 in
+        let in_b : HasShapesFrom setting.tab pb (sb ++ (last ∷ [] ++ sc)) = subst (λ ss. HasShapesFrom setting.tab pb ss) (append_assoc sb (last ∷ []) sc) second.1 in
         let at_j = stands_back setting.tab pb (length cb) sb (last ∷ [] ++ sc) count_b in_b in
         let exit : surely_returns (IfElse e b c) ≡ false → FlowsInto (table setting) (pc + length other) (made setting opened locals both 0) =
         λ goes. subst (λ p. FlowsInto (table setting) p (made setting opened locals both 0))
@@ -379,7 +379,7 @@ module _ (setting : Setting) where
     pub block_fits : (returns : Returns) (level : ℕ) (opened : Opened) (locals : Locals) (taken : Taken) (b : Block) (place : ℕ)
         → level ≡ depth_in opened → HasRoom setting locals → CutsOpen setting.marks opened locals taken → Returning returns opened setting.f.gives_int
         → BlockFine setting.fs setting.lists (tables setting) setting.marks (size setting) returns level locals taken b →
-        length (block_code (first setting) setting.marks setting.lists locals b) ≤ most_jump → StandsAt setting.tab place (block_shapes setting.fs (size setting) opened locals taken b) →
+        length (block_code (first setting) setting.marks setting.lists locals b) ≤ most_jump → HasShapesFrom setting.tab place (block_shapes setting.fs (size setting) opened locals taken b) →
         (block_returns b ≡ false → FlowsInto (table setting) (place + length (block_code (first setting) setting.marks setting.lists locals b))
         (end_shape setting.fs (size setting) opened locals taken b)) →
         AllFit setting place (block_shapes setting.fs (size setting) opened locals taken b) (block_code (first setting) setting.marks setting.lists locals b)

@@ -8,7 +8,7 @@ use Rattle.cw_model.specs.declared.syntax.CallKind.{CallKind}
 use Rattle.cw_model.specs.declared.syntax.CallKind.TheVariants.{Plain, Spawned}
 use Rattle.cw_model.specs.declared.syntax.NameKind.{NameKind}
 use Rattle.cw_model.specs.declared.syntax.NameKind.TheVariants.{Integer, Array, Const}
-use Rattle.cw_model.specs.Syntax.{Name, Expr, Variable, Call, Param, wants_array, is_const_kind}
+use Rattle.cw_model.specs.Syntax.{Name, Expr, Variable, Call, Param, is_array_param, is_const_kind}
 use Rattle.cw_model.specs.Names.{is_among, differ}
 use Rattle.std.proofs.lemmas.List.{length-map}
 use Rattle.std.proofs.lemmas.Bool.{or_parts}
@@ -51,10 +51,10 @@ pub as_many_args : (marks : Marks) (locals : Locals) (taken : Taken) (n : ℕ) (
 as_many_args marks locals taken n [] [] fine = omega arith
 as_many_args marks locals taken n [] (e ∷ es) fine = absurd fine
 as_many_args marks locals taken n (p ∷ ps) [] fine = absurd fine
-as_many_args marks locals taken n (p ∷ ps) (e ∷ es) fine = as_many_args marks locals taken (after_arg (wants_array p) n) ps es fine.1 ∙ one (wants_array p)
+as_many_args marks locals taken n (p ∷ ps) (e ∷ es) fine = as_many_args marks locals taken (after_arg (is_array_param p) n) ps es fine.1 ∙ one (is_array_param p)
   where
     one : (b : Bool) → after_arg b n + length (locals_of ps).ints ≡ n
-        + length (map (λ (q : Param). q.name) (cond (not b) (p ∷ filter (λ q. not (wants_array q)) ps) (filter (λ q. not (wants_array q)) ps)))
+        + length (map (λ (q : Param). q.name) (cond (not b) (p ∷ filter (λ q. not (is_array_param q)) ps) (filter (λ q. not (is_array_param q)) ps)))
     one true = refl
     one false = omega arith
 

@@ -33,7 +33,7 @@ use Rattle.cw_gen.proofs.EmptySlots.{outers, Over, outers_more, outers_array, Cu
 use Rattle.cw_gen.proofs.EmptySlots.{array_is_thawed, next_array_is_thawed, not_cut_behind, outside_full, outside_thawed, no_part}
 use Rattle.cw_gen.proofs.Cutting.{slot_first, among_first}
 use Rattle.cw_gen.proofs.Shapes.{Opened, depth_in, shape_at, expr_shapes, reached, end_shape, stmt_shapes, block_shapes, expr_as_many, block_as_many}
-use Rattle.cw_gen.proofs.Settings.{Setting, StandsAt, stands_front, stands_back, exact, takes_less, tables, first, table, size, HasRoom, FitsAt, AllFit, both_fit, made}
+use Rattle.cw_gen.proofs.Settings.{Setting, HasShapesFrom, stands_front, stands_back, exact, takes_less, tables, first, table, size, HasRoom, FitsAt, AllFit, both_fit, made}
 use Rattle.cw_gen.proofs.FittingExprs.{own_below, expr_fits}
 use Rattle.cw_gen.proofs.FittingEnds.{held_outside, frozen_outside, none_outside, thawed_outside, outer_covers}
 use Rattle.cw_gen.proofs.FittingFirsts.{block_enters}
@@ -170,7 +170,7 @@ module _ (setting : Setting) where
       → ExprFine locals taken e → PartsFine setting.marks (size setting) locals l r →
       BlockFine setting.fs setting.lists (tables setting) setting.marks (size setting) Nowhere (level + 1) (with_array r (with_array l locals))
       ((a, CutOf) ∷ taken) b → FreeAtEnd setting.fs (level + 1) Joins ((a, CutOf) ∷ taken) (l ∷ r ∷ own_names b) b →
-      StandsAt setting.tab place (stmt_shapes setting.fs (size setting) opened locals taken (Cut a e l r b))
+      HasShapesFrom setting.tab place (stmt_shapes setting.fs (size setting) opened locals taken (Cut a e l r b))
       → FlowsInto (table setting) (place + length (stmt_code (first setting) setting.marks setting.lists locals line (Cut a e l r b)))
       (made setting opened locals (held_after setting.fs (depth_in opened) (Cut a e l r b) taken) 0) →
       (CutsOpen setting.marks (Some (halves_at locals a) ∷ opened) (with_array r (with_array l locals)) ((a, CutOf) ∷ taken) → HasRoom setting (with_array r (with_array l locals)) →

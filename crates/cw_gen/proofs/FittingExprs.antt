@@ -2,7 +2,7 @@
 use Rattle.std.proofs.Common.{◌≡◌, ℕ, ◌+◌, ◌-◌, ◌<◌, ◌≤◌, List, [], ◌∷◌, ◌++◌, length, Bool, true, false, nat_lt, Some, refl, sym, ap, subst, arith, append_assoc, length-append}
 use Rattle.std.specs.Prelude.{nat_le}
 use Rattle.cw_facts.specs.Tests.{both_true, at_most, below}
-use Rattle.cw_model.specs.Syntax.{wants_array, Name, Expr, Number, Variable, Element, Length, Negative, Not, Binary, Param}
+use Rattle.cw_model.specs.Syntax.{is_array_param, Name, Expr, Number, Variable, Element, Length, Negative, Not, Binary, Param}
 use Rattle.std.proofs.lemmas.List.{append-nil, length-replicate}
 use Rattle.cw_model.specs.Ownership.{Taken}
 use Rattle.cw_tree.specs.Resolved.{Locals, slot_of}
@@ -20,7 +20,7 @@ use Rattle.cw_gen.proofs.Texts.{expr_code, args_code}
 use Rattle.cw_gen.proofs.Codes.{arg_code, array_code}
 use Rattle.cw_gen.proofs.EmptySlots.{CutsOpen, slot_is_full, array_is_full}
 use Rattle.cw_gen.proofs.Shapes.{Opened, Shapes, arg_shapes, after_arg, args_after, expr_shapes, args_shapes, expr_as_many, args_as_many}
-use Rattle.cw_gen.proofs.Settings.{Setting, StandsAt, stands_front, stands_back, exact, table, size, HasRoom, FitsAt, AllFit, both_fit, made}
+use Rattle.cw_gen.proofs.Settings.{Setting, HasShapesFrom, stands_front, stands_back, exact, table, size, HasRoom, FitsAt, AllFit, both_fit, made}
 
 module _ (setting : Setting) where
   -- a slot that is not only read is a slot of the function
@@ -87,22 +87,22 @@ module _ (setting : Setting) where
             (array_is_there x u own, array_is_full (size setting) opened locals taken x n room.1 u own cuts, (leads, tt), refl)
 
     -- the first place of an expression accepts the shape before it
-    pub expr_enters : (e : Expr) (place n : ℕ) (more : Shapes) → ExprFine locals taken e → StandsAt setting.tab place (expr_shapes here n e ++ more) → FlowsInto (table setting) place (here n)
+    pub expr_enters : (e : Expr) (place n : ℕ) (more : Shapes) → ExprFine locals taken e → HasShapesFrom setting.tab place (expr_shapes here n e ++ more) → FlowsInto (table setting) place (here n)
     expr_enters (Number v) place n more fine h = exact setting.tab place (here n) h.0
     expr_enters (Variable x) place n more fine h = exact setting.tab place (here n) h.0
     expr_enters (Length x) place n more fine h = exact setting.tab place (here n) h.0
     expr_enters (Element x e) place n more fine h = expr_enters e place n (Some (here (n + 1)) ∷ more) fine.1
-        (subst (λ ss. StandsAt setting.tab place ss) (append_assoc (expr_shapes here n e) (Some (here (n + 1)) ∷ []) more) h)
+        (subst (λ ss. HasShapesFrom setting.tab place ss) (append_assoc (expr_shapes here n e) (Some (here (n + 1)) ∷ []) more) h)
     expr_enters (Negative e) place n more fine h = expr_enters e place n (Some (here (n + 1)) ∷ more) fine
-        (subst (λ ss. StandsAt setting.tab place ss) (append_assoc (expr_shapes here n e) (Some (here (n + 1)) ∷ []) more) h)
+        (subst (λ ss. HasShapesFrom setting.tab place ss) (append_assoc (expr_shapes here n e) (Some (here (n + 1)) ∷ []) more) h)
     expr_enters (Not e) place n more fine h = expr_enters e place n (Some (here (n + 1)) ∷ more) fine
-        (subst (λ ss. StandsAt setting.tab place ss) (append_assoc (expr_shapes here n e) (Some (here (n + 1)) ∷ []) more) h)
+        (subst (λ ss. HasShapesFrom setting.tab place ss) (append_assoc (expr_shapes here n e) (Some (here (n + 1)) ∷ []) more) h)
     expr_enters (Binary operator d e) place n more fine h =
         expr_enters d place n ((expr_shapes here (n + 1) e ++ Some (here (n + 1 + 1)) ∷ []) ++ more) fine.0
-        (subst (λ ss. StandsAt setting.tab place ss) (append_assoc (expr_shapes here n d) (expr_shapes here (n + 1) e ++ Some (here (n + 1 + 1)) ∷ []) more) h)
+        (subst (λ ss. HasShapesFrom setting.tab place ss) (append_assoc (expr_shapes here n d) (expr_shapes here (n + 1) e ++ Some (here (n + 1 + 1)) ∷ []) more) h)
 
     -- the code of an expression is well formed, and leaves one more operand
-    pub expr_fits : (e : Expr) (line place n : ℕ) → ExprFine locals taken e → StandsAt setting.tab place (expr_shapes here n e)
+    pub expr_fits : (e : Expr) (line place n : ℕ) → ExprFine locals taken e → HasShapesFrom setting.tab place (expr_shapes here n e)
         → FlowsInto (table setting) (place + length (expr_code setting.marks locals line e)) (here (n + 1))
         → AllFit setting place (expr_shapes here n e) (expr_code setting.marks locals line e)
     expr_fits (Number v) line place n fine stands leads = ((refl, refl, (leads, tt), refl), tt)
@@ -168,7 +168,7 @@ module _ (setting : Setting) where
 
     -- an expression and the instruction that uses its value are well formed
     pub valued_fits : (e : Expr) (line place : ℕ) (i : Instr) → ExprFine locals taken e
-        → StandsAt setting.tab place (expr_shapes here 0 e ++ Some (here 1) ∷ [])
+        → HasShapesFrom setting.tab place (expr_shapes here 0 e ++ Some (here 1) ∷ [])
         → FitsAt setting (place + length (expr_code setting.marks locals line e)) (Some (here 1)) i
         → AllFit setting place (expr_shapes here 0 e ++ Some (here 1) ∷ []) (expr_code setting.marks locals line e ++ i ∷ [])
     valued_fits e line place i fine stands last =
@@ -180,47 +180,47 @@ module _ (setting : Setting) where
 
     -- the first place of an expression followed by the instruction that uses its value
     pub valued_enters : (e : Expr) (place : ℕ) (more : Shapes) → ExprFine locals taken e
-        → StandsAt setting.tab place ((expr_shapes here 0 e ++ Some (here 1) ∷ []) ++ more) → FlowsInto (table setting) place (here 0)
+        → HasShapesFrom setting.tab place ((expr_shapes here 0 e ++ Some (here 1) ∷ []) ++ more) → FlowsInto (table setting) place (here 0)
     valued_enters e place more fine h = expr_enters e place 0 (Some (here 1) ∷ [] ++ more) fine
-        (subst (λ ss. StandsAt setting.tab place ss) (append_assoc (expr_shapes here 0 e) (Some (here 1) ∷ []) more) h)
+        (subst (λ ss. HasShapesFrom setting.tab place ss) (append_assoc (expr_shapes here 0 e) (Some (here 1) ∷ []) more) h)
 
     -- the first place of arguments accepts the shape before it; without arguments the place after them accepts it
     pub args_enters : (ps : List Param) (es : List Expr) (line place n : ℕ) (more : Shapes) → ArgsFine setting.marks locals taken ps es
-        → StandsAt setting.tab place (args_shapes here n ps es ++ more) → FlowsInto (table setting)
+        → HasShapesFrom setting.tab place (args_shapes here n ps es ++ more) → FlowsInto (table setting)
         (place + length (args_code setting.marks locals line ps es)) (here (args_after n ps es)) → FlowsInto (table setting) place (here n)
     args_enters [] [] line place n more fine stands leads = let e : place + 0 ≡ place = omega arith in subst (λ p. FlowsInto (table setting) p (here n)) e leads
     args_enters [] (e ∷ es) line place n more fine stands leads = absurd fine
     args_enters (p ∷ ps) [] line place n more fine stands leads = absurd fine
     args_enters (p ∷ ps) (e ∷ es) line place n more fine stands leads =
-        one (λ h k. args_enters ps es line place n more fine.1 h k) (wants_array p) (arg_kept p.kind setting.marks locals taken e fine.0) stands leads
+        one (λ h k. args_enters ps es line place n more fine.1 h k) (is_array_param p) (arg_kept p.kind setting.marks locals taken e fine.0) stands leads
       where
-        one : (StandsAt setting.tab place (args_shapes here n ps es ++ more)
+        one : (HasShapesFrom setting.tab place (args_shapes here n ps es ++ more)
             → FlowsInto (table setting) (place + length (args_code setting.marks locals line ps es)) (here (args_after n ps es))
             → FlowsInto (table setting) place (here n)) → (b : Bool) → ArgKept b locals taken e →
-            StandsAt setting.tab place ((arg_shapes b here n e ++ args_shapes here (after_arg b n) ps es) ++ more)
+            HasShapesFrom setting.tab place ((arg_shapes b here n e ++ args_shapes here (after_arg b n) ps es) ++ more)
             → FlowsInto (table setting) (place + length (args_code setting.marks locals line (p ∷ ps) (e ∷ es)))
             (here (args_after (after_arg b n) ps es)) → FlowsInto (table setting) place (here n)
         one rest true fine' h k = rest h (subst (λ q. FlowsInto (table setting) (place + q) (here (args_after n ps es)))
             (ap (λ is. length (is ++ args_code setting.marks locals line ps es)) (array_code setting.marks locals line (p ∷ ps) e fine')) k)
         one rest false fine' h k = expr_enters e place n (args_shapes here (n + 1) ps es ++ more) fine'.0
-            (subst (λ ss. StandsAt setting.tab place ss) (append_assoc (expr_shapes here n e) (args_shapes here (n + 1) ps es) more) h)
+            (subst (λ ss. HasShapesFrom setting.tab place ss) (append_assoc (expr_shapes here n e) (args_shapes here (n + 1) ps es) more) h)
 
     -- the code of arguments is well formed, and leaves one operand for each integer
     pub args_fit : (ps : List Param) (es : List Expr) (line place n : ℕ) → ArgsFine setting.marks locals taken ps es
-        → StandsAt setting.tab place (args_shapes here n ps es) → FlowsInto (table setting)
+        → HasShapesFrom setting.tab place (args_shapes here n ps es) → FlowsInto (table setting)
         (place + length (args_code setting.marks locals line ps es)) (here (args_after n ps es))
         → AllFit setting place (args_shapes here n ps es) (args_code setting.marks locals line ps es)
     args_fit [] [] line place n fine stands leads = tt
     args_fit [] (e ∷ es) line place n fine stands leads = absurd fine
     args_fit (p ∷ ps) [] line place n fine stands leads = absurd fine
-    args_fit (p ∷ ps) (e ∷ es) line place n fine stands leads = one (λ q m h k. args_fit ps es line q m fine.1 h k) (wants_array p) (arg_kept p.kind setting.marks locals taken e fine.0) stands leads
+    args_fit (p ∷ ps) (e ∷ es) line place n fine stands leads = one (λ q m h k. args_fit ps es line q m fine.1 h k) (is_array_param p) (arg_kept p.kind setting.marks locals taken e fine.0) stands leads
       where
         ces : List Instr
         ces = args_code setting.marks locals line ps es
 
-        one : ((q m : ℕ) → StandsAt setting.tab q (args_shapes here m ps es) → FlowsInto (table setting) (q + length ces) (here (args_after m ps es))
+        one : ((q m : ℕ) → HasShapesFrom setting.tab q (args_shapes here m ps es) → FlowsInto (table setting) (q + length ces) (here (args_after m ps es))
             → AllFit setting q (args_shapes here m ps es) ces) → (b : Bool) → ArgKept b locals taken e →
-            StandsAt setting.tab place (arg_shapes b here n e ++ args_shapes here (after_arg b n) ps es)
+            HasShapesFrom setting.tab place (arg_shapes b here n e ++ args_shapes here (after_arg b n) ps es)
             → FlowsInto (table setting) (place + length (args_code setting.marks locals line (p ∷ ps) (e ∷ es))) (here (args_after (after_arg b n) ps es)) →
             AllFit setting place (arg_shapes b here n e ++ args_shapes here (after_arg b n) ps es) (args_code setting.marks locals line (p ∷ ps) (e ∷ es))
         one rest true fine' h k =
@@ -240,12 +240,12 @@ module _ (setting : Setting) where
             subst (λ is. AllFit setting place (ss ++ more) (is ++ ces)) (sym same)
             (both_fit setting place ss more ce ces (expr_fits e line place n fine'.0 (stands_front setting.tab place ss more h)
             (args_enters ps es line (place + length ce) (n + 1) [] fine.1
-            (subst (λ ss'. StandsAt setting.tab (place + length ce) ss') (sym (append-nil more)) second) leads'))
+            (subst (λ ss'. HasShapesFrom setting.tab (place + length ce) ss') (sym (append-nil more)) second) leads'))
             (rest (place + length ce) (n + 1) second leads'))
 
     -- arguments and the instruction that takes them are well formed
     pub given_fits : (ps : List Param) (es : List Expr) (line place : ℕ) (i : Instr) (next : Shape) → ArgsFine setting.marks locals taken ps es
-        → StandsAt setting.tab place (args_shapes here 0 ps es ++ Some (here (args_after 0 ps es)) ∷ []) →
+        → HasShapesFrom setting.tab place (args_shapes here 0 ps es ++ Some (here (args_after 0 ps es)) ∷ []) →
         (FlowsInto (table setting) (place + length (args_code setting.marks locals line ps es) + 1) next
         → FitsAt setting (place + length (args_code setting.marks locals line ps es)) (Some (here (args_after 0 ps es))) i)
         → FlowsInto (table setting) (place + length (args_code setting.marks locals line ps es ++ i ∷ [])) next →

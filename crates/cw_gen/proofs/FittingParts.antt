@@ -23,7 +23,7 @@ use Rattle.cw_gen.proofs.Texts.{expr_code, block_code}
 use Rattle.cw_gen.proofs.Frozen.{frozen_of}
 use Rattle.cw_gen.proofs.EmptySlots.{row, array_row, length-row, length_array_row, covers_none, outers, Over, CutsOpen}
 use Rattle.cw_gen.proofs.Shapes.{Opened, depth_in, expr_shapes, reached, end_shape, block_shapes, block_as_many}
-use Rattle.cw_gen.proofs.Settings.{Setting, StandsAt, stands_front, stands_back, exact, takes_less, Returning, tables, first, table, size, HasRoom, FitsAt, AllFit, both_fit, lies, made}
+use Rattle.cw_gen.proofs.Settings.{Setting, HasShapesFrom, stands_front, stands_back, exact, takes_less, Returning, tables, first, table, size, HasRoom, FitsAt, AllFit, both_fit, lies, made}
 use Rattle.cw_gen.proofs.FittingExprs.{valued_fits}
 use Rattle.cw_gen.proofs.FittingEnds.{inside_covers}
 use Rattle.cw_gen.proofs.FittingFirsts.{block_enters}
@@ -60,7 +60,7 @@ module _ (setting : Setting) where
       → level ≡ depth_in opened → HasRoom setting locals → CutsOpen setting.marks opened locals taken → names_tag setting.code kind ≡ true
       → BlockFine setting.fs setting.lists (tables setting) setting.marks (size setting) Nowhere (level + 1) locals taken b
       → EndsFree setting.fs (level + 1) Joins taken b →
-      StandsAt setting.tab place (Some (made setting opened locals taken 0)
+      HasShapesFrom setting.tab place (Some (made setting opened locals taken 0)
       ∷ (block_shapes setting.fs (size setting) (None ∷ opened) locals taken b
       ++ reached (block_returns b) (end_shape setting.fs (size setting) (None ∷ opened) locals taken b) ∷ [])) →
       FlowsInto (table setting) (place + length (instr.Open kind ∷ (block_code (first setting) setting.marks setting.lists locals b ++ instr.Close
@@ -148,7 +148,7 @@ module _ (setting : Setting) where
   -- an expression and the store of its value are well formed
   pub store_fits : (opened : Opened) (locals locals' : Locals) (taken : Taken) → HasRoom setting locals → CutsOpen setting.marks opened locals taken
       → (e : Expr) (line place a : ℕ) → nat_lt a (size setting).ints ≡ true → has_slot (made setting opened locals taken 1) a ≡ true
-      → ExprFine locals taken e → StandsAt setting.tab place (expr_shapes (made setting opened locals taken) 0 e ++ Some (made setting opened locals taken 1) ∷ []) →
+      → ExprFine locals taken e → HasShapesFrom setting.tab place (expr_shapes (made setting opened locals taken) 0 e ++ Some (made setting opened locals taken 1) ∷ []) →
       Over (made setting opened locals' taken 0) (made setting opened locals taken 0)
       → FlowsInto (table setting) (place + length (expr_code setting.marks locals line e ++ instr.Store a ∷ [])) (made setting opened locals' taken 0) →
       AllFit setting place (expr_shapes (made setting opened locals taken) 0 e ++ Some (made setting opened locals taken 1) ∷ []) (expr_code setting.marks locals line e ++ instr.Store a ∷ [])
@@ -169,7 +169,7 @@ module _ (setting : Setting) where
   -- an expression and the instruction that takes its value are well formed
   pub tell_fits : (opened : Opened) (locals : Locals) (taken : Taken) → HasRoom setting locals → CutsOpen setting.marks opened locals taken
       → (e : Expr) (line place : ℕ) (i : Instr) → ExprFine locals taken e
-      → StandsAt setting.tab place (expr_shapes (made setting opened locals taken) 0 e ++ Some (made setting opened locals taken 1) ∷ []) →
+      → HasShapesFrom setting.tab place (expr_shapes (made setting opened locals taken) 0 e ++ Some (made setting opened locals taken 1) ∷ []) →
       (FlowsInto (table setting) (place + length (expr_code setting.marks locals line e) + 1) (made setting opened locals taken 0)
       → FitsAt setting (place + length (expr_code setting.marks locals line e)) (Some (made setting opened locals taken 1)) i)
       → FlowsInto (table setting) (place + length (expr_code setting.marks locals line e ++ i ∷ [])) (made setting opened locals taken 0) →

@@ -22,7 +22,7 @@ use Rattle.cw_gen.proofs.Texts.{expr_code, stmt_code, taken_params}
 use Rattle.cw_gen.proofs.EmptySlots.{array_row, outers, over_itself, CutsOpen, slot_is_full}
 use Rattle.cw_gen.proofs.Passing.{slots_for}
 use Rattle.cw_gen.proofs.Shapes.{range_shapes, loads_shapes, loads_after, loads_as_many, Opened, depth_in, Shapes, expr_shapes, expr_as_many}
-use Rattle.cw_gen.proofs.Settings.{Setting, StandsAt, stands_front, stands_back, exact, takes_less, tables, first, table, size, HasRoom, FitsAt, AllFit, both_fit, made}
+use Rattle.cw_gen.proofs.Settings.{Setting, HasShapesFrom, stands_front, stands_back, exact, takes_less, tables, first, table, size, HasRoom, FitsAt, AllFit, both_fit, made}
 use Rattle.cw_gen.proofs.FittingExprs.{slot_is_there, expr_enters, expr_fits}
 use Rattle.cw_gen.proofs.FittingCalls.{slots_full, slots_thawed, passed_named, none_lent}
 
@@ -44,20 +44,20 @@ module _ (setting : Setting) (opened : Opened) (locals : Locals) (taken : Taken)
   loads_code xs = emitted_loads (map (λ x. slot_of x locals.ints) xs)
 
   -- the first place of the loads accepts the shape before it
-  loads_enter : (xs : List Name) (place n : ℕ) (more : Shapes) → StandsAt setting.tab place (loads_shapes here n xs ++ more)
+  loads_enter : (xs : List Name) (place n : ℕ) (more : Shapes) → HasShapesFrom setting.tab place (loads_shapes here n xs ++ more)
       → FlowsInto (table setting) (place + length (loads_code xs)) (here (loads_after n xs)) → FlowsInto (table setting) place (here n)
   loads_enter [] place n more stands leads = let e : place + 0 ≡ place = omega arith in subst (λ p. FlowsInto (table setting) p (here n)) e leads
   loads_enter (x ∷ xs) place n more stands leads = exact setting.tab place (here n) stands.0
 
   -- the loads of captured integers are well formed
-  loads_fit : (xs : List Name) (place n : ℕ) → AllUsable locals.ints taken xs → StandsAt setting.tab place (loads_shapes here n xs)
+  loads_fit : (xs : List Name) (place n : ℕ) → AllUsable locals.ints taken xs → HasShapesFrom setting.tab place (loads_shapes here n xs)
       → FlowsInto (table setting) (place + length (loads_code xs)) (here (loads_after n xs)) → AllFit setting place (loads_shapes here n xs) (loads_code xs)
   loads_fit [] place n us stands leads = tt
   loads_fit (x ∷ xs) place n us stands leads =
       let e : place + length (loads_code (x ∷ xs)) ≡ place + 1 + length (loads_code xs) = omega arith in
       let leads' : FlowsInto (table setting) (place + 1 + length (loads_code xs)) (here (loads_after (n + 1) xs)) = subst (λ p. FlowsInto (table setting) p (here (loads_after (n + 1) xs))) e leads in
       let more = stands.1 in
-      let next = loads_enter xs (place + 1) (n + 1) [] (subst (λ ss. StandsAt setting.tab (place + 1) ss) (sym (append-nil (loads_shapes here (n + 1) xs))) more) leads' in (
+      let next = loads_enter xs (place + 1) (n + 1) [] (subst (λ ss. HasShapesFrom setting.tab (place + 1) ss) (sym (append-nil (loads_shapes here (n + 1) xs))) more) leads' in (
         (
           slot_is_there setting opened locals taken room cuts x us.0,
           slot_is_full (size setting) opened locals taken x n room.0 us.0,
@@ -101,7 +101,7 @@ module _ (setting : Setting) (opened : Opened) (locals : Locals) (taken : Taken)
   -- a first call with its arguments is well formed
   pub range_fits : (name : Name) (from to : Expr) (captured over : List Name) (line place : ℕ)
       → StmtFine setting.fs setting.lists (tables setting) setting.marks (size setting) Nowhere (depth_in opened) locals taken
-      (Begin name from to captured over) → StandsAt setting.tab place (range_shapes here from to captured) →
+      (Begin name from to captured over) → HasShapesFrom setting.tab place (range_shapes here from to captured) →
       FlowsInto (table setting) (place + length (stmt_code (first setting) setting.marks setting.lists locals line (Begin name from to captured over))) (here 0) →
       AllFit setting place (range_shapes here from to captured) (stmt_code (first setting) setting.marks setting.lists locals line (Begin name from to captured over))
   range_fits name from to captured over line place fine stands leads =

@@ -1,6 +1,6 @@
 -- The rules that a lowered program keeps, in two parts: names are known, and no name that is used is taken.
 use Rattle.std.specs.Prelude.{◌≡◌, map, ℕ, ◌+◌, if◌then◌else◌, Bool, true, false, ◌++◌, List, [], ◌∷◌, Option, Some, None}
-use Rattle.cw_model.specs.Syntax.{wants_array, Name, Expr, Number, Variable, Element, Length, Negative, Not, Binary, Stmt, Declare, DeclareArray, Assign, AssignElement}
+use Rattle.cw_model.specs.Syntax.{is_array_param, Name, Expr, Number, Variable, Element, Length, Negative, Not, Binary, Stmt, Declare, DeclareArray, Assign, AssignElement}
 use Rattle.cw_model.specs.Syntax.{Reduce, Call, Start, Begin, Sync, If, IfElse, While, Scope, Cut, Region, Print, Return, Block, End, Then, Param, Function}
 use Rattle.cw_model.specs.Names.{is_among, differ}
 use Rattle.cw_model.specs.Meaning.{function_named}
@@ -29,7 +29,7 @@ ArgKnown true locals _ = ⊥
 -- one argument for each parameter
 abbrev pub ArgsKnown : Locals → List Param → List Expr → Type 0
 ArgsKnown locals [] [] = Unit {0}
-ArgsKnown locals (p ∷ ps) (e ∷ es) = ArgKnown (wants_array p) locals e × ArgsKnown locals ps es
+ArgsKnown locals (p ∷ ps) (e ∷ es) = ArgKnown (is_array_param p) locals e × ArgsKnown locals ps es
 ArgsKnown locals _ _ = ⊥
 
 -- the target of a result fits a function that returns one

@@ -4,7 +4,7 @@ use Rattle.std.specs.Prelude.{if◌then◌else◌, not, ◌&&◌, ◌||◌, map,
 use Rattle.std.specs.List.{list_all, list_any}
 use Rattle.std.proofs.lemmas.Bool.{and_parts}
 use Rattle.cw_model.specs.Lines.{unless}
-use Rattle.cw_model.specs.Syntax.{wants_array, Name, Stmt, Declare, DeclareArray, Assign, AssignElement, Reduce, Call, Start, Begin, Sync, If}
+use Rattle.cw_model.specs.Syntax.{is_array_param, Name, Stmt, Declare, DeclareArray, Assign, AssignElement, Reduce, Call, Start, Begin, Sync, If}
 use Rattle.cw_model.specs.Syntax.{IfElse, While, For, Scope, Cut, Region, Print, Return, Block, End, Then, Function, Program}
 use Rattle.cw_model.specs.Captured.{captured}
 use Rattle.cw_model.specs.Names.{same_name, is_among, differ}
@@ -33,7 +33,7 @@ record HeadOf (f : Function) : Type 0 where
 
 head_of : (program : Program) (f : Function) → is_head program f ≡ true → HeadOf f
 head_of program f h =
-    let three = (and_parts _ (not (same_name f.name main_name) || (f.gives_int && not (list_any (λ p. (wants_array p)) f.params))) h).0 in
+    let three = (and_parts _ (not (same_name f.name main_name) || (f.gives_int && not (list_any (λ p. (is_array_param p)) f.params))) h).0 in
     let two = and_parts _ (not f.gives_int || block_returns f.body) three in
     record { apart = (and_parts (differ (names_of f.params)) (not (list_any (λ p. is_among p.name (globals program)) f.params)) two.0).0; returns = two.1 }
 

@@ -2,7 +2,7 @@
 use Rattle.std.proofs.Common.{◌≡◌, Bool, true, false, List, [], ◌∷◌, ◌++◌, cond, refl, ap}
 use Rattle.std.specs.Prelude.{◌==◌, if◌then◌else◌, not, map, filter}
 use Rattle.cw_gen.specs.Marks.{readers_in, marks_in, marks_of}
-use Rattle.cw_model.specs.Syntax.{wants_array, Name, Param}
+use Rattle.cw_model.specs.Syntax.{is_array_param, Name, Param}
 use Rattle.cw_model.specs.lemmas.Names.{names_of}
 use Rattle.cw_tree.specs.Resolved.{locals_of}
 use Rattle.cw_loops.specs.Lowered.{int_params, array_params}
@@ -11,19 +11,19 @@ use Rattle.cw_loops.specs.Lowerable.{integers_of, arrays_of}
 -- the parameters as locals
 pub local_ints : (ps : List Param) → (locals_of ps).ints ≡ integers_of ps
 local_ints [] = refl
-local_ints (p ∷ ps) = go (wants_array p) (local_ints ps)
+local_ints (p ∷ ps) = go (is_array_param p) (local_ints ps)
   where
     go : (b : Bool) → (locals_of ps).ints ≡ integers_of ps → map (λ (q : Param). q.name)
-        (cond (not b) (p ∷ filter (λ q. not (wants_array q)) ps) (filter (λ q. not (wants_array q)) ps)) ≡ (if b then integers_of ps else p.name ∷ integers_of ps)
+        (cond (not b) (p ∷ filter (λ q. not (is_array_param q)) ps) (filter (λ q. not (is_array_param q)) ps)) ≡ (if b then integers_of ps else p.name ∷ integers_of ps)
     go true h = h
     go false h = ap (λ r. p.name ∷ r) h
 
 pub local_arrays : (ps : List Param) → (locals_of ps).arrays ≡ arrays_of ps
 local_arrays [] = refl
-local_arrays (p ∷ ps) = go (wants_array p) (local_arrays ps)
+local_arrays (p ∷ ps) = go (is_array_param p) (local_arrays ps)
   where
     go : (b : Bool) → (locals_of ps).arrays ≡ arrays_of ps → map (λ (q : Param). q.name)
-        (cond b (p ∷ filter (λ q. (wants_array q)) ps) (filter (λ q. (wants_array q)) ps)) ≡ (if b then p.name ∷ arrays_of ps else arrays_of ps)
+        (cond b (p ∷ filter (λ q. (is_array_param q)) ps) (filter (λ q. (is_array_param q)) ps)) ≡ (if b then p.name ∷ arrays_of ps else arrays_of ps)
     go true h = ap (λ r. p.name ∷ r) h
     go false h = h
 

@@ -4,7 +4,7 @@ use Rattle.cw_model.specs.declared.syntax.NameKind.TheVariants as name_kind
 use Rattle.std.proofs.Common.{◌≡◌, ℕ, Bool, true, false, List, [], ◌∷◌, ◌++◌, refl, sym, ◌∙◌, ap, subst, append_assoc, append-nil}
 use Rattle.std.specs.Prelude.{if◌then◌else◌, not, ◌&&◌, ◌||◌, map, Option, Some, None}
 use Rattle.std.proofs.lemmas.Bool.{and_parts}
-use Rattle.cw_model.specs.Syntax.{is_array_kind, wants_array, Name, Expr, Number, Variable, Element, Length, Negative, Not, Binary, Stmt, Declare, DeclareArray, Param, Function, Program}
+use Rattle.cw_model.specs.Syntax.{is_array_kind, is_array_param, Name, Expr, Number, Variable, Element, Length, Negative, Not, Binary, Stmt, Declare, DeclareArray, Param, Function, Program}
 use Rattle.cw_model.specs.Names.{is_among, differ}
 use Rattle.cw_model.specs.Typing.{Known, is_int, is_array, is_new, is_fine, is_target, globals, declares, known_of, faults_in, Returns, Nowhere, WithInt, Alone, may_return}
 use Rattle.cw_model.specs.lemmas.Kept.{kept}
@@ -139,9 +139,9 @@ module _ {c : Surroundings} {ints arrays : List Name} {known : Known} {locals : 
   args_known [] (e ∷ es) fine can = absurd cc
   args_known (p ∷ ps) [] fine can = absurd cc
   args_known (p ∷ ps) (e ∷ es) fine can =
-      let f = and_parts (fits_kind known (wants_array p) e) (fit_kinds known ps es) fine in
+      let f = and_parts (fits_kind known (is_array_param p) e) (fit_kinds known ps es) fine in
       let g = and_parts (can_pass c e) (can_pass_all c es) can in
-      (arg_known (wants_array p) e f.0 g.0, args_known ps es f.1 g.1)
+      (arg_known (is_array_param p) e f.0 g.0, args_known ps es f.1 g.1)
 
   -- the target of a result is known
   pub target_known : (f : Function) (target : Option Name) → is_target known f target ≡ true → can_target c target ≡ true → TargetKnown locals f target

@@ -19,7 +19,7 @@ use Rattle.cw_code.specs.Run.{synced, settled, full}
 use Rattle.cw_code.specs.lemmas.Runs.{joined_quiet}
 use Rattle.cw_gen.specs.Emit.{most_jump, first_list, emitted_end}
 use Rattle.cw_gen.proofs.HeldNames.{held_after_all}
-use Rattle.cw_gen.proofs.Marked.{owned, told_at}
+use Rattle.cw_gen.proofs.Marked.{owned, marked_results}
 use Rattle.cw_gen.proofs.Fine.{Begins, marks_for}
 use Rattle.cw_gen.proofs.Traces.{resume, resume_then}
 use Rattle.cw_gen.proofs.Places.{HasAt, has_front, has_back}
@@ -115,7 +115,7 @@ module _ (code : Code) (fs : List Function) (lists : Lists) (small : length code
         let begins : Begins size.given (locals_after_all params f.body).arrays = record { more = ext.arrays; is = ap (λ ls. ls.arrays) ext.same } in
         syncs code (None, g) (here marks inner around end [] st u) u l next (λ l' below'.
         one code (here marks inner around end [] st u) instr.Return there.0 l'
-        ∙ k None g (settled (told_at marks st.arrived) (owned marks st.arrays)) l' (synced u) nothing
+        ∙ k None g (settled (marked_results marks st.arrived) (owned marks st.arrays)) l' (synced u) nothing
         (gives_back marks size (locals_after_all params f.body) (held_after_all fs 1 f.body []) g st [] refl begins ag ln.own) (omega arith)))
         (λ v g arrays l u may gives le. k v g arrays l u (given_by f v f.gives_int refl may) gives le ∙ ap (next (v, g) l) (sym (joined_quiet u)))
         ∙ sym (resume_then t (run_all f.body fs calls given left) (λ way. end_of_call way) next)

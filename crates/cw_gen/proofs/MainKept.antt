@@ -4,7 +4,7 @@ use Rattle.std.specs.Prelude.{map, flat_map}
 use Rattle.std.specs.List.{list_all, list_any}
 use Rattle.std.proofs.lemmas.Slice.Eq.{bytes_eq-Decides}
 use Rattle.cw_facts.specs.Tests.{first_true, second_true, neither_first, neither_second, not_true}
-use Rattle.cw_model.specs.Syntax.{wants_array, Name, Param, Function, Reducer, Program}
+use Rattle.cw_model.specs.Syntax.{is_array_param, Name, Param, Function, Reducer, Program}
 use Rattle.cw_model.specs.Names.{same_name, is_among}
 use Rattle.cw_model.specs.Lines.{unless}
 use Rattle.cw_model.specs.Meaning.{function_named}
@@ -31,14 +31,14 @@ use Rattle.cw_gen.proofs.TextAgreement.{AllPass}
 -- main returns an integer and takes integers
 record MainFine (fs : List Function) : Type 0 where
   pub gives : (function_named main_name fs).gives_int ≡ true
-  pub ints : list_all (λ p. not (wants_array p)) (function_named main_name fs).params ≡ true
+  pub ints : list_all (λ p. not (is_array_param p)) (function_named main_name fs).params ≡ true
 
 -- no parameter is an array
-all_ints : (ps : List Param) → list_any (λ p. (wants_array p)) ps ≡ false → list_all (λ p. not (wants_array p)) ps ≡ true
+all_ints : (ps : List Param) → list_any (λ p. (is_array_param p)) ps ≡ false → list_all (λ p. not (is_array_param p)) ps ≡ true
 all_ints [] h = refl
-all_ints (p ∷ ps) h = test (all_ints ps (neither_second (wants_array p) (list_any (λ q. (wants_array q)) ps) h)) (wants_array p) (neither_first (wants_array p) (list_any (λ q. (wants_array q)) ps) h)
+all_ints (p ∷ ps) h = test (all_ints ps (neither_second (is_array_param p) (list_any (λ q. (is_array_param q)) ps) h)) (is_array_param p) (neither_first (is_array_param p) (list_any (λ q. (is_array_param q)) ps) h)
   where
-    test : list_all (λ q. not (wants_array q)) ps ≡ true → (b : Bool) → b ≡ false → (not b && list_all (λ q. not (wants_array q)) ps) ≡ true
+    test : list_all (λ q. not (is_array_param q)) ps ≡ true → (b : Bool) → b ≡ false → (not b && list_all (λ q. not (is_array_param q)) ps) ≡ true
     test rest true e = cc
     test rest false e = rest
 
@@ -50,24 +50,24 @@ main_fine program (f ∷ fs) typed h = test (main_fine program fs (right_none (f
     head : is_head program f ≡ true
     head = kept (is_head program f) f.line (left_none (unless (is_head program f) f.line) _ (left_none (faults_of program f) _ typed))
 
-    both : same_name f.name main_name ≡ true → (f.gives_int && not (list_any (λ p. (wants_array p)) f.params)) ≡ true
+    both : same_name f.name main_name ≡ true → (f.gives_int && not (list_any (λ p. (is_array_param p)) f.params)) ≡ true
     both e =
-        let last = second_true _ (not (same_name f.name main_name) || (f.gives_int && not (list_any (λ p. (wants_array p)) f.params))) head in
-        sym (ap (λ b. not b || (f.gives_int && not (list_any (λ p. (wants_array p)) f.params))) e) ∙ last
+        let last = second_true _ (not (same_name f.name main_name) || (f.gives_int && not (list_any (λ p. (is_array_param p)) f.params))) head in
+        sym (ap (λ b. not b || (f.gives_int && not (list_any (λ p. (is_array_param p)) f.params))) e) ∙ last
 
     test : (is_function main_name fs ≡ true → MainFine fs) → (b : Bool) → same_name main_name f.name ≡ b → (if b then true else is_function main_name fs) ≡ true → MainFine (f ∷ fs)
     test more true e h' =
         let two = both ((bytes_eq-Decides f.name main_name).1 (sym ((bytes_eq-Decides main_name f.name).0 e))) in
         record {
-          gives = ap (λ b. (if b then f else function_named main_name fs).gives_int) e ∙ first_true f.gives_int (not (list_any (λ p. (wants_array p)) f.params)) two;
-          ints = ap (λ b. list_all (λ p. not (wants_array p)) (if b then f else function_named main_name fs).params) e
-              ∙ all_ints f.params (not_true (list_any (λ p. (wants_array p)) f.params) (second_true f.gives_int (not (list_any (λ p. (wants_array p)) f.params)) two));
+          gives = ap (λ b. (if b then f else function_named main_name fs).gives_int) e ∙ first_true f.gives_int (not (list_any (λ p. (is_array_param p)) f.params)) two;
+          ints = ap (λ b. list_all (λ p. not (is_array_param p)) (if b then f else function_named main_name fs).params) e
+              ∙ all_ints f.params (not_true (list_any (λ p. (is_array_param p)) f.params) (second_true f.gives_int (not (list_any (λ p. (is_array_param p)) f.params)) two));
         }
     test more false e h' =
         let rest = more h' in
         record {
           gives = ap (λ b. (if b then f else function_named main_name fs).gives_int) e ∙ rest.gives;
-          ints = ap (λ b. list_all (λ p. not (wants_array p)) (if b then f else function_named main_name fs).params) e ∙ rest.ints;
+          ints = ap (λ b. list_all (λ p. not (is_array_param p)) (if b then f else function_named main_name fs).params) e ∙ rest.ints;
         }
 
 -- a function of the source is found in the lowered program, with the same head
@@ -169,6 +169,6 @@ program_fine program source numbered known free passes =
       names = refl;
       main = head.there;
       gives = head.gives ∙ main.gives;
-      ints = ap (list_all (λ p. not (wants_array p))) head.params ∙ main.ints;
+      ints = ap (list_all (λ p. not (is_array_param p))) head.params ∙ main.ints;
       reducers = apart_reducers program source.typed;
     }

@@ -154,9 +154,9 @@ at_apart (false ∷ marks) (suc s) (suc t) h k other =
     same e = omega (arith, e)
 
 -- waiting results, with the numbers of the code
-abbrev pub told_at : {X : Type 0} → Marks → Results X → Results X
-told_at marks [] = []
-told_at marks (r ∷ results) = (array_at marks r.0, r.1) ∷ told_at marks results
+abbrev pub marked_results : {X : Type 0} → Marks → Results X → Results X
+marked_results marks [] = []
+marked_results marks (r ∷ results) = (array_at marks r.0, r.1) ∷ marked_results marks results
 
 -- no result waits for a slot that is only read
 abbrev pub AllOwn : {X : Type 0} → Marks → Results X → Type 0
@@ -167,16 +167,16 @@ pub both_own : {X : Type 0} (marks : Marks) (a b : Results X) → AllOwn marks a
 both_own marks [] b h k = k
 both_own marks (r ∷ a) b h k = (h.0, both_own marks a b h.1 k)
 
-pub told_both : {X : Type 0} (marks : Marks) (a b : Results X) → told_at marks (a ++ b) ≡ told_at marks a ++ told_at marks b
+pub told_both : {X : Type 0} (marks : Marks) (a b : Results X) → marked_results marks (a ++ b) ≡ marked_results marks a ++ marked_results marks b
 told_both marks [] b = refl
 told_both marks (r ∷ a) b = ap (λ l. (array_at marks r.0, r.1) ∷ l) (told_both marks a b)
 
 -- a join settles the slots that are not only read
 pub settle_owned : {X : Type 0} (marks : Marks) (results : Results X) (slots : Slots X) → AllOwn marks results
-    → owned marks (settled results slots) ≡ settled (told_at marks results) (owned marks slots)
+    → owned marks (settled results slots) ≡ settled (marked_results marks results) (owned marks slots)
 settle_owned marks [] slots h = refl
 settle_owned marks (r ∷ results) slots h =
-    settle_owned marks results (slice_set slots r.0 (Some r.1)) h.1 ∙ ap (settled (told_at marks results)) (set_owned marks r.0 (Some r.1) slots h.0)
+    settle_owned marks results (slice_set slots r.0 (Some r.1)) h.1 ∙ ap (settled (marked_results marks results)) (set_owned marks r.0 (Some r.1) slots h.0)
 
 pub settle_read : (marks : Marks) (results : Results (List ℤ)) (slots : Slots (List ℤ)) → AllOwn marks results → read_in marks (settled results slots) ≡ read_in marks slots
 settle_read marks [] slots h = refl
@@ -281,7 +281,7 @@ parts_told marks from (s ∷ given) (xs ∷ xss) = ap (λ l. Part (array_at mark
 -- the arrays that a call returns, with the numbers of the code
 abbrev pub told_all : Marks → Option (Results (List ℤ)) → Option (Results (List ℤ))
 told_all marks None = None
-told_all marks (Some results) = Some (told_at marks results)
+told_all marks (Some results) = Some (marked_results marks results)
 
 pub given_told : (marks : Marks) (outs : List run.Taken) (slots : Slots (List ℤ)) → given_back (map (taken_at marks) outs) slots ≡ told_all marks (given_back outs slots)
 given_told marks [] slots = refl
@@ -318,5 +318,5 @@ loan_found marks given s slots v h is = test (is_read marks s) refl
         ∙ is
 
 -- the returned and the waiting arrays, concatenated
-pub told_more : (marks : Marks) (back arrived : Results (List ℤ)) → told_at marks back ++ told_at marks arrived ≡ told_at marks (back ++ arrived)
+pub told_more : (marks : Marks) (back arrived : Results (List ℤ)) → marked_results marks back ++ marked_results marks arrived ≡ marked_results marks (back ++ arrived)
 told_more marks back arrived = sym (told_both marks back arrived)

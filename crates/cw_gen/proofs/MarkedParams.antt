@@ -5,7 +5,7 @@ use Rattle.std.proofs.lemmas.Slice.Eq.{bytes_eq-Decides}
 use Rattle.cw_facts.specs.Tests.{first_true, second_true, not_true, eq_of}
 use Rattle.cw_model.specs.declared.syntax.NameKind.{NameKind}
 use Rattle.cw_model.specs.declared.syntax.NameKind.TheVariants.{Integer, Array, Const}
-use Rattle.cw_model.specs.Syntax.{Name, Expr, Variable, Param, is_array_kind, is_written_kind, is_const_kind, wants_array, takes_array}
+use Rattle.cw_model.specs.Syntax.{Name, Expr, Variable, Param, is_array_kind, is_written_kind, is_const_kind, is_array_param, takes_array}
 use Rattle.cw_model.specs.Names.{same_name, is_among, differ, find}
 use Rattle.cw_model.specs.Ownership.{Taken, names_in, arrays_given, arrays_lent}
 use Rattle.cw_tree.specs.Resolved.{Locals, slot_of, locals_of}
@@ -82,7 +82,7 @@ all_short [] = refl
 all_short (p ∷ ps) = test p.kind (all_short ps)
   where
     test : (k : NameKind) → length (all_marks ps) ≡ length (locals_of ps).arrays →
-        length (marks_in (k ∷ map (λ q. q.kind) ps)) ≡ length (map (λ (q : Param). q.name) (cond (is_array_kind k) (p ∷ filter (λ q. wants_array q) ps) (filter (λ q. wants_array q) ps)))
+        length (marks_in (k ∷ map (λ q. q.kind) ps)) ≡ length (map (λ (q : Param). q.name) (cond (is_array_kind k) (p ∷ filter (λ q. is_array_param q) ps) (filter (λ q. is_array_param q) ps)))
     test Integer more = more
     test Array more = ap suc more
     test Const more = ap suc more
@@ -96,7 +96,7 @@ owned_params [] = refl
 owned_params (p ∷ ps) = test p.kind (owned_params ps)
   where
     test : (k : NameKind) → owned (all_marks ps) (locals_of ps).arrays ≡ taken_params ps →
-        owned (marks_in (k ∷ map (λ q. q.kind) ps)) (map (λ (q : Param). q.name) (cond (is_array_kind k) (p ∷ filter (λ q. wants_array q) ps) (filter (λ q. wants_array q) ps)))
+        owned (marks_in (k ∷ map (λ q. q.kind) ps)) (map (λ (q : Param). q.name) (cond (is_array_kind k) (p ∷ filter (λ q. is_array_param q) ps) (filter (λ q. is_array_param q) ps)))
         ≡ map (λ (q : Param). q.name) (cond (is_written_kind k) (p ∷ filter (λ q. takes_array q) ps) (filter (λ q. takes_array q) ps))
     test Integer more = more
     test Array more = ap (λ l. p.name ∷ l) more
@@ -207,7 +207,7 @@ as_many_named marks locals taken (p ∷ ps) (e ∷ es) fine = one p.kind e fine.
   where
     one : (k : NameKind) (e : Expr) → ArgFine k marks locals taken e → length (arrays_named ps es) ≡ length (locals_of ps).arrays →
         length ((if is_array_kind k then names_in e else []) ++ arrays_named ps es)
-        ≡ length (map (λ (q : Param). q.name) (cond (is_array_kind k) (p ∷ filter (λ q. wants_array q) ps) (filter (λ q. wants_array q) ps)))
+        ≡ length (map (λ (q : Param). q.name) (cond (is_array_kind k) (p ∷ filter (λ q. is_array_param q) ps) (filter (λ q. is_array_param q) ps)))
     one Integer e h more = more
     one Array (Variable a) h more = ap suc more
     one Array _ h more = absurd h
@@ -223,7 +223,7 @@ all_own (p ∷ ps) q apart h =
   where
     one : (k : NameKind) → is_among p.name (map (λ (z : Param). z.name) ps) ≡ false → (is_among q (taken_params ps) ≡ true → IsOwn (all_marks ps) (slot_of q (locals_of ps).arrays)) →
         is_among q (map (λ (z : Param). z.name) (cond (is_written_kind k) (p ∷ filter (λ z. takes_array z) ps) (filter (λ z. takes_array z) ps))) ≡ true →
-        IsOwn (marks_in (k ∷ map (λ z. z.kind) ps)) (slot_of q (map (λ (z : Param). z.name) (cond (is_array_kind k) (p ∷ filter (λ z. wants_array z) ps) (filter (λ z. wants_array z) ps))))
+        IsOwn (marks_in (k ∷ map (λ z. z.kind) ps)) (slot_of q (map (λ (z : Param). z.name) (cond (is_array_kind k) (p ∷ filter (λ z. is_array_param z) ps) (filter (λ z. is_array_param z) ps))))
     one Integer new more h' = more h'
     one Array new more h' = test (same_name q p.name) h'
       where
@@ -247,8 +247,8 @@ counted_ints [] = refl
 counted_ints (p ∷ ps) = test p.kind (counted_ints ps)
   where
     test : (k : NameKind) → length (locals_of ps).ints ≡ count_ints (map (λ p. p.kind) ps) →
-        length (map (λ (q : Param). q.name) (cond (not (is_array_kind k)) (p ∷ filter (λ q. not (wants_array q)) ps)
-        (filter (λ q. not (wants_array q)) ps))) ≡ length (cond (is_integer_kind k) (k ∷ filter is_integer_kind (map (λ p. p.kind) ps))
+        length (map (λ (q : Param). q.name) (cond (not (is_array_kind k)) (p ∷ filter (λ q. not (is_array_param q)) ps)
+        (filter (λ q. not (is_array_param q)) ps))) ≡ length (cond (is_integer_kind k) (k ∷ filter is_integer_kind (map (λ p. p.kind) ps))
         (filter is_integer_kind (map (λ p. p.kind) ps)))
     test Integer more = ap suc more
     test Array more = more
@@ -259,7 +259,7 @@ counted_arrays [] = refl
 counted_arrays (p ∷ ps) = test p.kind (counted_arrays ps)
   where
     test : (k : NameKind) → length (locals_of ps).arrays ≡ count_arrays (map (λ p. p.kind) ps) →
-        length (map (λ (q : Param). q.name) (cond (is_array_kind k) (p ∷ filter (λ q. wants_array q) ps) (filter (λ q. wants_array q) ps)))
+        length (map (λ (q : Param). q.name) (cond (is_array_kind k) (p ∷ filter (λ q. is_array_param q) ps) (filter (λ q. is_array_param q) ps)))
         ≡ length (cond (is_array_kind k) (k ∷ filter is_array_kind (map (λ p. p.kind) ps)) (filter is_array_kind (map (λ p. p.kind) ps)))
     test Integer more = more
     test Array more = ap suc more
@@ -309,7 +309,7 @@ among_arrays q (p ∷ ps) h = one p.kind h (among_arrays q ps)
   where
     one : (k : NameKind) → is_among q (map (λ (z : Param). z.name) (cond (is_written_kind k) (p ∷ filter (λ z. takes_array z) ps)
         (filter (λ z. takes_array z) ps))) ≡ true → (is_among q (taken_params ps) ≡ true → is_among q (locals_of ps).arrays ≡ true) →
-        is_among q (map (λ (z : Param). z.name) (cond (is_array_kind k) (p ∷ filter (λ z. wants_array z) ps) (filter (λ z. wants_array z) ps))) ≡ true
+        is_among q (map (λ (z : Param). z.name) (cond (is_array_kind k) (p ∷ filter (λ z. is_array_param z) ps) (filter (λ z. is_array_param z) ps))) ≡ true
     one Integer h' more = more h'
     one Array h' more = test (same_name q p.name) h'
       where

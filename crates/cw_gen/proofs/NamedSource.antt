@@ -18,7 +18,7 @@ use Rattle.cw_loops.specs.lemmas.Heads.{heads_kept}
 use Rattle.cw_gen.specs.Emit.{Tables, emitted_sites, emitted_sites_in, emitted_sites_of}
 use Rattle.cw_gen.proofs.Fine.{IsListed, HasSite}
 use Rattle.cw_gen.proofs.Rules.{Each, each_front, each_rear, listed_there}
-use Rattle.cw_gen.proofs.SourceSites.{StandsAtItsNumber}
+use Rattle.cw_gen.proofs.SourceSites.{IsAtItsNumber}
 use Rattle.cw_gen.proofs.Tags.{tags_are_told}
 
 abbrev mutual
@@ -96,7 +96,7 @@ module _ (program : Program) (lists : Lists) (tables : Tables) (reducers_are : l
 
   mutual
     stmt_named : (returns : Returns) (known : Known) (locals : Locals) (line : ℕ) (s : Stmt) → faults_in program returns known line s ≡ []
-        → Each (λ t. Tag t) (tags_in s) → Each (StandsAtItsNumber tables.sites) (emitted_sites line (resolved_stmt plain_lists locals s)) → NamedStmt lists tables s
+        → Each (λ t. Tag t) (tags_in s) → Each (IsAtItsNumber tables.sites) (emitted_sites line (resolved_stmt plain_lists locals s)) → NamedStmt lists tables s
     stmt_named returns known locals line (Reduce how s e) typed tags sites =
         subst (λ names. IsListed names s) (sym reducers_are) (listed_there s (reducer_names program.reducers)
         (is_named how s program.reducers (first_true (is_reducer program how s) (is_fine known e)
@@ -113,9 +113,9 @@ module _ (program : Program) (lists : Lists) (tables : Tables) (reducers_are : l
         let sites_b = emitted_sites_in (resolved_block plain_lists locals b) in
         let sites_c = emitted_sites_in (resolved_block plain_lists locals c) in (
           block_named returns known locals b (left_none faults_b faults_c both) (each_front (λ t. Tag t) (tags_in_block b) (tags_in_block c) tags)
-              (each_front (StandsAtItsNumber tables.sites) sites_b sites_c sites),
+              (each_front (IsAtItsNumber tables.sites) sites_b sites_c sites),
           block_named returns known locals c (right_none faults_b faults_c both) (each_rear (λ t. Tag t) (tags_in_block b) (tags_in_block c) tags)
-              (each_rear (StandsAtItsNumber tables.sites) sites_b sites_c sites),
+              (each_rear (IsAtItsNumber tables.sites) sites_b sites_c sites),
         )
     stmt_named returns known locals line (While e b) typed tags sites =
         block_named returns known locals b (right_none (unless (is_fine known e) line) _ typed) tags sites
@@ -128,7 +128,7 @@ module _ (program : Program) (lists : Lists) (tables : Tables) (reducers_are : l
     stmt_named returns known locals line _ typed tags sites = tt
 
     block_named : (returns : Returns) (known : Known) (locals : Locals) (b : Block) → faults_in_block program returns known b ≡ []
-        → Each (λ t. Tag t) (tags_in_block b) → Each (StandsAtItsNumber tables.sites) (emitted_sites_in (resolved_block plain_lists locals b))
+        → Each (λ t. Tag t) (tags_in_block b) → Each (IsAtItsNumber tables.sites) (emitted_sites_in (resolved_block plain_lists locals b))
         → NamedBlock lists tables b
     block_named returns known locals End typed tags sites = tt
     block_named returns known locals (Then line s b) typed tags sites =
@@ -138,13 +138,13 @@ module _ (program : Program) (lists : Lists) (tables : Tables) (reducers_are : l
         let sites_here = emitted_sites line (resolved_stmt plain_lists locals s) in
         let sites_there = emitted_sites_in (resolved_block plain_lists (locals_after locals s) b) in (
           stmt_named returns known locals line s (left_none here (last ++ there) typed) (each_front (λ t. Tag t) (tags_in s) (tags_in_block b) tags)
-              (each_front (StandsAtItsNumber tables.sites) sites_here sites_there sites),
+              (each_front (IsAtItsNumber tables.sites) sites_here sites_there sites),
           block_named returns (declares s known) (locals_after locals s) b (right_none last there (right_none here (last ++ there) typed))
-              (each_rear (λ t. Tag t) (tags_in s) (tags_in_block b) tags) (each_rear (StandsAtItsNumber tables.sites) sites_here sites_there sites),
+              (each_rear (λ t. Tag t) (tags_in s) (tags_in_block b) tags) (each_rear (IsAtItsNumber tables.sites) sites_here sites_there sites),
         )
 
   functions_named : (fs : List Function) → flat_map (faults_of program) fs ≡ [] → Each (λ t. Tag t) (flat_map (λ f. tags_in_block f.body) fs)
-      → Each (StandsAtItsNumber tables.sites) (emitted_sites_of (map (resolved_function plain_lists) fs)) → AllNamed lists tables fs
+      → Each (IsAtItsNumber tables.sites) (emitted_sites_of (map (resolved_function plain_lists) fs)) → AllNamed lists tables fs
   functions_named [] typed tags sites = tt
   functions_named (f ∷ fs) typed tags sites =
       let sites_here = emitted_sites_in (resolved_block plain_lists (locals_of f.params) f.body) in
@@ -152,9 +152,9 @@ module _ (program : Program) (lists : Lists) (tables : Tables) (reducers_are : l
       let tags_there = flat_map (λ g. tags_in_block g.body) fs in (
         block_named (if f.gives_int then WithInt else Alone) (known_of f.params) (locals_of f.params) f.body
             (right_none (unless (is_head program f) f.line) _ (left_none (faults_of program f) _ typed))
-            (each_front (λ t. Tag t) (tags_in_block f.body) tags_there tags) (each_front (StandsAtItsNumber tables.sites) sites_here sites_there sites),
+            (each_front (λ t. Tag t) (tags_in_block f.body) tags_there tags) (each_front (IsAtItsNumber tables.sites) sites_here sites_there sites),
         functions_named fs (right_none (faults_of program f) _ typed) (each_rear (λ t. Tag t) (tags_in_block f.body) tags_there tags)
-            (each_rear (StandsAtItsNumber tables.sites) sites_here sites_there sites),
+            (each_rear (IsAtItsNumber tables.sites) sites_here sites_there sites),
       )
 
 -- each tag of a program is one of its listed tags
@@ -167,7 +167,7 @@ tags_of_program program =
 -- if the sites of a well-typed program are at their numbers, all items that it refers to exist
 pub source_named : (program : Program) (lists : Lists) (tables : Tables) → lists.reducers ≡ reducer_names program.reducers → lists.tags ≡ tags_of program →
     ((f : Name) → is_among f (function_names program.functions) ≡ true → slot_of f lists.functions ≡ slot_of f (function_names program.functions)) →
-    type_faults program ≡ [] → Each (StandsAtItsNumber tables.sites) (emitted_sites_of (resolved program).functions) → AllNamed lists tables program.functions
+    type_faults program ≡ [] → Each (IsAtItsNumber tables.sites) (emitted_sites_of (resolved program).functions) → AllNamed lists tables program.functions
 source_named program lists tables reducers tags slots typed sites =
     let listed = subst (λ names. Each (λ tag. IsListed names tag) (flat_map (λ (f : Function). tags_in_block f.body) program.functions)) (sym tags) (tags_of_program program) in
     functions_named program lists tables reducers slots program.functions (heads_kept program typed) listed sites

@@ -7,7 +7,7 @@ use Rattle.cw_model.specs.declared.syntax.NameKind.{NameKind}
 use Rattle.std.proofs.lemmas.Bool.{eqb-true}
 use Rattle.cw_code.specs.declared.code.Loan.{Loan}
 use Rattle.cw_code.specs.declared.code.Loan.TheVariants as loan
-use Rattle.cw_gen.specs.Marks.{Marks, place_of, behind_place, readers_in, is_reader_place, marks_in, places_from, marks_told, unless_none}
+use Rattle.cw_gen.specs.Marks.{Marks, place_of, behind_place, readers_in, is_reader_place, marks_in, places_from, marks_of_places, unless_none}
 
 -- a place after this number of arrays and readers
 abbrev pub place_behind : (a r : ℕ) → Loan → Loan
@@ -57,16 +57,16 @@ place_beyond (true ∷ marks) (suc s) h = ap (behind_place true) (place_beyond m
 place_beyond (false ∷ marks) (suc s) h = ap (behind_place false) (place_beyond marks s (omega (arith, h))) ∙ array_eq (omega (arith, h, few_readers marks))
 
 -- the table represents the marks
-pub told_from : (a r : ℕ) (marks : Marks) → marks_told (places_from a r marks) ≡ marks
+pub told_from : (a r : ℕ) (marks : Marks) → marks_of_places (places_from a r marks) ≡ marks
 told_from a r [] = refl
 told_from a r (true ∷ marks) = ap (λ ms. true ∷ ms) (told_from a (suc r) marks)
 told_from a r (false ∷ marks) = ap (λ ms. false ∷ ms) (told_from (suc a) r marks)
 
 -- the marks of a table that is built from marks
-pub told_table : (items : List Loan) (marks : Marks) → items ≡ places_from 0 0 marks → marks_told items ≡ marks
-told_table items marks h = ap marks_told h ∙ told_from 0 0 marks
+pub told_table : (items : List Loan) (marks : Marks) → items ≡ places_from 0 0 marks → marks_of_places items ≡ marks
+told_table items marks h = ap marks_of_places h ∙ told_from 0 0 marks
 
-pub table_counted : (items : List Loan) (marks : Marks) → items ≡ places_from 0 0 marks → items ≡ places_from 0 0 (marks_told items)
+pub table_counted : (items : List Loan) (marks : Marks) → items ≡ places_from 0 0 marks → items ≡ places_from 0 0 (marks_of_places items)
 table_counted items marks h = h ∙ ap (places_from 0 0) (sym (told_table items marks h))
 
 pub some_kept : (marks : Marks) → 0 < readers_in marks → unless_none marks ≡ marks
@@ -77,21 +77,21 @@ some_kept marks h = test (readers_in marks == 0) refl
     test false e = refl
 
 -- a place that is read from the table
-pub place_at : (items : List Loan) (s : ℕ) (x : Loan) → items ≡ places_from 0 0 (marks_told items) → s < length items → x ≡ slice_index_or items s x → x ≡ place_of (marks_told items) s
+pub place_at : (items : List Loan) (s : ℕ) (x : Loan) → items ≡ places_from 0 0 (marks_of_places items) → s < length items → x ≡ slice_index_or items s x → x ≡ place_of (marks_of_places items) s
 place_at items s x counted within is =
-    let n : length (marks_told items) ≡ length items = length-map items is_reader_place in
-    let found : Some x ≡ Some (place_of (marks_told items) s) =
-    ap Some is ∙ sym (slice_get-get_or items s x within) ∙ ap (λ l. slice_get l s) counted ∙ place_found (marks_told items) s (omega (arith, within, n)) in
+    let n : length (marks_of_places items) ≡ length items = length-map items is_reader_place in
+    let found : Some x ≡ Some (place_of (marks_of_places items) s) =
+    ap Some is ∙ sym (slice_get-get_or items s x within) ∙ ap (λ l. slice_get l s) counted ∙ place_found (marks_of_places items) s (omega (arith, within, n)) in
     cc found
 
 -- the number of readers is at most the position of a slot after the table
-pub readers_behind : (items : List Loan) (readers s : ℕ) → readers ≡ readers_in (marks_told items) → length items ≤ s → readers ≤ s
-readers_behind items readers s many le = omega (arith, many, le, few_readers (marks_told items), length-map items is_reader_place)
+pub readers_behind : (items : List Loan) (readers s : ℕ) → readers ≡ readers_in (marks_of_places items) → length items ≤ s → readers ≤ s
+readers_behind items readers s many le = omega (arith, many, le, few_readers (marks_of_places items), length-map items is_reader_place)
 
-pub place_past : (items : List Loan) (readers s : ℕ) → readers ≡ readers_in (marks_told items) → length items ≤ s → loan.Array (s - readers) ≡ place_of (marks_told items) s
+pub place_past : (items : List Loan) (readers s : ℕ) → readers ≡ readers_in (marks_of_places items) → length items ≤ s → loan.Array (s - readers) ≡ place_of (marks_of_places items) s
 place_past items readers s many le =
-    let n : length (marks_told items) ≡ length items = length-map items is_reader_place in
-    ap (λ k. loan.Array (s - k)) many ∙ sym (place_beyond (marks_told items) s (omega (arith, le, n)))
+    let n : length (marks_of_places items) ≡ length items = length-map items is_reader_place in
+    ap (λ k. loan.Array (s - k)) many ∙ sym (place_beyond (marks_of_places items) s (omega (arith, le, n)))
 
 -- the table after the last parameter
 pub table_ends : (kinds left : List NameKind) (items : List Loan) (a r : ℕ) → left ≡ []

@@ -19,22 +19,22 @@ use Rattle.cw_gen.proofs.EmptySlots.{Over, over_itself, over_after}
 use Rattle.cw_gen.proofs.Shapes.{Opened, shape_at, Shapes}
 
 -- the list has these shapes from a place on
-abbrev pub StandsAt : Shapes → ℕ → Shapes → Type 0
-StandsAt tab place [] = Unit {0}
-StandsAt tab place (s ∷ ss) = (slice_get tab place ≡ Some s) × StandsAt tab (place + 1) ss
+abbrev pub HasShapesFrom : Shapes → ℕ → Shapes → Type 0
+HasShapesFrom tab place [] = Unit {0}
+HasShapesFrom tab place (s ∷ ss) = (slice_get tab place ≡ Some s) × HasShapesFrom tab (place + 1) ss
 
 -- the list has the first of two parts at the place
-pub stands_front : (tab : Shapes) (place : ℕ) (a b : Shapes) → StandsAt tab place (a ++ b) → StandsAt tab place a
+pub stands_front : (tab : Shapes) (place : ℕ) (a b : Shapes) → HasShapesFrom tab place (a ++ b) → HasShapesFrom tab place a
 stands_front tab place [] b h = tt
 stands_front tab place (s ∷ a) b h = (h.0, stands_front tab (place + 1) a b h.1)
 
 -- the list has the second of two parts after the first
-pub stands_back : (tab : Shapes) (place n : ℕ) (a b : Shapes) → length a ≡ n → StandsAt tab place (a ++ b) → StandsAt tab (place + n) b
-stands_back tab place n [] b e h = let at : place ≡ place + n = omega (arith, e) in subst (λ k. StandsAt tab k b) at h
+pub stands_back : (tab : Shapes) (place n : ℕ) (a b : Shapes) → length a ≡ n → HasShapesFrom tab place (a ++ b) → HasShapesFrom tab (place + n) b
+stands_back tab place n [] b e h = let at : place ≡ place + n = omega (arith, e) in subst (λ k. HasShapesFrom tab k b) at h
 stands_back tab place zero (s ∷ a) b e h = absurd (omega (arith, e))
 stands_back tab place (suc n) (s ∷ a) b e h =
     let at : place + 1 + n ≡ place + suc n = omega arith in
-    subst (λ k. StandsAt tab k b) at (stands_back tab (place + 1) n a b (omega (arith, e)) h.1)
+    subst (λ k. HasShapesFrom tab k b) at (stands_back tab (place + 1) n a b (omega (arith, e)) h.1)
 
 -- a place of a list of shapes
 abbrev pub flat : Option (Option Shape) → Option Shape

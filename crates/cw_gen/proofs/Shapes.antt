@@ -1,7 +1,7 @@
 -- The shapes of the places of generated code.
 use Rattle.std.proofs.Common.{◌≡◌, ℕ, suc, ◌+◌, List, [], ◌∷◌, ◌++◌, length, Bool, true, false, if◌then◌else◌, Option, Some, None, refl, sym, ap, ◌∙◌, subst, arith, length-append}
 use Rattle.std.specs.Prelude.{map}
-use Rattle.cw_model.specs.Syntax.{wants_array, Name, Expr, Number, Variable, Element, Length, Negative, Not, Binary, Stmt, Declare, DeclareArray, Assign, AssignElement}
+use Rattle.cw_model.specs.Syntax.{is_array_param, Name, Expr, Number, Variable, Element, Length, Negative, Not, Binary, Stmt, Declare, DeclareArray, Assign, AssignElement}
 use Rattle.cw_model.specs.Syntax.{Reduce, Call, Start, Begin, Sync, If, IfElse, While, Scope, Cut, Region, Print, Return, Block, End, Then, Param, Function}
 use Rattle.cw_model.specs.Meaning.{function_named}
 use Rattle.cw_model.specs.Typing.{Returns, Nowhere, block_returns}
@@ -45,13 +45,13 @@ after_arg false n = n + 1
 abbrev pub args_shapes : (ℕ → Shape) → ℕ → List Param → List Expr → Shapes
 args_shapes made n [] es = []
 args_shapes made n (p ∷ ps) [] = []
-args_shapes made n (p ∷ ps) (e ∷ es) = arg_shapes (wants_array p) made n e ++ args_shapes made (after_arg (wants_array p) n) ps es
+args_shapes made n (p ∷ ps) (e ∷ es) = arg_shapes (is_array_param p) made n e ++ args_shapes made (after_arg (is_array_param p) n) ps es
 
 -- the number of operands after the arguments
 abbrev pub args_after : ℕ → List Param → List Expr → ℕ
 args_after n [] es = n
 args_after n (p ∷ ps) [] = n
-args_after n (p ∷ ps) (e ∷ es) = args_after (after_arg (wants_array p) n) ps es
+args_after n (p ∷ ps) (e ∷ es) = args_after (after_arg (is_array_param p) n) ps es
 
 -- a place after a block that surely returns is not reached
 abbrev pub reached : Bool → Shape → Option Shape
@@ -157,10 +157,10 @@ args_as_many made n marks locals taken line [] [] fine = refl
 args_as_many made n marks locals taken line [] (e ∷ es) fine = absurd fine
 args_as_many made n marks locals taken line (p ∷ ps) [] fine = absurd fine
 args_as_many made n marks locals taken line (p ∷ ps) (e ∷ es) fine =
-    both_as_many (arg_shapes (wants_array p) made n e) (args_shapes made (after_arg (wants_array p) n) ps es)
+    both_as_many (arg_shapes (is_array_param p) made n e) (args_shapes made (after_arg (is_array_param p) n) ps es)
     (emitted_arg marks line (slotted_argument locals (p ∷ ps) e)) (args_code marks locals line ps es)
-    (arg_as_many made n marks locals taken line (p ∷ ps) (wants_array p) e (arg_kept p.kind marks locals taken e fine.0))
-    (args_as_many made (after_arg (wants_array p) n) marks locals taken line ps es fine.1)
+    (arg_as_many made n marks locals taken line (p ∷ ps) (is_array_param p) e (arg_kept p.kind marks locals taken e fine.0))
+    (args_as_many made (after_arg (is_array_param p) n) marks locals taken line ps es fine.1)
 
 -- the number of shapes of the loads is the number of their instructions
 pub loads_as_many : (made : ℕ → Shape) (n : ℕ) (locals : Locals) (xs : List Name) → length (loads_shapes made n xs) ≡ length (emitted_loads (map (λ x. slot_of x locals.ints) xs))

@@ -6,7 +6,7 @@ use Rattle.std.specs.List.{list_all}
 use Rattle.std.proofs.lemmas.List.{length-map}
 use Rattle.std.proofs.lemmas.Slice.Eq.{bytes_eq-Decides}
 use Rattle.cw_facts.specs.Tests.{first_true, second_true, not_true}
-use Rattle.cw_model.specs.Syntax.{Name, Param, Function, wants_array}
+use Rattle.cw_model.specs.Syntax.{Name, Param, Function, is_array_param}
 use Rattle.cw_model.specs.Names.{same_name, is_among, differ, find, put}
 use Rattle.cw_model.specs.Ints.{natural}
 use Rattle.cw_model.specs.Frames.{Frame, no_frame, int_of, array_of, new_int, new_array, set_array}
@@ -29,24 +29,24 @@ use Rattle.cw_gen.proofs.Passing.{slots_for, not_same, backs, put_backs, with_ar
 use Rattle.cw_gen.proofs.Calling.{Hands}
 
 -- parameters that are all arrays are in order, and none of them is an integer
-arrays_alone : (ps : List Param) → list_all (λ (q : Param). (wants_array q)) ps ≡ true → (ints_first ps ≡ true) × (length (locals_of ps).ints ≡ 0)
+arrays_alone : (ps : List Param) → list_all (λ (q : Param). (is_array_param q)) ps ≡ true → (ints_first ps ≡ true) × (length (locals_of ps).ints ≡ 0)
 arrays_alone [] h = (refl, refl)
 arrays_alone (p ∷ ps) h =
-    let rest = second_true (wants_array p) (list_all (λ (q : Param). (wants_array q)) ps) h in
-    test (wants_array p) (first_true (wants_array p) (list_all (λ (q : Param). (wants_array q)) ps) h) rest (arrays_alone ps rest).1
+    let rest = second_true (is_array_param p) (list_all (λ (q : Param). (is_array_param q)) ps) h in
+    test (is_array_param p) (first_true (is_array_param p) (list_all (λ (q : Param). (is_array_param q)) ps) h) rest (arrays_alone ps rest).1
   where
-    test : (b : Bool) → b ≡ true → list_all (λ (q : Param). (wants_array q)) ps ≡ true → length (locals_of ps).ints ≡ 0 →
-        ((if b then list_all (λ (q : Param). (wants_array q)) ps else ints_first ps) ≡ true)
-        × (length (map (λ (q : Param). q.name) (cond (not b) (p ∷ filter (λ q. not (wants_array q)) ps) (filter (λ q. not (wants_array q)) ps))) ≡ 0)
+    test : (b : Bool) → b ≡ true → list_all (λ (q : Param). (is_array_param q)) ps ≡ true → length (locals_of ps).ints ≡ 0 →
+        ((if b then list_all (λ (q : Param). (is_array_param q)) ps else ints_first ps) ≡ true)
+        × (length (map (λ (q : Param). q.name) (cond (not b) (p ∷ filter (λ q. not (is_array_param q)) ps) (filter (λ q. not (is_array_param q)) ps))) ≡ 0)
     test true e rest none = (rest, none)
     test false e rest none = cc
 
 -- the numbers of integers and of arrays with one more parameter
 abbrev more_ints : List Param → Param → Bool → ℕ
-more_ints ps p b = length (map (λ (q : Param). q.name) (cond (not b) (p ∷ filter (λ q. not (wants_array q)) ps) (filter (λ q. not (wants_array q)) ps)))
+more_ints ps p b = length (map (λ (q : Param). q.name) (cond (not b) (p ∷ filter (λ q. not (is_array_param q)) ps) (filter (λ q. not (is_array_param q)) ps)))
 
 abbrev more_arrays : List Param → Param → Bool → ℕ
-more_arrays ps p b = length (map (λ (q : Param). q.name) (cond b (p ∷ filter (λ q. (wants_array q)) ps) (filter (λ q. (wants_array q)) ps)))
+more_arrays ps p b = length (map (λ (q : Param). q.name) (cond b (p ∷ filter (λ q. (is_array_param q)) ps) (filter (λ q. (is_array_param q)) ps)))
 
 -- a loop's function binds these parameters
 abbrev LoopBound : List Param → Type 0
@@ -60,9 +60,9 @@ pub bound_loop : (ps : List Param) (vs : List ℤ) (xss : List (List ℤ)) (g : 
 bound_loop [] [] [] g order n m = bound_none g
 bound_loop [] [] (xs ∷ xss) g order n m = absurd (omega (arith, m))
 bound_loop [] (v ∷ vs) xss g order n m = absurd (omega (arith, n))
-bound_loop (p ∷ ps) vs xss g order n m = test (λ vs' xss' g' order' n' m'. bound_loop ps vs' xss' g' order' n' m') (wants_array p) refl order n m
+bound_loop (p ∷ ps) vs xss g order n m = test (λ vs' xss' g' order' n' m'. bound_loop ps vs' xss' g' order' n' m') (is_array_param p) refl order n m
   where
-    an_array : LoopBound ps → (wants_array p) ≡ true → (ints_first ps ≡ true) × (length (locals_of ps).ints ≡ 0)
+    an_array : LoopBound ps → (is_array_param p) ≡ true → (ints_first ps ≡ true) × (length (locals_of ps).ints ≡ 0)
         → (vs : List ℤ) (xss : List (List ℤ)) → length vs ≡ 0 → length xss ≡ suc (length (locals_of ps).arrays)
         → Bound (p ∷ ps) vs xss g (loop_frame (p ∷ ps) vs xss g)
     an_array more is alone (v ∷ vs) xss n m = absurd (omega (arith, n))
@@ -70,12 +70,12 @@ bound_loop (p ∷ ps) vs xss g order n m = test (λ vs' xss' g' order' n' m'. bo
     an_array more is alone [] (xs ∷ xss) n m =
         bound_array p ps xs [] xss g (loop_frame ps [] xss (new_array p.name xs g)) is (more [] xss (new_array p.name xs g) alone.0 (sym alone.1) (omega (arith, m)))
 
-    an_int : LoopBound ps → (wants_array p) ≡ false → ints_first ps ≡ true → (vs : List ℤ) → length vs ≡ suc (length (locals_of ps).ints)
+    an_int : LoopBound ps → (is_array_param p) ≡ false → ints_first ps ≡ true → (vs : List ℤ) → length vs ≡ suc (length (locals_of ps).ints)
         → length xss ≡ length (locals_of ps).arrays → Bound (p ∷ ps) vs xss g (loop_frame (p ∷ ps) vs xss g)
     an_int more is rest [] n m = absurd (omega (arith, n))
     an_int more is rest (v ∷ vs) n m = bound_int p ps v vs xss g (loop_frame ps vs xss (new_int p.name v g)) is (more vs xss (new_int p.name v g) rest (omega (arith, n)) m)
 
-    test : LoopBound ps → (b : Bool) → (wants_array p) ≡ b → (if b then list_all (λ (q : Param). (wants_array q)) ps else ints_first ps) ≡ true
+    test : LoopBound ps → (b : Bool) → (is_array_param p) ≡ b → (if b then list_all (λ (q : Param). (is_array_param q)) ps else ints_first ps) ≡ true
         → length vs ≡ more_ints ps p b → length xss ≡ more_arrays ps p b → Bound (p ∷ ps) vs xss g (loop_frame (p ∷ ps) vs xss g)
     test more true is rest n m = an_array more is (arrays_alone ps rest) vs xss (n ∙ (arrays_alone ps rest).1) m
     test more false is rest n m = an_int more is rest vs n m

@@ -9,7 +9,7 @@ use Rattle.cw_model.specs.Syntax.{Stmt, Declare, DeclareArray, Assign, AssignEle
 use Rattle.cw_model.specs.Syntax.{While, For, Scope, Cut, Region, Print, Return, Block, End, Then, Function, Program}
 use Rattle.cw_model.specs.Sites.{sites_in, sites_in_block, call_sites, are_numbered}
 use Rattle.cw_tree.specs.Resolved.{Lists, Locals, with_int, with_array, locals_after, locals_of, lists_of, resolved_stmt, resolved_block, resolved_function, resolved}
-use Rattle.cw_code.specs.Code.{CodeSite, told_sites}
+use Rattle.cw_code.specs.Code.{CodeSite, reported_sites}
 use Rattle.cw_gen.specs.Emit.{emitted_sites, emitted_sites_in, emitted_sites_of}
 use Rattle.cw_gen.proofs.Rules.{Each}
 use Rattle.cw_gen.proofs.Texts.{code_of}
@@ -58,7 +58,7 @@ module _ (lists : Lists) where
       ∙ ap (λ l. sites_in_block g.body ++ l) (told_of gs)
 
 -- the sites of the code are the sites of the program
-pub same_sites : (program : Program) → told_sites (code_of program) ≡ call_sites program
+pub same_sites : (program : Program) → reported_sites (code_of program) ≡ call_sites program
 same_sites program = told_of (lists_of program) program.functions
 
 -- the number of sites is the number of call statements
@@ -67,12 +67,12 @@ as_many_sites program =
     sym (length-map (emitted_sites_of (resolved program).functions) (λ q. q.told)) ∙ ap length (same_sites program)
 
 -- a site is at its number
-pub record StandsAtItsNumber (sites : List CodeSite) (s : CodeSite) : Type 0 where
+pub record IsAtItsNumber (sites : List CodeSite) (s : CodeSite) : Type 0 where
   pub positive : 0 < s.told.number
   pub there : slice_get sites (s.told.number - 1) ≡ Some s
 
 -- numbered sites are at their numbers
-pub numbered_stand : (before now : List CodeSite) → are_numbered (length before) (map (λ s. s.told) now) ≡ true → Each (StandsAtItsNumber (before ++ now)) now
+pub numbered_stand : (before now : List CodeSite) → are_numbered (length before) (map (λ s. s.told) now) ≡ true → Each (IsAtItsNumber (before ++ now)) now
 numbered_stand before [] h = tt
 numbered_stand before (s ∷ now) h =
     let within : length before < length (before ++ s ∷ now) = omega (arith, length-append before (s ∷ now)) in
@@ -84,9 +84,9 @@ numbered_stand before (s ∷ now) h =
     let number : s.told.number ≡ suc (length before) = eq_of s.told.number (suc (length before)) (first_true here there h) in
     let place : length before ≡ s.told.number - 1 = omega (arith, number) in
     let more : are_numbered (length (before ++ s ∷ [])) (map (λ q. q.told) now) ≡ true = subst (λ m. are_numbered m (map (λ q. q.told) now) ≡ true) next (second_true here there h) in
-    let rest = subst (λ l. Each (StandsAtItsNumber l) now) (append_assoc before (s ∷ []) now) (numbered_stand (before ++ s ∷ []) now more) in
+    let rest = subst (λ l. Each (IsAtItsNumber l) now) (append_assoc before (s ∷ []) now) (numbered_stand (before ++ s ∷ []) now more) in
     (record { positive = omega (arith, number); there = subst (λ m. slice_get (before ++ s ∷ now) m ≡ Some s) place at }, rest)
 
 -- the sites of a numbered program are at their numbers
-pub sites_stand : (program : Program) → are_numbered 0 (call_sites program) ≡ true → Each (StandsAtItsNumber (code_of program).sites) (emitted_sites_of (resolved program).functions)
+pub sites_stand : (program : Program) → are_numbered 0 (call_sites program) ≡ true → Each (IsAtItsNumber (code_of program).sites) (emitted_sites_of (resolved program).functions)
 sites_stand program h = numbered_stand [] (emitted_sites_of (resolved program).functions) (ap (are_numbered 0) (same_sites program) ∙ h)

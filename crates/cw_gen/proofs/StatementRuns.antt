@@ -37,7 +37,7 @@ use Rattle.cw_gen.proofs.Scopes.{locals_after_all, returns_same}
 use Rattle.cw_gen.proofs.Stores.{Store, Outside, waits_of, joined_with, Agrees, Fills, finds, writes, new_is_there}
 use Rattle.cw_gen.proofs.Stores.{new_array_is_there, fills_joined, assigns, replaces, declares, declares_array, takes, joins}
 use Rattle.cw_gen.specs.Marks.{Marks, array_at}
-use Rattle.cw_gen.proofs.Marked.{owned, told_at, IsOwn, get_owned, own_behind}
+use Rattle.cw_gen.proofs.Marked.{owned, marked_results, IsOwn, get_owned, own_behind}
 use Rattle.cw_gen.proofs.Passing.{passed_slots, lent_slots, backs}
 use Rattle.cw_gen.proofs.Codes.{distance_is, here, gives_back, full_slot, then_do_after, Outermost, both_go_on, MayGive, leaves}
 use Rattle.cw_gen.proofs.Texts.{expr_code, args_code, stmt_code, block_code, tables_in, Table, TurnsClose}
@@ -345,7 +345,7 @@ module _ (code : Code) (fs : List Function) (lists : Lists) (small : length code
     stmt_runs around returns level locals taken' (Return None) line pc size store outer frame t left next at_level out within has fine a n on backs =
         syncs code (ByReturn None frame) (at around pc [] store t) t left next (λ l below.
         one code (at around pc [] store t) instr.Return has.0 l ∙ backs None frame
-        (settled (told_at marks store.arrived) (owned marks store.arrays)) l (synced t) (returns_none returns locals taken' fine.0)
+        (settled (marked_results marks store.arrived) (owned marks store.arrays)) l (synced t) (returns_none returns locals taken' fine.0)
         (gives_back marks size locals taken' frame store outer (outermost returns locals taken' None outer fine.0 out) fine.1 a n.own) (omega arith))
     stmt_runs around returns level locals taken' (Return (Some e)) line pc size store outer frame t left next at_level out within has fine a n on backs =
         let ce = expr_code marks locals line e in
@@ -355,7 +355,7 @@ module _ (code : Code) (fs : List Function) (lists : Lists) (small : length code
         (has_front code.instrs pc ce (instr.ReturnValue ∷ []) has) (returns_expr returns locals taken' e fine.0) a
         (λ v l u le. syncs code (ByReturn (Some v) frame) (at around (pc + length ce) (v ∷ []) store u) u l next (λ l' below.
         one code (at around (pc + length ce) (v ∷ []) store u) instr.ReturnValue there l'
-        ∙ backs (Some v) frame (settled (told_at marks store.arrived) (owned marks store.arrays)) l' (synced u)
+        ∙ backs (Some v) frame (settled (marked_results marks store.arrived) (owned marks store.arrays)) l' (synced u)
         (returns_some returns locals taken' e v fine.0) (gives_back marks size locals taken' frame store outer
         (outermost returns locals taken' (Some e) outer fine.0 out) fine.1 a n.own) (omega arith)))
         ∙ sym (resume_then t (pay_for (evaluate e frame) line left) (λ v l. after (shows (Join ∷ [])) (then_do (pay 1 l) (λ _. gives (ByReturn (Some v) frame)))) next)

@@ -5,7 +5,7 @@ use Rattle.std.proofs.Common.{not, cond, filter}
 use Rattle.std.proofs.lemmas.List.{map-append}
 use mathlib.Core.List.{reverse_aux}
 use Rattle.cw_model.specs.Ints.{Result, exact, truth, is_zero}
-use Rattle.cw_model.specs.Syntax.{Expr, Number, Variable, Element, Length, Negative, Not, Binary, Param, wants_array}
+use Rattle.cw_model.specs.Syntax.{Expr, Number, Variable, Element, Length, Negative, Not, Binary, Param, is_array_param}
 use Rattle.cw_model.specs.Frames.{Frame, int_of, array_of, new_int, new_array}
 use Rattle.cw_model.specs.Expressions.{evaluate, and_then, done_at, apply, element, in_bounds}
 use Rattle.cw_model.specs.Outcome.{Outcome, Trace, then_do, pay_for}
@@ -161,7 +161,7 @@ module _ (code : Code) (marks : Marks) (depth : ℕ) where
   args_run around locals taken' (p ∷ ps) [] line pc ops store outer frame given t left next has fine a k = absurd fine
   args_run around locals taken' (p ∷ ps) (e ∷ es) line pc ops store outer frame given t left next has fine a k =
       cases (λ pc' ops' given' t' left' next' has' k'. args_run around locals taken' ps es line pc' ops' store outer frame given' t' left' next' has'
-      fine.1 a k') (wants_array p) refl (arg_kept p.kind marks locals taken' e fine.0)
+      fine.1 a k') (is_array_param p) refl (arg_kept p.kind marks locals taken' e fine.0)
     where
       ces : List Instr
       ces = args_code marks locals line ps es
@@ -171,10 +171,10 @@ module _ (code : Code) (marks : Marks) (depth : ℕ) where
       array_now _ h = absurd h
 
       go : ℕ → Outcome Frame
-      go l = (if (wants_array p) then arguments ps es frame line (new_array p.name (given_array e frame) given)
+      go l = (if (is_array_param p) then arguments ps es frame line (new_array p.name (given_array e frame) given)
           else (λ left'. then_do (pay_for (evaluate e frame) line left') (λ v. arguments ps es frame line (new_int p.name v given)))) l
 
-      cases : ArgsRun around locals ps es line store frame → (b : Bool) → (wants_array p) ≡ b → ArgKept b locals taken' e → steps code left (at around pc ops store t) ≡ resume t (go left) next
+      cases : ArgsRun around locals ps es line store frame → (b : Bool) → (is_array_param p) ≡ b → ArgKept b locals taken' e → steps code left (at around pc ops store t) ≡ resume t (go left) next
       cases again true is fine' =
           let none = array_code marks locals line (p ∷ ps) e fine' in
           let has' : HasAt code.instrs pc ces = subst (λ is. HasAt code.instrs pc (is ++ ces)) none has in
@@ -182,14 +182,14 @@ module _ (code : Code) (marks : Marks) (depth : ℕ) where
           again pc ops (new_array p.name (given_array e frame) given) t left next has'
           (λ vs g l u n b le.
           ap (λ m. steps code l (at around (pc + m) (reverse_aux vs ops) store u)) (sym place)
-          ∙ k vs g l u (n ∙ sym (no_int (not (wants_array p)) (ap not is)))
+          ∙ k vs g l u (n ∙ sym (no_int (not (is_array_param p)) (ap not is)))
           (subst (λ xss. Bound (p ∷ ps) vs xss given g) (sym (ap (λ c. map (λ x. array_of frame x)
           ((if c then ownership.names_in e else []) ++ arrays_named ps es)) is ∙ one_more (array_now e fine')))
           (bound_array p ps (given_array e frame) vs (map (λ x. array_of frame x) (arrays_named ps es)) given g is b)) le)
           ∙ sym (ap (λ c. resume t ((if c then arguments ps es frame line (new_array p.name (given_array e frame) given)
           else (λ left'. then_do (pay_for (evaluate e frame) line left') (λ v. arguments ps es frame line (new_int p.name v given)))) left) next) is)
         where
-          no_int : (c : Bool) → c ≡ false → length (map (λ (q : Param). q.name) (cond c (p ∷ filter (λ q. not (wants_array q)) ps) (filter (λ q. not (wants_array q)) ps))) ≡ length (locals_of ps).ints
+          no_int : (c : Bool) → c ≡ false → length (map (λ (q : Param). q.name) (cond c (p ∷ filter (λ q. not (is_array_param q)) ps) (filter (λ q. not (is_array_param q)) ps))) ≡ length (locals_of ps).ints
           no_int true e' = cc
           no_int false e' = refl
 
@@ -208,7 +208,7 @@ module _ (code : Code) (marks : Marks) (depth : ℕ) where
           let place : pc + length ce + length ces ≡ pc + length (emitted_arg marks line (slotted_argument locals (p ∷ ps) e) ++ ces) =
           omega (arith, length-append (emitted_arg marks line (slotted_argument locals (p ∷ ps) e)) ces, ap length same) in
           ap (λ m. steps code l' (at around m (reverse_aux vs (v ∷ ops)) store u')) place
-          ∙ k (v ∷ vs) g l' u' (ap suc n ∙ sym (one_int (not (wants_array p)) (ap not is)))
+          ∙ k (v ∷ vs) g l' u' (ap suc n ∙ sym (one_int (not (is_array_param p)) (ap not is)))
           (subst (λ xss. Bound (p ∷ ps) (v ∷ vs) xss given g) (sym (ap (λ c. map (λ x. array_of frame x)
           ((if c then ownership.names_in e else []) ++ arrays_named ps es)) is))
           (bound_int p ps v vs (map (λ x. array_of frame x) (arrays_named ps es)) given g is b)) (omega arith)))
@@ -217,6 +217,6 @@ module _ (code : Code) (marks : Marks) (depth : ℕ) where
           else (λ left'. then_do (pay_for (evaluate e frame) line left') (λ v. arguments ps es frame line (new_int p.name v given)))) left) next) is)
         where
           one_int : (c : Bool) → c ≡ true → length (map (λ (q : Param). q.name)
-              (cond c (p ∷ filter (λ q. not (wants_array q)) ps) (filter (λ q. not (wants_array q)) ps))) ≡ suc (length (locals_of ps).ints)
+              (cond c (p ∷ filter (λ q. not (is_array_param q)) ps) (filter (λ q. not (is_array_param q)) ps))) ≡ suc (length (locals_of ps).ints)
           one_int true e' = refl
           one_int false e' = cc

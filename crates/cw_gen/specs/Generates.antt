@@ -14,7 +14,7 @@ use Rattle.cw_text.specs.declared.fault.Fault.TheVariants as fault
 use Rattle.cw_tree.specs.ResolvedView.{program_of}
 use Rattle.cw_loops.specs.declared.program.Core.{Core}
 use Rattle.cw_code.specs.declared.code.Code as made_code
-use Rattle.cw_code.specs.Code.{Code, code_view, told_sites}
+use Rattle.cw_code.specs.Code.{Code, code_view, reported_sites}
 use Rattle.cw_code.specs.Run.{code_serial}
 use Rattle.cw_code.specs.Fits.{main_params, Fits}
 use Rattle.cw_gen.specs.Emit.{coded_reducers}
@@ -31,7 +31,7 @@ pub record Generates (program : Program) (code : Code) : Type 0 where
       code_serial code args n ≡ Some (serial_answer program args n)
   pub fits : Fits code
   pub params : main_params code ≡ main_count program
-  pub sites : told_sites code ≡ call_sites program
+  pub sites : reported_sites code ≡ call_sites program
   pub main_line : code.main_line ≡ (root_site program).line
   pub reducers : code.reducers ≡ coded_reducers program.reducers
   pub tags : code.tags ≡ tags_of program

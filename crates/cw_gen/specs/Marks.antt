@@ -69,8 +69,8 @@ is_reader_place (loan.Array a) = false
 is_reader_place (loan.Reader r) = true
 
 -- the marks of these places
-abbrev pub marks_told : List Loan → Marks
-marks_told places = map is_reader_place places
+abbrev pub marks_of_places : List Loan → Marks
+marks_of_places places = map is_reader_place places
 
 -- the number of parameters of a kind: integers, arrays, arrays that are taken, and arrays that are only read
 abbrev pub count_such : (NameKind → Bool) → List NameKind → ℕ

@@ -14,17 +14,17 @@ pub(crate) struct Places {
     pub(crate) table: Vec<Loan>,
     pub(crate) readers: u32,
     // Arrays and readers are counted separately, from 0.
-    pub(crate) ghost counted: { table.items ≡ spec.places_from 0 0 (spec.marks_told table.items) },
+    pub(crate) ghost counted: { table.items ≡ spec.places_from 0 0 (spec.marks_of_places table.items) },
     // The number of readers among the slots.
-    pub(crate) ghost many: { readers ≡ spec.readers_in (spec.marks_told table.items) },
+    pub(crate) ghost many: { readers ≡ spec.readers_in (spec.marks_of_places table.items) },
 }
 
 impl Model for Places {
-    ghost use Rattle.cw_gen.specs.Marks.{Marks, marks_told};
+    ghost use Rattle.cw_gen.specs.Marks.{Marks, marks_of_places};
 
     ghost Value = { Marks };
 
-    ghost view = { λ places. marks_told places.table.items };
+    ghost view = { λ places. marks_of_places places.table.items };
 }
 
 impl Places {

@@ -21,7 +21,7 @@ use Rattle.cw_greedy.specs.declared.recorder.PartKind.TheVariants as kind
 use Rattle.cw_greedy.specs.declared.recorder.Part.{Part}
 use Rattle.cw_greedy.specs.declared.recorder.Recorder.{Recorder}
 use Rattle.cw_greedy.specs.Merging.{onto, Same, to_join}
-use Rattle.cw_greedy.specs.Normal.{StandApart, AreOpenApart, AreApart, IsChild}
+use Rattle.cw_greedy.specs.Normal.{AreInNormalForm, AreOpenApart, AreApart, IsChild}
 use Rattle.cw_greedy.specs.Recording.{opening, ending, ending_in, codes_in, IsOfKind, out_behind, AreParts, Keeps, IsFromMain, RecordsIn, IsOpen, IsQuiet, BeginsChild, IsPart, out_in}
 use Rattle.cw_greedy.specs.Recording.{BeginsCall, BeginsQuiet, Ends, Returns, Syncs, InstructionsNeedNoCall, Rests, Notes, Stacks, Joins, Closes, IsKept, Reads}
 use Rattle.cw_greedy.proofs.Merged.{onto-append, same_merged, nothing_behind}
@@ -165,14 +165,14 @@ apart_again Main [] es open_ h = absurd open_
 apart_again Main (o ∷ os) es open_ h = h
 apart_again (Rest site) os es open_ h = h
 
-block_of_open : (from : Origin) (os : List Open) (es : List Event) → IsOpen from os → AreApart from os es → StandApart es
+block_of_open : (from : Origin) (os : List Open) (es : List Event) → IsOpen from os → AreApart from os es → AreInNormalForm es
 block_of_open from os es open_ h = at os (all_apart from os es open_ h)
   where
-    at : (os : List Open) → AreOpenApart os es → StandApart es
+    at : (os : List Open) → AreOpenApart os es → AreInNormalForm es
     at [] h = h
     at (o ∷ os) h = h.0
 
-with_block : (from : Origin) (os : List Open) (es fs : List Event) → IsOpen from os → AreApart from os es → StandApart fs → AreApart from os fs
+with_block : (from : Origin) (os : List Open) (es fs : List Event) → IsOpen from os → AreApart from os es → AreInNormalForm fs → AreApart from os fs
 with_block from os es fs open_ h g = apart_again from os fs open_ (at os (all_apart from os es open_ h))
   where
     at : (os : List Open) → AreOpenApart os es → AreOpenApart os fs
@@ -181,7 +181,7 @@ with_block from os es fs open_ h g = apart_again from os fs open_ (at os (all_ap
 
 begun_apart : (from : Origin) (o : Open) (os : List Open) (es : List Event) → IsOpen from os → o.outer ≡ ticked es → AreApart from os es → AreApart from (o ∷ os) []
 begun_apart from o os es open_ e h =
-    let outer = subst StandApart (sym e) (ticked_apart es (block_of_open from os es open_ h)) in
+    let outer = subst AreInNormalForm (sym e) (ticked_apart es (block_of_open from os es open_ h)) in
     at from (tt, all_apart from os o.outer open_ (with_block from os es o.outer open_ h outer))
   where
     at : (from : Origin) → AreOpenApart (o ∷ os) [] → AreApart from (o ∷ os) []
@@ -189,14 +189,14 @@ begun_apart from o os es open_ e h =
     at (Rest site) h = h
 
 -- after the end of a part, the enclosing events have their codes in normal form, or the part is the whole run
-whole_apart : (o : Open) (es : List Event) (after : List Event) → o.outer ≡ [] → o.spawned ≡ false → o.mark ≡ Some (Invocation 0) → StandApart es → AreApart Main [] (closed o es ++ after)
+whole_apart : (o : Open) (es : List Event) (after : List Event) → o.outer ≡ [] → o.spawned ≡ false → o.mark ≡ Some (Invocation 0) → AreInNormalForm es → AreApart Main [] (closed o es ++ after)
 whole_apart o es after e0 e1 e2 g =
     subst (λ (x : List Event). AreApart Main [] ((x ++ part_of o.spawned (marked o.mark (tree_of es)) ∷ []) ++ after)) (sym e0)
     (subst (λ (b : Bool). AreApart Main [] (part_of b (marked o.mark (tree_of es)) ∷ after)) (sym e1)
     (subst (λ (m : Option Mark). IsChild (marked m (tree_of es))) (sym e2) (marked_child (Invocation 0) (tree_of es) (tree_followed es g))))
 
 -- the enclosing block has one more event
-round_apart : (o : Open) (os : List Open) (es fs : List Event) → AreOpenApart (o ∷ os) es → (StandApart o.outer → StandApart es → StandApart fs) → AreOpenApart os fs
+round_apart : (o : Open) (os : List Open) (es fs : List Event) → AreOpenApart (o ∷ os) es → (AreInNormalForm o.outer → AreInNormalForm es → AreInNormalForm fs) → AreOpenApart os fs
 round_apart o [] es fs h f = f h.1 h.0
 round_apart o (p ∷ os) es fs h f = (f h.1.0 h.0, h.1.1)
 

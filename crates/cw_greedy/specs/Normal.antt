@@ -3,12 +3,12 @@ use Rattle.std.specs.Prelude.{zero, suc, Bool, true, false, List, [], ◌∷◌,
 use Rattle.cw_model.specs.Trees.{Tree, Leaf, Seq, Par, Marked, Event, Work, Series, Join, before, normal}
 use Rattle.cw_model.specs.Trees as e
 use Rattle.cw_measure.specs.OpenParts.{Open}
-use Rattle.cw_greedy.specs.Blocks.{Stands, InSeries, AsChild, AsRest, codes_of}
+use Rattle.cw_greedy.specs.Blocks.{Position, InSeries, AsChild, AsRest, codes_of}
 use Rattle.cw_greedy.specs.Origins.{Origin, Main, Rest}
 use Rattle.cw_greedy.specs.Merging.{Same}
 
 -- the position of the end of a block, or of the end of a continuation
-abbrev pub stands : Bool → Stands
+abbrev pub stands : Bool → Position
 stands true = AsRest
 stands false = InSeries
 
@@ -40,30 +40,30 @@ abbrev pub IsFollowed : Tree → Type 0
 IsFollowed t = (rest : Bool) (later : Tree) → Enough rest later → Holds rest t later
 
 -- a part may precede these events: an instruction follows it, or it needs none
-abbrev pub StandsBefore : Tree → List Event → Type 0
-StandsBefore t [] = IsApart t
-StandsBefore t (Work zero ∷ es) = IsApart t
-StandsBefore t (Work (suc k) ∷ es) = IsFollowed t
-StandsBefore t (Series u ∷ es) = IsApart t
-StandsBefore t (e.Fork u ∷ es) = IsApart t
-StandsBefore t (Join ∷ es) = IsApart t
+abbrev pub MayPrecede : Tree → List Event → Type 0
+MayPrecede t [] = IsApart t
+MayPrecede t (Work zero ∷ es) = IsApart t
+MayPrecede t (Work (suc k) ∷ es) = IsFollowed t
+MayPrecede t (Series u ∷ es) = IsApart t
+MayPrecede t (e.Fork u ∷ es) = IsApart t
+MayPrecede t (Join ∷ es) = IsApart t
 
 -- a spawned part has the codes of its normal form
 abbrev pub IsChild : Tree → Type 0
 IsChild t = Same (codes_of AsChild (normal t)) (codes_of AsChild t)
 
 -- each part of these events has its codes in normal form
-abbrev pub StandApart : List Event → Type 0
-StandApart [] = Unit {0}
-StandApart (Work k ∷ es) = StandApart es
-StandApart (Series t ∷ es) = StandsBefore t es × StandApart es
-StandApart (e.Fork t ∷ es) = IsChild t × StandApart es
-StandApart (Join ∷ es) = StandApart es
+abbrev pub AreInNormalForm : List Event → Type 0
+AreInNormalForm [] = Unit {0}
+AreInNormalForm (Work k ∷ es) = AreInNormalForm es
+AreInNormalForm (Series t ∷ es) = MayPrecede t es × AreInNormalForm es
+AreInNormalForm (e.Fork t ∷ es) = IsChild t × AreInNormalForm es
+AreInNormalForm (Join ∷ es) = AreInNormalForm es
 
 -- each part of the events of all enclosing blocks has its codes in normal form
 abbrev pub AreOpenApart : List Open → List Event → Type 0
-AreOpenApart [] es = StandApart es
-AreOpenApart (o ∷ os) es = StandApart es × AreOpenApart os o.outer
+AreOpenApart [] es = AreInNormalForm es
+AreOpenApart (o ∷ os) es = AreInNormalForm es × AreOpenApart os o.outer
 
 -- the events of a continuation, or of a run so far, have their codes in normal form; a whole run is one part, with
 -- the codes of its normal form

@@ -136,9 +136,9 @@ IsOpen Main (o ∷ os) = Unit {0}
 IsOpen (Rest site) os = Unit {0}
 
 -- a step of the recorder from one run so far to another, with one more instruction
-abbrev pub Tells : (old new : Recorder) → (count : ℕ) → (from : Origin) → (os os' : List Open)
+abbrev pub Tracks : (old new : Recorder) → (count : ℕ) → (from : Origin) → (os os' : List Open)
     → (es es' : List Event) → Type 0
-Tells old new count from os os' es es' =
+Tracks old new count from os os' es es' =
     count < MOST_LIMIT → IsOpen from os → RecordsIn from count os es old
     → RecordsIn from (count + 1) os' es' new
 
@@ -152,42 +152,42 @@ IsQuiet (Some (Invocation site)) = ⊥
 abbrev pub BeginsChild : (old new : Recorder) → (count : ℕ) → Type 0
 BeginsChild old new count =
     (from : Origin) (mark : Option Mark) (os : List Open) (es : List Event)
-    → Tells old new count from os (begun true mark es os) es []
+    → Tracks old new count from os (begun true mark es os) es []
 
 -- begins a plain call
 abbrev pub BeginsCall : (old new : Recorder) → (count : ℕ) → Type 0
 BeginsCall old new count =
     (from : Origin) (site : ℕ) (os : List Open) (es : List Event)
-    → Tells old new count from os (begun false (Some (Invocation site)) es os) es []
+    → Tracks old new count from os (begun false (Some (Invocation site)) es os) es []
 
 -- begins any other part
 abbrev pub BeginsQuiet : (old new : Recorder) → (count : ℕ) → Type 0
 BeginsQuiet old new count =
     (from : Origin) (mark : Option Mark) (os : List Open) (es : List Event) → IsQuiet mark
-    → Tells old new count from os (begun false mark es os) es []
+    → Tracks old new count from os (begun false mark es os) es []
 
 -- joins and ends a scope, a cut or a region; the ending instruction belongs to the enclosing block
 abbrev pub Ends : (old new : Recorder) → (count : ℕ) → Type 0
 Ends old new count =
     (from : Origin) (o : Open) (os : List Open) (es : List Event) → o.spawned ≡ false
-    → Tells old new count from (o ∷ os) os es (ticked (closed o es))
+    → Tracks old new count from (o ∷ os) os es (ticked (closed o es))
 
 -- joins and ends a call, with an instruction of the call
 abbrev pub Returns : (old new : Recorder) → (count : ℕ) → Type 0
 Returns old new count =
     (from : Origin) (o : Open) (os : List Open) (es : List Event)
-    → Tells old new count from (o ∷ os) os es (closed o (synced es))
+    → Tracks old new count from (o ∷ os) os es (closed o (synced es))
 
 -- joins the current block
 abbrev pub Syncs : (old new : Recorder) → (count : ℕ) → Type 0
 Syncs old new count =
-    (from : Origin) (os : List Open) (es : List Event) → Tells old new count from os os es (synced es)
+    (from : Origin) (os : List Open) (es : List Event) → Tracks old new count from os os es (synced es)
 
 -- an instruction that begins, ends and joins nothing needs no call
 abbrev pub InstructionsNeedNoCall : Type 0
 InstructionsNeedNoCall =
     (r : Recorder) (count : ℕ) (from : Origin) (os : List Open) (es : List Event)
-    → Tells r r count from os os es (ticked es)
+    → Tracks r r count from os os es (ticked es)
 
 -- appends the continuation of the current block up to its join, recorded by another recorder with `cost` instructions
 -- while a child of the block was not joined: the events and instructions of the continuation follow

@@ -4,7 +4,7 @@ use Rattle.cw_model.specs.Trees.{Tree, Leaf, Seq, Par, Marked, Mark, Invocation,
 use Rattle.cw_greedy.specs.declared.code.Code.{Code}
 use Rattle.cw_greedy.specs.declared.code.Code.TheVariants.{Instructions, Spawned, Ended, Joined, Called}
 use Rattle.cw_greedy.specs.Jumping.{StrandBlock, Last, Fork}
-use Rattle.cw_greedy.specs.Blocks.{add_before, put_before, block_of, Stands, InSeries, AsChild, AsRest, codes_of}
+use Rattle.cw_greedy.specs.Blocks.{add_before, put_before, block_of, Position, InSeries, AsChild, AsRest, codes_of}
 use Rattle.cw_greedy.specs.Records.{instructions_before, merged, IsRecordOf}
 use Rattle.cw_greedy.specs.Counts.{spawns_in}
 use Rattle.cw_greedy_schedule.proofs.Chunks.{instructions-append, spawned-append}
@@ -56,7 +56,7 @@ end_of_none t = none_before (put_before t (Last 0))
 
 -- reading the codes of a tree adds the tree at the end of the block that has begun; for a tree at the end of a
 -- continuation, before the join
-abbrev Reads : Stands → Tree → Type 0
+abbrev Reads : Position → Tree → Type 0
 Reads InSeries t = (codes : List Code) (frames : List Frame) (b : StrandBlock) → read (codes_of InSeries t ++ codes) frames b ≡ read codes frames (at_end b t)
 Reads AsChild t = (codes : List Code) (frames : List Frame) (b : StrandBlock) → read (codes_of AsChild t ++ codes) frames b ≡ read codes frames (at_end b t)
 Reads AsRest t =
@@ -98,7 +98,7 @@ read_call t mark f codes frames b =
     ap (λ l. read l frames b) (append_assoc (codes_of InSeries t) (Called ∷ []) codes)
     ∙ f (Called ∷ codes) frames b ∙ ap (read codes frames) (sym (end_marked b mark t))
 
-reads : (t : Tree) (at : Stands) → Reads at t
+reads : (t : Tree) (at : Position) → Reads at t
 reads (Leaf k) InSeries = λ codes frames b. ap (read codes frames) (sym (end_leaf b k))
 reads (Leaf k) AsChild = λ codes frames b. ap (read codes frames) (sym (end_leaf b k))
 reads (Leaf k) AsRest = λ codes frames b. ap (read (Joined ∷ codes) frames) (sym (end_leaf b k))
@@ -178,7 +178,7 @@ sum_call codes = omega (arith, instructions-append codes (Called ∷ []))
 sum_fork : (child rest : List Code) → instructions (child ++ Ended ∷ (rest ++ Joined ∷ [])) ≡ instructions child + instructions rest
 sum_fork child rest = omega (arith, instructions-append child (Ended ∷ (rest ++ Joined ∷ [])), instructions-append rest (Joined ∷ []))
 
-sum_of : (at : Stands) (t : Tree) → instructions (codes_of at t) ≡ work t
+sum_of : (at : Position) (t : Tree) → instructions (codes_of at t) ≡ work t
 sum_of at (Leaf k) = omega arith
 sum_of InSeries (Seq t u) = omega (arith, instructions-append (codes_of InSeries t) (codes_of InSeries u), sum_of InSeries t, sum_of InSeries u)
 sum_of AsChild (Seq t u) = omega (arith, instructions-append (codes_of InSeries t) (codes_of InSeries u), sum_of InSeries t, sum_of InSeries u)
@@ -227,7 +227,7 @@ spawned_fork child rest = omega (arith, spawned-append child (Ended ∷ (rest ++
 spawned_call : (codes : List Code) → spawned (codes ++ Called ∷ []) ≡ spawned codes
 spawned_call codes = omega (arith, spawned-append codes (Called ∷ []))
 
-spawned_of : (at : Stands) (t : Tree) → spawned (codes_of at t) ≡ spawns_in t
+spawned_of : (at : Position) (t : Tree) → spawned (codes_of at t) ≡ spawns_in t
 spawned_of at (Leaf k) = refl
 spawned_of InSeries (Seq t u) = omega (arith, spawned-append (codes_of InSeries t) (codes_of InSeries u), spawned_of InSeries t, spawned_of InSeries u)
 spawned_of AsChild (Seq t u) = omega (arith, spawned-append (codes_of InSeries t) (codes_of InSeries u), spawned_of InSeries t, spawned_of InSeries u)

@@ -23,7 +23,7 @@ use Rattle.cw_greedy_schedule.specs.declared.plan.Strand.{Strand}
 use Rattle.cw_greedy_schedule.specs.Planned.{strand, strands_of}
 use Rattle.cw_greedy_schedule.specs.BoardState.{Shows, PlanAt, join_of, Releases}
 use Rattle.cw_greedy_schedule.specs.BoardState as v
-use Rattle.cw_greedy_schedule.specs.State.{strand_at, flag_at, Reaches, Puts, waiting, Stands, Takes, Counts, Begun, IsWithin}
+use Rattle.cw_greedy_schedule.specs.State.{strand_at, flag_at, Reaches, Puts, waiting, RepresentsBlock, Takes, Counts, Begun, IsWithin}
 use Rattle.cw_greedy_schedule.specs.State as s
 use Rattle.cw_greedy_schedule.proofs.Plans.{length-strands}
 use Rattle.cw_greedy_schedule.proofs.Releasing.{Outcome, over, on, by_less, by_same, some_size, shows_start, taken, plan_first}
@@ -213,7 +213,7 @@ ran l l' f p n (v.after o i c r a x q sx) h =
     (ran l l' f p n sx later)
 
 -- the board's slots are the list of the state
-stands_list : (block : StrandBlock) (g : Going) (strands : List Strand) (flags : List Bool) (xs : Slots) → Stands block g strands flags xs → xs ≡ slots g
+stands_list : (block : StrandBlock) (g : Going) (strands : List Strand) (flags : List Bool) (xs : Slots) → RepresentsBlock block g strands flags xs → xs ≡ slots g
 stands_list block g strands flags xs h =
     let n = shown_size (left_at xs) (flag_at flags) h.shows in
     let f = shown_fits (left_at xs) (flag_at flags) h.shows in
@@ -223,7 +223,7 @@ stands_list block g strands flags xs h =
 
 -- several steps at once
 pub stands_run : (block : StrandBlock) (g : Going) (strands : List Strand) (flags : List Bool) (xs xs' : Slots) (p n : ℕ) → ((g : Going) → ShowsBoard g) →
-    Stands block g strands flags xs → xs' ≡ run_slots p n xs → Stands block (run p n g) strands flags xs'
+    RepresentsBlock block g strands flags xs → xs' ≡ run_slots p n xs → RepresentsBlock block (run p n g) strands flags xs'
 stands_run block g strands flags xs xs' p n shows h e =
     let list : xs' ≡ slots (run p n g) = e ∙ ap (run_slots p n) (stands_list block g strands flags xs h) ∙ (shows g).runs p n in
     let size' = run_size (left_at xs) (flag_at flags) p n h.shows in
@@ -289,13 +289,13 @@ reaches f o count begins (Fork n c r a) h l k u t =
 length_planned : (block : StrandBlock) (strands : List Strand) → strands ≡ strands_of w.Start block → length strands ≡ size block
 length_planned block strands e = ap length e ∙ length-strands w.Start block
 
-pub stands_reaches : (block : StrandBlock) (g : Going) (strands : List Strand) (flags : List Bool) (xs : Slots) (next : ℕ) → Stands block g strands flags xs →
+pub stands_reaches : (block : StrandBlock) (g : Going) (strands : List Strand) (flags : List Bool) (xs : Slots) (next : ℕ) → RepresentsBlock block g strands flags xs →
     1 ≤ next → next < length strands → Reaches (strand_at strands next).begins next (length strands)
 stands_reaches block g strands flags xs next h low high =
     let n = length_planned block strands h.planned in
     reaches (strand_at strands) 0 (length strands) w.Start block (plan_of block strands h.planned) (omega (arith, n)) next (omega (arith, low)) (omega (arith, high, n))
 
-pub stands_lengths : (block : StrandBlock) (g : Going) (strands : List Strand) (flags : List Bool) (xs : Slots) → Stands block g strands flags xs →
+pub stands_lengths : (block : StrandBlock) (g : Going) (strands : List Strand) (flags : List Bool) (xs : Slots) → RepresentsBlock block g strands flags xs →
     (length strands ≡ size block) × ((length flags ≡ length strands) × (length xs ≡ length strands))
 stands_lengths block g strands flags xs h =
     let n = length_planned block strands h.planned in (n, (omega (arith, n, h.flags_are), omega (arith, n, h.places)))
@@ -436,14 +436,14 @@ done_at [] i e = cc
 done_at (x ∷ xs) zero e = same_Some x (Some 0) e
 done_at (x ∷ xs) (suc i) e = done_at xs i e
 
-after_taking : (block : StrandBlock) (g : Going) (strands : List Strand) (flags flags' : List Bool) (xs ys' : Slots) (i : ℕ) → Stands block g strands flags xs →
+after_taking : (block : StrandBlock) (g : Going) (strands : List Strand) (flags flags' : List Bool) (xs ys' : Slots) (i : ℕ) → RepresentsBlock block g strands flags xs →
     length ys' ≡ length xs → length flags' ≡ length flags →
     Outcome (left_at xs) (flag_at flags) (left_at ys') (flag_at flags') 0 block g i → Takes block g strands flags' ys'
 after_taking block g strands flags flags' xs ys' i h n m (over o e idle unset) = s.over o
 after_taking block g strands flags flags' xs ys' i h n m (on g' r lt sx below above) =
     s.on g' r (record { planned = h.planned; flags_are = m ∙ h.flags_are; places = n ∙ h.places; shows = sx })
 
-pub takes_on : (block : StrandBlock) (g : Going) (strands : List Strand) (flags flags' : List Bool) (xs ys ys' : Slots) (i : ℕ) → Stands block g strands flags xs →
+pub takes_on : (block : StrandBlock) (g : Going) (strands : List Strand) (flags flags' : List Bool) (xs ys ys' : Slots) (i : ℕ) → RepresentsBlock block g strands flags xs →
     slice_get xs i ≡ Some (Some 0) → ys ≡ set xs i None → i + 1 < length strands → Puts strands (i + 1) flags ys flags' ys' → Takes block g strands flags' ys'
 takes_on block g strands flags flags' xs ys ys' i h z e l put =
     let n = stands_lengths block g strands flags xs h in
@@ -463,7 +463,7 @@ last_outcome : (block : StrandBlock) (g : Going) (strands : List Strand) (flags 
 last_outcome block g strands flags flags' xs ys' i l (over o e idle unset) = s.over o
 last_outcome block g strands flags flags' xs ys' i l (on g' r lt sx below above) = absurd (omega (arith, l, lt))
 
-pub takes_last : (block : StrandBlock) (g : Going) (strands : List Strand) (flags : List Bool) (xs ys : Slots) (i : ℕ) → Stands block g strands flags xs →
+pub takes_last : (block : StrandBlock) (g : Going) (strands : List Strand) (flags : List Bool) (xs ys : Slots) (i : ℕ) → RepresentsBlock block g strands flags xs →
     slice_get xs i ≡ Some (Some 0) → length strands ≤ i + 1 → Takes block g strands flags ys
 takes_last block g strands flags xs ys i h z l =
     let n = stands_lengths block g strands flags xs h in
@@ -474,14 +474,14 @@ takes_last block g strands flags xs ys i h z l =
 
 -- a strand is ready
 pub some_ready : (block : StrandBlock) (g : Going) (strands : List Strand) (flags : List Bool) (xs : Slots) → ((g : Going) → ShowsBoard g) →
-    Stands block g strands flags xs → 1 ≤ ready_slots xs
+    RepresentsBlock block g strands flags xs → 1 ≤ ready_slots xs
 some_ready block g strands flags xs shows h =
     let e = ap ready_slots (stands_list block g strands flags xs h) in
     omega (arith, e, (shows g).counts, some_on_board g)
 
 -- the state of the loop
 pub data Advanced (p : ℕ) (block : StrandBlock) (taken steps : ℕ) (strands : List Strand) (flags : List Bool) (xs : Slots) : Type 0 where
-  advanced : (g : Going) → Stands block g strands flags xs → waiting g + taken ≡ size block → IsAfter p steps (start block) g
+  advanced : (g : Going) → RepresentsBlock block g strands flags xs → waiting g + taken ≡ size block → IsAfter p steps (start block) g
       → Advanced p block taken steps strands flags xs
 
 pub begins_counting : (p : ℕ) (block : StrandBlock) (strands : List Strand) (flags : List Bool) (xs : Slots) → Begun p block strands flags xs → Counts p block 0 0 strands flags xs
@@ -497,14 +497,14 @@ still_going p block taken steps strands flags xs l (s.ended e d) = absurd (omega
 pub advances_on : (p : ℕ) (block : StrandBlock) (taken steps more : ℕ) (strands : List Strand) (flags : List Bool) (xs ys : Slots) → ((g : Going) → ShowsBoard g) → RoundsKeep p →
     Advanced p block taken steps strands flags xs → Advances p more xs ys → Advanced p block taken (steps + more) strands flags ys
 advances_on p block taken steps more strands flags xs ys shows keep (advanced g h n a) (stays e d) =
-    advanced g (subst (λ zs. Stands block g strands flags zs) (sym d) h) n (omega (arith, a, e))
+    advanced g (subst (λ zs. RepresentsBlock block g strands flags zs) (sym d) h) n (omega (arith, a, e))
 advances_on p block taken steps more strands flags xs ys shows keep (advanced g h n a) (runs left room e) =
     let list = stands_list block g strands flags xs h in
     let jump = keep.jumps g more (subst EachLeft list left) (subst (RoomFor p more) list room) in
     advanced (run p more g) (stands_run block g strands flags xs ys p more shows h e) (omega (arith, n, run_waits p more g)) (omega (arith, a, jump))
 
 pub takes_off : (p : ℕ) (block : StrandBlock) (taken steps : ℕ) (strands : List Strand) (flags flags' : List Bool) (xs ys : Slots) → RoundsKeep p →
-    Advanced p block taken steps strands flags xs → ((g : Going) → Stands block g strands flags xs → Takes block g strands flags' ys) →
+    Advanced p block taken steps strands flags xs → ((g : Going) → RepresentsBlock block g strands flags xs → Takes block g strands flags' ys) →
     Counts p block (taken + 1) steps strands flags' ys
 takes_off p block taken steps strands flags flags' xs ys keep (advanced g h n a) f = by_taking (f g h)
   where
@@ -524,7 +524,7 @@ steps_fit p block taken steps strands flags xs (advanced g h n a) = omega (arith
 
 -- the first strand is added to an empty board
 pub starts : (block : StrandBlock) (strands : List Strand) (flags : List Bool) (xs : Slots) → strands ≡ strands_of w.Start block → flags ≡ replicate (length strands) false →
-    xs ≡ set (nones (length strands)) 0 (Some (strand_at strands 0).weight) → Stands block (start block) strands flags xs
+    xs ≡ set (nones (length strands)) 0 (Some (strand_at strands 0).weight) → RepresentsBlock block (start block) strands flags xs
 starts block strands flags xs planned e d =
     let n = length_planned block strands planned in
     let m = length-nones (length strands) in
@@ -565,7 +565,7 @@ pub advanced_ready : (p : ℕ) (block : StrandBlock) (taken steps : ℕ) (strand
 advanced_ready p block taken steps strands flags xs shows (advanced g h n a) = some_ready block g strands flags xs shows h
 
 pub advanced_state : (p : ℕ) (block : StrandBlock) (taken steps : ℕ) (strands : List Strand) (flags : List Bool) (xs : Slots) →
-    Advanced p block taken steps strands flags xs → (g : Going) × Stands block g strands flags xs
+    Advanced p block taken steps strands flags xs → (g : Going) × RepresentsBlock block g strands flags xs
 advanced_state p block taken steps strands flags xs (advanced g h n a) = (g, h)
 
 if_at_most : (n m most : ℕ) → m ≤ most → if_done n 0 (suc m) ≤ suc most

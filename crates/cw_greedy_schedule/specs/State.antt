@@ -53,7 +53,7 @@ waiting (Rest ended rest after) = waiting rest + size after
 waiting (After ended g) = waiting g
 
 -- strands, flags of joins and slots represent a state of a block
-pub record Stands (block : StrandBlock) (g : Going) (strands : List Strand) (flags : List Bool) (slots : Slots) : Type 0 where
+pub record RepresentsBlock (block : StrandBlock) (g : Going) (strands : List Strand) (flags : List Bool) (slots : Slots) : Type 0 where
   pub planned : strands ≡ strands_of w.Start block
   pub flags_are : length flags ≡ size block
   pub places : length slots ≡ size block
@@ -62,12 +62,12 @@ pub record Stands (block : StrandBlock) (g : Going) (strands : List Strand) (fla
 -- a strand is removed: it is the last one, or the next state is represented
 pub data Takes (block : StrandBlock) (g : Going) (strands : List Strand) (flags : List Bool) (slots : Slots) : Type 0 where
   over : IsOver g → Takes block g strands flags slots
-  on : (g' : Going) → Released g g' → Stands block g' strands flags slots → Takes block g strands flags slots
+  on : (g' : Going) → Released g g' → RepresentsBlock block g' strands flags slots → Takes block g strands flags slots
 
 -- after some strands and steps: a state is represented, or all strands are done
 pub data Counts (processors : ℕ) (block : StrandBlock) (taken steps : ℕ) (strands : List Strand) (flags : List Bool)
     (slots : Slots) : Type 0 where
-  going : (g : Going) → Stands block g strands flags slots → waiting g + taken ≡ size block →
+  going : (g : Going) → RepresentsBlock block g strands flags slots → waiting g + taken ≡ size block →
       IsAfter processors steps (start block) g
       → Counts processors block taken steps strands flags slots
   ended : taken ≡ size block → greedy_length processors (to_do (start block)) ≡ steps →
@@ -76,7 +76,7 @@ pub data Counts (processors : ℕ) (block : StrandBlock) (taken steps : ℕ) (st
 -- the first state of a block, whose schedule length fits in 64 bits
 pub record Begun (processors : ℕ) (block : StrandBlock) (strands : List Strand) (flags : List Bool) (slots : Slots) : Type 0
   where
-    pub stands : Stands block (start block) strands flags slots
+    pub stands : RepresentsBlock block (start block) strands flags slots
     pub fits : greedy_length processors (to_do (start block)) < 18446744073709551616
 
 -- the number of steps is within the bounds of a greedy schedule: at least what work and span need, and at most both

@@ -11,7 +11,7 @@ ghost use Rattle.cw_greedy_schedule.specs.declared.plan.Begins.TheVariants.{Star
 ghost use Rattle.cw_greedy_schedule.specs.Planned.{strands_of};
 ghost use Rattle.cw_greedy.specs.Records.{IsRecordOf};
 ghost use Rattle.cw_greedy_schedule.specs.Boards.{least_slot};
-ghost use Rattle.cw_greedy_schedule.specs.State.{flag_at, strand_at, Begun, IsWithin, Puts, Reaches, Stands, Takes};
+ghost use Rattle.cw_greedy_schedule.specs.State.{flag_at, strand_at, Begun, IsWithin, Puts, Reaches, RepresentsBlock, Takes};
 
 use crate::plan::{Begins, Strand, plan};
 use crate::ready::Ready;
@@ -61,9 +61,9 @@ fn release(strands: &[Strand], flags: &mut [bool], board: &mut Ready, next: usiz
 // Removes a ready strand that has no instruction left.
 fn take(strands: &[Strand], flags: &mut [bool], board: &mut Ready)
     requires state { (block : StrandBlock)
-        × ((g : Going) × Stands block g strands.now flags.old board.old) }
+        × ((g : Going) × RepresentsBlock block g strands.now flags.old board.old) }
     requires done { least_slot board.old ≡ Some 0 }
-    ensures { (block : StrandBlock) (g : Going) → Stands block g strands.now flags.old board.old
+    ensures { (block : StrandBlock) (g : Going) → RepresentsBlock block g strands.now flags.old board.old
         → Takes block g strands.now flags.new board.new }
 {
     let count = strands.len();

@@ -20,7 +20,7 @@ use Rattle.cw_meter.specs.declared.meter.Measures.{Measures}
 use Rattle.cw_meter.specs.Origins.{Origin, Main, Rest, first_open}
 use Rattle.cw_meter.specs.Meters.{Meters, InstructionsNeedNoCall, Rests}
 use Rattle.cw_meter.specs.Whole.{Reads}
-use Rattle.cw_code.specs.Jobs.{Extent, WholeCall, ToJoin, joins, has_come, Standing, standing, Came, Arrives, Returns, Falls, Beyond, Lost, moved, travel}
+use Rattle.cw_code.specs.Jobs.{Extent, WholeCall, ToJoin, joins, has_come, JoinFrame, standing, Came, Arrives, Returns, Falls, Beyond, Lost, moved, travel}
 use Rattle.cw_code.specs.Jobs.{course, IsOf, Same, Passed, Short, Job, job_start, root_job, Effect, Ended, Joined, OverLimit, JobMeaning}
 use Rattle.cw_code.specs.Strands.{Strand, Going, Waits, Halted, Turn, Goes, HandsOut, ComesBack, turn, goes_on, resumed}
 use Rattle.cw_code.specs.Promises.{IsStrandOf}
@@ -28,8 +28,8 @@ use Rattle.cw_code.specs.RestLaws.{RootsAreSerial}
 use Rattle.cw_code.specs.Steps.{AdvanceKeeps, CallsKeep, advance, finished, turned, went_on}
 use Rattle.cw_code.specs.Steps as steps
 use Rattle.cw_code.specs.lemmas.First.{first_is}
-use Rattle.cw_jobs.specs.Opens.{opens_round, whole, Gauge, IsToldOf}
-use Rattle.cw_jobs.specs.Strands.{site_at, StartsFrom, Metered, Started, Ran, TakenBack, Given, TellsStrand, TellsAll, MeansMeasured, MetersKeep}
+use Rattle.cw_jobs.specs.Opens.{opens_round, whole, Gauge, IsNotifiedOf}
+use Rattle.cw_jobs.specs.Strands.{site_at, StartsFrom, Metered, Started, Ran, TakenBack, Given, TracksStrand, TracksAll, MeansMeasured, MetersKeep}
 use Rattle.cw_jobs.specs.Strands.{CallsKeepMeters, StrandsTell, MetersTellStrands, IsMeasured, RootsAreMeasured, RestsHaveNoJoins}
 use Rattle.cw_jobs.proofs.Joinless.{Joinless, stays_joinless}
 use Rattle.cw_jobs.proofs.Joinless as joinless
@@ -67,14 +67,14 @@ module _ (code : Code) where
   trace_of (Joined frame t cost) = t.events
   trace_of _ = []
 
-  none_is : (c : Came) (n : ℕ) (frame : Standing) (t : Trace) (cost : ℕ) → NoneShown c → IsOf c n (Joined frame t cost) → no_joins t.events ≡ true
+  none_is : (c : Came) (n : ℕ) (frame : JoinFrame) (t : Trace) (cost : ℕ) → NoneShown c → IsOf c n (Joined frame t cost) → no_joins t.events ≡ true
   none_is (Arrives f u left) n frame t cost h e = let P : List Event → Type 0 = λ x. no_joins x ≡ true in subst P (sym (ap trace_of e)) h
   none_is (Returns v arrays u left) n frame t cost h e = cc
   none_is (Falls trap line lines left) n frame t cost h e = cc
   none_is Beyond n frame t cost h e = cc
   none_is Lost n frame t cost h e = absurd e
 
-  pub no_joins_in : (job : Job) (frame : Standing) (t : Trace) (cost : ℕ) → job.extent ≡ ToJoin → JobMeaning code job (Joined frame t cost) → no_joins t.events ≡ true
+  pub no_joins_in : (job : Job) (frame : JoinFrame) (t : Trace) (cost : ℕ) → job.extent ≡ ToJoin → JobMeaning code job (Joined frame t cost) → no_joins t.events ≡ true
   no_joins_in job frame t cost x (Same e) =
       let P : Extent → Type 0 = λ y. NoneShown (travel y code job.limit (job_start job)) in
       none_is (course code job job.limit) job.limit frame t cost (subst P (sym x) (travels job.limit (job_start job) refl)) e
@@ -87,7 +87,7 @@ rests_have_no_joins = λ code job frame t cost x m. no_joins_in code job frame t
 -- the meter of a strand after an instruction
 goes_told : {code : Code} (g : Gauge code) (from : Origin) (t : Turn) (s s' : State) (limit before count : ℕ) (outs : List Job) (m : Meter)
     → HasSpawnedWhere t s' → Meters g.detail g.tags from count (opens_round from s'.around) s'.trace.events m
-    → TellsStrand code g from (goes_on t s s' limit before count outs) m
+    → TracksStrand code g from (goes_on t s s' limit before count outs) m
 goes_told g from Goes s s' limit before count outs m spawned h = h
 goes_told g from (HandsOut target taken) s s' limit before count outs m spawned h = h
 goes_told g from ComesBack s s' limit before count outs m spawned h = (h, spawned)
@@ -123,7 +123,7 @@ module _ (quiet : InstructionsNeedNoCall) (code : Code) (keep : CallsKeep code) 
       else went_on (turn code t) t (step code t) job.limit job.before (cost + 1) [])) come)
       (keep.advancing job (Going t cost []) h)
 
-  given : (job out : Job) (s : State) (count : ℕ) (outs : List Job) (frame : Standing) (t : Trace) (cost : ℕ)
+  given : (job out : Job) (s : State) (count : ℕ) (outs : List Job) (frame : JoinFrame) (t : Trace) (cost : ℕ)
       → job.before + (count + cost) ≤ job.limit → IsStrandOf code job (Waits s count (out ∷ outs)) → JobMeaning code out (Joined frame t cost)
       → IsStrandOf code job (Going (resumed s frame t) (count + cost) outs)
   given job out s count outs frame t cost le h m =
@@ -135,27 +135,27 @@ module _ (quiet : InstructionsNeedNoCall) (code : Code) (keep : CallsKeep code) 
   out_here job out s count outs h = ap (λ (j : Job). j.extent) h.2.0.same
 
   module _ (detail : Detail) where
-    pub starting : (from : Origin) (job : Job) (m : Meter) → StartsFrom from detail m → TellsAll code detail from (Going (job_start job) 0 []) m
+    pub starting : (from : Origin) (job : Job) (m : Meter) → StartsFrom from detail m → TracksAll code detail from (Going (job_start job) 0 []) m
     starting from job m starts = λ g e. let P : Detail → Type 0 = λ x. Meters x g.tags from 0 (first_open from) [] m in subst P (sym e) (starts g.tags)
 
     pub advancing : (from : Origin) (job : Job) (s s' : State) (count : ℕ) (outs : List Job) (m m' : Meter) → job.before + (count + 1) ≤ job.limit
-        → job.limit ≤ MOST_LIMIT → step code s ≡ On s' → IsToldOf m m' count (slice_get code.instrs s.place)
-        → TellsAll code detail from (Going s count outs) m → TellsAll code detail from (goes_on (turn code s) s s' job.limit job.before (count + 1) outs) m'
+        → job.limit ≤ MOST_LIMIT → step code s ≡ On s' → IsNotifiedOf m m' count (slice_get code.instrs s.place)
+        → TracksAll code detail from (Going s count outs) m → TracksAll code detail from (goes_on (turn code s) s s' job.limit job.before (count + 1) outs) m'
     advancing from job s s' count outs m m' le small e told h = λ g b.
         let less : count < MOST_LIMIT = omega (arith, le, small) in
         goes_told g from (turn code s) s s' job.limit job.before (count + 1) outs m' (waiters_have_spawned code s s' e)
         (subst (After (Telling quiet code g from count less m m') from) e (acts_told quiet code g from count less m m' s (slice_get code.instrs s.place) told (h g b)))
 
-    pub giving : (from : Origin) (job out : Job) (s : State) (count cost : ℕ) (outs : List Job) (frame : Standing) (t : Trace) (m r m' : Meter)
+    pub giving : (from : Origin) (job out : Job) (s : State) (count cost : ℕ) (outs : List Job) (frame : JoinFrame) (t : Trace) (m r m' : Meter)
         → IsStrandOf code job (Waits s count (out ∷ outs)) → job.before + (count + cost) ≤ job.limit → job.limit ≤ MOST_LIMIT
         → MeansMeasured code out detail (site_at from s.around) (Joined frame t cost) r → Rests m r m' count cost
-        → TellsAll code detail from (Waits s count (out ∷ outs)) m → TellsAll code detail from (Going (resumed s frame t) (count + cost) outs) m'
+        → TracksAll code detail from (Waits s count (out ∷ outs)) m → TracksAll code detail from (Going (resumed s frame t) (count + cost) outs) m'
     giving from job out s count cost outs frame t m r m' is le small means rests h = λ g b.
         rests g.detail g.tags from (opens_round from s.around) s.trace.events t.events (omega (arith, le, small)) g.light
         (round_open from s.around) (h g b).1 (no_joins_in code out frame t cost (out_here job out s count outs is) means.means) (h g b).0 (means.counts g b)
 
     pub arriving : (job : Job) (site : ℕ) (t : State) (cost : ℕ) (m : Meter) → IsStrandOf code job (Going t cost [])
-        → has_come job.extent code t ≡ true → TellsAll code detail (Rest site) (Going t cost []) m
+        → has_come job.extent code t ≡ true → TracksAll code detail (Rest site) (Going t cost []) m
         → MeansMeasured code job detail site (Joined (standing t) t.trace cost) m
     arriving job site t cost m is come h = record {
       means = arrived job t cost is come;
@@ -168,7 +168,7 @@ module _ (quiet : InstructionsNeedNoCall) (code : Code) (keep : CallsKeep code) 
 
     pub ending : (g : Gauge code) → g.detail ≡ detail → (s : State) (count limit : ℕ) (outs : List Job) (v : Option ℤ) (arrays : Slots (List ℤ))
         (t : Trace) (m m' : Meter) → count + 1 ≤ limit → limit ≤ MOST_LIMIT → step code s ≡ Ends v arrays t
-        → IsToldOf m m' count (slice_get code.instrs s.place) → TellsAll code detail Main (Going s count outs) m
+        → IsNotifiedOf m m' count (slice_get code.instrs s.place) → TracksAll code detail Main (Going s count outs) m
         → Meters g.detail g.tags Main (count + 1) [] (whole t) m'
     ending g b s count limit outs v arrays t m m' le small e told h =
         let less : count < MOST_LIMIT = omega (arith, le, small) in
@@ -189,7 +189,7 @@ module _ (quiet : InstructionsNeedNoCall) (code : Code) (keep : CallsKeep code) 
         given job out s count outs (standing t) t.trace cost le (serial from job (Waits s count (out ∷ outs)) m0 h)
         (arrived out t cost (serial (Rest (site_at from s.around)) out (Going t cost []) r k) come)
 
-    tells : (from : Origin) (job : Job) (strand : Strand) (m : Meter) → Metered code detail from job strand m → TellsAll code detail from strand m
+    tells : (from : Origin) (job : Job) (strand : Strand) (m : Meter) → Metered code detail from job strand m → TracksAll code detail from strand m
     tells from job strand m (Started _ _ _ is low small starts) = starting from job m starts
     tells from job strand m (Ran _ _ s s' count outs m0 _ h come e le told) =
         advancing from job s s' count outs m0 m le (limited from job (Going s count outs) m0 h) e told (tells from job (Going s count outs) m0 h)
@@ -230,7 +230,7 @@ module _ (quiet : InstructionsNeedNoCall) (code : Code) (keep : CallsKeep code) 
       (v : Option ℤ) (arrays : Slots (List ℤ)) (t : Trace) (m m' : Meter) (all : Measures) → g.detail ≡ details.Measures burden
       → first_transition (slice_get code.funcs code.main) args ≡ On (first_state f args [] [])
       → Metered code g.detail Main (root_job f args limit) (Going s count []) m → step code s ≡ Ends v arrays t → count + 1 ≤ limit
-      → IsToldOf m m' count (slice_get code.instrs s.place) → Reads m' (count + 1) sites (length code.tags) all → IsMeasured code burden args limit sites v t all
+      → IsNotifiedOf m m' count (slice_get code.instrs s.place) → Reads m' (count + 1) sites (length code.tags) all → IsMeasured code burden args limit sites v t all
   root_measured roots g burden f args limit count sites s v arrays t m m' all counts first h e le told reads =
       let job = root_job f args limit in
       let small = limited g.detail Main job (Going s count []) m h in

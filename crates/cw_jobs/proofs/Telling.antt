@@ -14,8 +14,8 @@ use Rattle.cw_meter.specs.declared.meter.Meter.{Meter}
 use Rattle.cw_meter.specs.Origins.{Origin, Main, Rest}
 use Rattle.cw_greedy.specs.Recording.{IsOpen}
 use Rattle.cw_meter.specs.Meters.{Meters, Ends, Returns, InstructionsNeedNoCall, begun, ticked}
-use Rattle.cw_jobs.specs.Opens.{opens_round, Gauge, BeginsBlock, IsTold, IsToldOf}
-use Rattle.cw_jobs.specs.lemmas.StepEvents.{After, BlockEnds, CallEnds, BlockBegins, Tells, told}
+use Rattle.cw_jobs.specs.Opens.{opens_round, Gauge, BeginsBlock, IsNotified, IsNotifiedOf}
+use Rattle.cw_jobs.specs.lemmas.StepEvents.{After, BlockEnds, CallEnds, BlockBegins, Tracks, told}
 
 -- a state of a run is before the end of the run
 pub round_open : (from : Origin) (around : List Around) → IsOpen from (opens_round from around)
@@ -45,7 +45,7 @@ module _ (quiet : InstructionsNeedNoCall) (code : Code) (g : Gauge code) (from :
         let all = g.named.count in
         subst (λ n. Telling (begun false (Some (Execution n)) es os) []) (g.named.are k tag e) (begins g.detail g.tags from os es (omega (arith, lt, all)) small g.light open_ h)
 
-    tells : (i : Instr) → IsTold m m' count i → Tells Telling from code i os es
+    tells : (i : Instr) → IsNotified m m' count i → Tracks Telling from code i os es
     tells (instr.Call kind c) e = e g.detail g.tags from os es small g.light open_ h
     tells (instr.Recur kind c) e = e g.detail g.tags from os es small g.light open_ h
     tells (instr.Start c line) e = e g.detail g.tags from os es small g.light open_ h
@@ -58,6 +58,6 @@ module _ (quiet : InstructionsNeedNoCall) (code : Code) (g : Gauge code) (from :
     tells instr.Return e = call_ends e
     tells _ e = ticks e
 
-  pub acts_told : (s : State) (o : Option Instr) → IsToldOf m m' count o → Meters g.detail g.tags from count (opens_round from s.around) s.trace.events m → After Telling from (act code s o)
+  pub acts_told : (s : State) (o : Option Instr) → IsNotifiedOf m m' count o → Meters g.detail g.tags from count (opens_round from s.around) s.trace.events m → After Telling from (act code s o)
   acts_told s None e h = absurd e
   acts_told s (Some i) e h = told Telling from code s i (tells (opens_round from s.around) s.trace.events (round_open from s.around) h i e)

@@ -23,7 +23,7 @@ cut_slots (Caller w ∷ around) = []
 cut_slots (Block o ∷ around) = slot_cut o.cut ++ cut_slots around
 
 -- the slots of a cut exist and differ, and its parts are in no slot of a parameter or of a part of an enclosing cut
-pub record CutStands (slots params : ℕ) (h : Halves) (parts : List ℕ) : Type 0 where
+pub record IsCutValid (slots params : ℕ) (h : Halves) (parts : List ℕ) : Type 0 where
   pub array_there : h.array < slots
   pub left_there : h.left < slots
   pub right_there : h.right < slots
@@ -33,16 +33,16 @@ pub record CutStands (slots params : ℕ) (h : Halves) (parts : List ℕ) : Type
   pub left_own : params ≤ h.left
   pub right_own : params ≤ h.right
 
-abbrev pub CutStandsIn : (slots params : ℕ) → Option Halves → (parts : List ℕ) → Type 0
-CutStandsIn slots params None parts = Unit {0}
-CutStandsIn slots params (Some h) parts = CutStands slots params h parts
+abbrev pub IsCutValidIn : (slots params : ℕ) → Option Halves → (parts : List ℕ) → Type 0
+IsCutValidIn slots params None parts = Unit {0}
+IsCutValidIn slots params (Some h) parts = IsCutValid slots params h parts
 
--- each open cut of a call with `slots` array slots and `params` parameters satisfies `CutStands`
-abbrev pub CutsStand : (slots params : ℕ) → List Around → Type 0
-CutsStand slots params [] = Unit {0}
-CutsStand slots params (Caller w ∷ around) = Unit {0}
-CutsStand slots params (Block o ∷ around) =
-    CutStandsIn slots params o.cut (parts_round around) × CutsStand slots params around
+-- each open cut of a call with `slots` array slots and `params` parameters satisfies `IsCutValid`
+abbrev pub AreCutsValid : (slots params : ℕ) → List Around → Type 0
+AreCutsValid slots params [] = Unit {0}
+AreCutsValid slots params (Caller w ∷ around) = Unit {0}
+AreCutsValid slots params (Block o ∷ around) =
+    IsCutValidIn slots params o.cut (parts_round around) × AreCutsValid slots params around
 
 -- the slices of these slots have no numbers
 abbrev pub AreNone : List Placed → List ℕ → Type 0

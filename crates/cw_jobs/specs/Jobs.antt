@@ -28,7 +28,7 @@ use Rattle.cw_jobs.specs.declared.call.Rest.{Rest as Frame}
 use Rattle.cw_text.specs.declared.fault.Fault.{Fault}
 use Rattle.cw_text.specs.declared.fault.Fault.TheVariants as fault
 use Rattle.cw_jobs.specs.Calls.{cell, placed, LiesAs, HoldsCall}
-use Rattle.cw_jobs.specs.Cuts.{cut_slots, CutsStand, AreNone, AreThere, RoundThere}
+use Rattle.cw_jobs.specs.Cuts.{cut_slots, AreCutsValid, AreNone, AreThere, RoundThere}
 -- only sync blocks of the same call are open, no call
 pub use Rattle.cw_code.specs.Frozen.{AreBlocks}
 
@@ -92,7 +92,7 @@ pub record IsJob (v : Verified) (ok : Ok v) (p : Parts) (j : Job) : Type 0 where
   pub own : OwnsSlots v ok j.place p.rest.slices.items j.arrays
   pub bare : AreNone p.rest.slices.items (cut_slots base.around)
   pub cuts : (seat : Seat (code_view v.code) ok.fits j.place) →
-      CutsStand (length j.arrays) seat.func.array_params base.around
+      AreCutsValid (length j.arrays) seat.func.array_params base.around
   pub there : AreThere (length j.slots) base.results × AreThere (length j.arrays) base.arrived
       × RoundThere (length j.slots) (length j.arrays) base.around
   pub outermost : j.extent ≡ WholeCall → IsOutermost base

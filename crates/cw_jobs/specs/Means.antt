@@ -31,17 +31,17 @@ IsGivenUp (effect.GivenUp back) = Unit {0}
 IsGivenUp _ = ⊥
 
 -- an effect represents one of the definitions; a job that was given up is represented like one that ran out of memory
-abbrev pub Tells : (code : Code) → jobs.Job → Rest → Effect → jobs.Effect → Type 0
-Tells code j r (effect.Ended value shown) (jobs.Ended x arrays t cost) =
+abbrev pub Tracks : (code : Code) → jobs.Job → Rest → Effect → jobs.Effect → Type 0
+Tracks code j r (effect.Ended value shown) (jobs.Ended x arrays t cost) =
     (j.extent ≡ jobs.WholeCall) × (value ≡ x) × HasShown code shown t cost
-Tells code j r (effect.Joined back replaced shown) (jobs.Joined frame t cost) =
+Tracks code j r (effect.Joined back replaced shown) (jobs.Joined frame t cost) =
     HoldsFrame back frame × KeepsEmpty j r back replaced.items × HasShown code shown t cost
-Tells code j r (effect.Trapped c l lines n back) (jobs.TrapIn trap line lines' cost) =
+Tracks code j r (effect.Trapped c l lines n back) (jobs.TrapIn trap line lines' cost) =
     (c ≡ trap) × (l ≡ line) × (lines.items ≡ lines') × (n ≡ cost)
-Tells code j r (effect.OverLimit back) jobs.OverLimit = Unit {0}
-Tells code j r (effect.Memory back) jobs.Memory = Unit {0}
-Tells code j r (effect.GivenUp back) jobs.Memory = Unit {0}
-Tells code j r _ _ = ⊥
+Tracks code j r (effect.OverLimit back) jobs.OverLimit = Unit {0}
+Tracks code j r (effect.Memory back) jobs.Memory = Unit {0}
+Tracks code j r (effect.GivenUp back) jobs.Memory = Unit {0}
+Tracks code j r _ _ = ⊥
 
 -- the meter of an effect measures what the effect contains, as far as its job records it: for a whole run with the
 -- call of `main` as its only event, for a continuation with the events of its block
@@ -54,23 +54,23 @@ Counts code detail site _ _ = Unit {0}
 
 -- the arrays that an effect returns are in their places; the arrays of a whole call are its own, and nothing is
 -- stated about them for a run without enough memory
-abbrev pub ComeHome : (v : Verified) → Ok v → jobs.Job → Rest → Effect → Type 0
-ComeHome v ok j r (effect.Ended value shown) = Unit {0}
-ComeHome v ok j r (effect.Joined back replaced shown) =
+abbrev pub AreReturned : (v : Verified) → Ok v → jobs.Job → Rest → Effect → Type 0
+AreReturned v ok j r (effect.Ended value shown) = Unit {0}
+AreReturned v ok j r (effect.Joined back replaced shown) =
     KeepsHomes r.slices.items back.slices.items replaced.items × KeepsFixed v ok j.place replaced.items
-ComeHome v ok j r (effect.Trapped c l lines n back) = KeepsHomes r.slices.items back.items []
-ComeHome v ok j r (effect.OverLimit back) = KeepsHomes r.slices.items back.items []
-ComeHome v ok j r (effect.Memory back) = Unit {0}
-ComeHome v ok j r (effect.GivenUp back) = KeepsHomes r.slices.items back.items []
+AreReturned v ok j r (effect.Trapped c l lines n back) = KeepsHomes r.slices.items back.items []
+AreReturned v ok j r (effect.OverLimit back) = KeepsHomes r.slices.items back.items []
+AreReturned v ok j r (effect.Memory back) = Unit {0}
+AreReturned v ok j r (effect.GivenUp back) = KeepsHomes r.slices.items back.items []
 
 -- some effect of the definitions means the job; this effect represents that one, with its measures, and returns the
 -- job's arrays
 pub record MeansIt (v : Verified) (ok : Ok v) (p : Parts) (e : Effect) (j : jobs.Job) : Type 0 where
   pub effect : jobs.Effect
   pub means : jobs.JobMeaning (code_view v.code) j effect
-  pub tells : Tells (code_view v.code) j p.rest e effect
+  pub tells : Tracks (code_view v.code) j p.rest e effect
   pub counts : Counts (code_view v.code) p.detail p.site e effect
-  pub homes : ComeHome v ok j p.rest e
+  pub homes : AreReturned v ok j p.rest e
 
 -- AN EFFECT MEANS A JOB, whichever job of the definitions the job represents: in the job's own code, and depending
 -- only on the values of the two

@@ -20,12 +20,12 @@ use Rattle.cw_meter.specs.declared.meter.Measures.{Measures}
 use Rattle.cw_meter.specs.Origins.{Origin, Main, Rest, base_of, first_open}
 use Rattle.cw_meter.specs.Meters.{Meters, Rests}
 use Rattle.cw_meter.specs.Whole.{AreMeasures, Reads}
-use Rattle.cw_code.specs.Jobs.{Extent, WholeCall, ToJoin, has_come, Standing, standing, Job, job_start, root_job}
+use Rattle.cw_code.specs.Jobs.{Extent, WholeCall, ToJoin, has_come, JoinFrame, standing, Job, job_start, root_job}
 use Rattle.cw_code.specs.Jobs.{Effect, Ended, Joined, TrapIn, OverLimit, Memory, JobMeaning}
 use Rattle.cw_code.specs.Strands.{Strand, Going, Waits, Halted, Turn, Goes, HandsOut, ComesBack, turn, goes_on}
 use Rattle.cw_code.specs.Strands.{resumed}
 use Rattle.cw_code.specs.Promises.{IsStrandOf}
-use Rattle.cw_jobs.specs.Opens.{opens_round, whole, Gauge, IsToldOf}
+use Rattle.cw_jobs.specs.Opens.{opens_round, whole, Gauge, IsNotifiedOf}
 
 -- a strand of a whole run has the meter of a run, and a strand of a continuation has the meter of a continuation
 abbrev pub IsFrom : Origin → Extent → Type 0
@@ -44,17 +44,17 @@ site_at from around = here_in (base_of from) (opens_round from around)
 
 -- the meter of a strand represents the run up to the strand's state; if the strand waits, its block has spawned; the
 -- meter of a strand that stopped is meaningless
-abbrev pub TellsStrand : (code : Code) → Gauge code → Origin → Strand → Meter → Type 0
-TellsStrand code g from (Going s count outs) m =
+abbrev pub TracksStrand : (code : Code) → Gauge code → Origin → Strand → Meter → Type 0
+TracksStrand code g from (Going s count outs) m =
     Meters g.detail g.tags from count (opens_round from s.around) s.trace.events m
-TellsStrand code g from (Waits s count outs) m =
+TracksStrand code g from (Waits s count outs) m =
     Meters g.detail g.tags from count (opens_round from s.around) s.trace.events m
     × (has_spawned s.trace.events ≡ true)
-TellsStrand code g from (Halted e outs) m = Unit {0}
+TracksStrand code g from (Halted e outs) m = Unit {0}
 
 -- the meter represents the run for every numbering of the code's tags
-abbrev pub TellsAll : (code : Code) → Detail → Origin → Strand → Meter → Type 0
-TellsAll code detail from strand m = (g : Gauge code) → g.detail ≡ detail → TellsStrand code g from strand m
+abbrev pub TracksAll : (code : Code) → Detail → Origin → Strand → Meter → Type 0
+TracksAll code detail from strand m = (g : Gauge code) → g.detail ≡ detail → TracksStrand code g from strand m
 
 -- the effect of a continuation comes with a meter that represents the effect's trace
 abbrev pub CountsEffect : (code : Code) → Detail → (site : ℕ) → Effect → Meter → Type 0
@@ -74,36 +74,36 @@ pub record MeansMeasured (code : Code) (job : Job) (detail : Detail) (site : ℕ
 -- the operations on a strand and on its meter preserve that the meter represents the run
 pub record MetersKeep (code : Code) (detail : Detail) : Type 0 where
   pub starting : (from : Origin) (job : Job) (m : Meter) → StartsFrom from detail m
-      → TellsAll code detail from (Going (job_start job) 0 []) m
+      → TracksAll code detail from (Going (job_start job) 0 []) m
   -- an instruction, which the meter receives
   pub advancing : (from : Origin) (job : Job) (s s' : State) (count : ℕ) (outs : List Job) (m m' : Meter)
       → job.before + (count + 1) ≤ job.limit → job.limit ≤ MOST_LIMIT → step code s ≡ On s'
-      → IsToldOf m m' count (slice_get code.instrs s.place)
-      → TellsAll code detail from (Going s count outs) m
-      → TellsAll code detail from (goes_on (turn code s) s s' job.limit job.before (count + 1) outs) m'
+      → IsNotifiedOf m m' count (slice_get code.instrs s.place)
+      → TracksAll code detail from (Going s count outs) m
+      → TracksAll code detail from (goes_on (turn code s) s s' job.limit job.before (count + 1) outs) m'
   -- the continuation of a call that ended was taken back, and nobody had executed it: nothing happens
   pub taking_back : (from : Origin) (out : Job) (s : State) (count : ℕ) (outs : List Job) (m : Meter)
-      → TellsAll code detail from (Waits s count (out ∷ outs)) m → TellsAll code detail from (Going s count outs) m
+      → TracksAll code detail from (Waits s count (out ∷ outs)) m → TracksAll code detail from (Going s count outs) m
   -- a strand whose meter knew only the site executed the continuation up to its join
-  pub giving : (from : Origin) (job out : Job) (s : State) (count cost : ℕ) (outs : List Job) (frame : Standing)
+  pub giving : (from : Origin) (job out : Job) (s : State) (count cost : ℕ) (outs : List Job) (frame : JoinFrame)
       (t : Trace) (m r m' : Meter)
       → IsStrandOf code job (Waits s count (out ∷ outs)) → job.before + (count + cost) ≤ job.limit
       → job.limit ≤ MOST_LIMIT
       → MeansMeasured code out detail (site_at from s.around) (Joined frame t cost) r → Rests m r m' count cost
-      → TellsAll code detail from (Waits s count (out ∷ outs)) m
-      → TellsAll code detail from (Going (resumed s frame t) (count + cost) outs) m'
+      → TracksAll code detail from (Waits s count (out ∷ outs)) m
+      → TracksAll code detail from (Going (resumed s frame t) (count + cost) outs) m'
   -- a continuation reached its join
   pub arriving : (job : Job) (site : ℕ) (t : State) (cost : ℕ) (m : Meter) → IsStrandOf code job (Going t cost [])
       → has_come job.extent code t ≡ true
-      → TellsAll code detail (Rest site) (Going t cost []) m
+      → TracksAll code detail (Rest site) (Going t cost []) m
       → MeansMeasured code job detail site (Joined (standing t) t.trace cost) m
   -- a whole run ends with an instruction, which the meter receives
   pub ending : (g : Gauge code) → g.detail ≡ detail
       → (s : State) (count limit : ℕ) (outs : List Job) (v : Option ℤ) (arrays : Slots (List ℤ)) (t : Trace)
       (m m' : Meter)
       → count + 1 ≤ limit → limit ≤ MOST_LIMIT → step code s ≡ Ends v arrays t
-      → IsToldOf m m' count (slice_get code.instrs s.place)
-      → TellsAll code detail Main (Going s count outs) m → Meters g.detail g.tags Main (count + 1) [] (whole t) m'
+      → IsNotifiedOf m m' count (slice_get code.instrs s.place)
+      → TracksAll code detail Main (Going s count outs) m → Meters g.detail g.tags Main (count + 1) [] (whole t) m'
 
 -- for all code and every level of detail, `MetersKeep` holds
 abbrev pub CallsKeepMeters : Type 0
@@ -117,7 +117,7 @@ pub data Metered (code : Code) (detail : Detail) : (from : Origin) (job : Job) �
   Ran : (from : Origin) (job : Job) (s s' : State) (count : ℕ) (outs : List Job) (m m' : Meter)
       → Metered code detail from job (Going s count outs) m → has_come job.extent code s ≡ false → step code s ≡ On s'
       → job.before + (count + 1) ≤ job.limit
-      → IsToldOf m m' count (slice_get code.instrs s.place)
+      → IsNotifiedOf m m' count (slice_get code.instrs s.place)
       → Metered code detail from job (goes_on (turn code s) s s' job.limit job.before (count + 1) outs) m'
   TakenBack : (from : Origin) (job out : Job) (s : State) (count : ℕ) (outs : List Job) (m : Meter)
       → Metered code detail from job (Waits s count (out ∷ outs)) m
@@ -134,7 +134,7 @@ pub record StrandsTell (code : Code) (detail : Detail) : Type 0 where
   pub serial : (from : Origin) (job : Job) (strand : Strand) (m : Meter) → Metered code detail from job strand m
       → IsStrandOf code job strand
   pub told : (from : Origin) (job : Job) (strand : Strand) (m : Meter) → Metered code detail from job strand m
-      → TellsAll code detail from strand m
+      → TracksAll code detail from strand m
 
 -- for all code and every level of detail, `StrandsTell` holds
 abbrev pub MetersTellStrands : Type 0
@@ -183,12 +183,12 @@ RootsAreMeasured =
     → g.detail ≡ details.Measures burden
     → first_transition (slice_get code.funcs code.main) args ≡ On (first_state f args [] [])
     → Metered code g.detail Main (root_job f args limit) (Going s count []) m
-    → step code s ≡ Ends v arrays t → count + 1 ≤ limit → IsToldOf m m' count (slice_get code.instrs s.place)
+    → step code s ≡ Ends v arrays t → count + 1 ≤ limit → IsNotifiedOf m m' count (slice_get code.instrs s.place)
     → Reads m' (count + 1) sites (length code.tags) all
     → IsMeasured code burden args limit sites v t all
 
 -- up to its join, the block in which a continuation begins has no join
 abbrev pub RestsHaveNoJoins : Type 0
 RestsHaveNoJoins =
-    (code : Code) (job : Job) (frame : Standing) (t : Trace) (cost : ℕ) → job.extent ≡ ToJoin
+    (code : Code) (job : Job) (frame : JoinFrame) (t : Trace) (cost : ℕ) → job.extent ≡ ToJoin
     → JobMeaning code job (Joined frame t cost) → no_joins t.events ≡ true

@@ -21,9 +21,9 @@ kept (total.Sum v) = total.Sum (wrapped v)
 kept (total.Max v) = total.Max v
 
 -- the total of a reducer before its first value
-abbrev pub nothing_told : Reduction → Total
-nothing_told Sum = total.Sum (pos 0)
-nothing_told Max = total.Max None
+abbrev pub empty_total : Reduction → Total
+empty_total Sum = total.Sum (pos 0)
+empty_total Max = total.Max None
 
 -- the maximum of two values, of which either may be absent
 abbrev pub greater : Option ℤ → Option ℤ → Option ℤ
@@ -42,8 +42,8 @@ told (total.Sum v) w = total.Sum (wrapped (v +ℤ w))
 told (total.Max v) w = total.Max (Some (or_greater w v))
 
 -- the totals of reducers before their first values
-abbrev pub none_told : List Reducer → List Total
-none_told reducers = map (λ r. nothing_told r.how) reducers
+abbrev pub empty_totals : List Reducer → List Total
+empty_totals reducers = map (λ r. empty_total r.how) reducers
 
 -- each value of an update has 64 bits
 abbrev pub AllFit : List (Name × ℤ) → Type 0

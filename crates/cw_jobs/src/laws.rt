@@ -13,7 +13,7 @@ use cw_meter::laws::instructions_need_no_call;
 
 /// States that the operations on a strand and on its meter preserve that the meter represents the serial run of the
 /// strand's job so far.
-pub fn calls_keep_what_meters_tell()
+pub fn calls_keep_meter_records()
     ensures { CallsKeepMeters }
 {
     instructions_need_no_call();
@@ -22,7 +22,7 @@ pub fn calls_keep_what_meters_tell()
 
 /// States that, if strands hand out continuations, take them back and receive effects in any order, each strand is a
 /// strand of its job, and its meter represents the serial run of that job so far.
-pub fn meters_tell_strands()
+pub fn meters_record_strands()
     ensures { MetersTellStrands }
 {
     instructions_need_no_call();

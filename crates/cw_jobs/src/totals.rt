@@ -11,8 +11,8 @@ use cw_model::total::Total;
 use std::alloc::{AllocError, Global};
 
 /// Returns the total of a reducer before its first value.
-pub fn nothing_told(how: Reduction) -> Total
-    ensures { result ≡ totals.nothing_told how }
+pub fn empty_total(how: Reduction) -> Total
+    ensures { result ≡ totals.empty_total how }
 {
     match how {
         Reduction::Sum => Total::Sum(0),
@@ -25,12 +25,12 @@ pub fn nothing_told(how: Reduction) -> Total
 /// # Errors
 ///
 /// An `AllocError` if there is not enough memory.
-pub fn none_told(alloc: Global, reducers: &[Reducer]) -> Result<Vec<Total>, AllocError>
-    ensures { IfOk result (λ all. all.items ≡ totals.none_told reducers.now) }
+pub fn empty_totals(alloc: Global, reducers: &[Reducer]) -> Result<Vec<Total>, AllocError>
+    ensures { IfOk result (λ all. all.items ≡ totals.empty_totals reducers.now) }
 {
     let mut all = Vec::new(alloc);
     for r in reducers {
-        all.push(nothing_told(r.how))?;
+        all.push(empty_total(r.how))?;
     }
     Ok(all)
 }

@@ -5,7 +5,7 @@ use Rattle.std.specs.List.{list_all, list_any}
 use Rattle.std.proofs.lemmas.Bool.{and_parts, or_parts}
 use Rattle.cw_facts.specs.Tests.{not_true, both_true}
 use Rattle.cw_model.specs.Lines.{unless}
-use Rattle.cw_model.specs.Syntax.{Name, Param, Function, Program, wants_array}
+use Rattle.cw_model.specs.Syntax.{Name, Param, Function, Program, is_array_param}
 use Rattle.cw_model.specs.Names.{same_name, is_among, differ}
 use Rattle.cw_model.specs.Meaning.{function_named}
 use Rattle.cw_model.specs.Answers.{main_name}
@@ -23,7 +23,7 @@ use Rattle.cw_loops.proofs.Lowering.{block_can}
 
 arrays_differ : (ps : List Param) → differ (names_of ps) ≡ true → differ (arrays_of ps) ≡ true
 arrays_differ [] h = refl
-arrays_differ (p ∷ ps) h = let d = others_differ p ps h in go (wants_array p) (no_kind p.name ps d.0).1 (arrays_differ ps d.1)
+arrays_differ (p ∷ ps) h = let d = others_differ p ps h in go (is_array_param p) (no_kind p.name ps d.0).1 (arrays_differ ps d.1)
   where
     go : (k : Bool) → is_among p.name (arrays_of ps) ≡ false → differ (arrays_of ps) ≡ true → differ (if k then p.name ∷ arrays_of ps else arrays_of ps) ≡ true
     go true alone more = both_true (not (is_among p.name (arrays_of ps))) (differ (arrays_of ps)) (ap not alone) more
@@ -68,26 +68,26 @@ module _ (program : Program) where
   pub owned_can : IsWellTyped program → KeepsOwnership program → is_source_like program ≡ true → is_lowerable program ≡ true
   owned_can types owns source = all_can program.functions (heads_kept program types) owns source
 
-  no_array : (ps : List Param) → not (list_any (λ p. wants_array p) ps) ≡ true → list_all (λ p. not (wants_array p)) ps ≡ true
+  no_array : (ps : List Param) → not (list_any (λ p. is_array_param p) ps) ≡ true → list_all (λ p. not (is_array_param p)) ps ≡ true
   no_array [] h = refl
   no_array (p ∷ ps) h =
-      let n = or_parts (wants_array p) (list_any (λ p. wants_array p) ps) (not_true _ h) in
-      both_true (not (wants_array p)) _ (ap not n.0) (no_array ps (ap not n.1))
+      let n = or_parts (is_array_param p) (list_any (λ p. is_array_param p) ps) (not_true _ h) in
+      both_true (not (is_array_param p)) _ (ap not n.0) (no_array ps (ap not n.1))
 
   main_among : (gs : List Function) → flat_map (faults_of program) gs ≡ [] → is_among main_name (map (λ f. f.name) gs) ≡ true
-      → list_all (λ p. not (wants_array p)) (function_named main_name gs).params ≡ true
+      → list_all (λ p. not (is_array_param p)) (function_named main_name gs).params ≡ true
   main_among [] types there = absurd cc
   main_among (g ∷ gs) types there = go (same_name main_name g.name) refl there (head_of program g (left_none _ _ types)).main (λ o. main_among gs (right_none _ _ types) o)
     where
-      here : same_name main_name g.name ≡ true → (not (same_name g.name main_name) || (g.gives_int && not (list_any (λ p. wants_array p) g.params)))
-          ≡ true → list_all (λ p. not (wants_array p)) g.params ≡ true
-      here e h = no_array g.params (and_parts g.gives_int (not (list_any (λ p. wants_array p) g.params))
-          (ap (λ s. not s || (g.gives_int && not (list_any (λ p. wants_array p) g.params))) (sym (turned g.name main_name ∙ e)) ∙ h)).1
+      here : same_name main_name g.name ≡ true → (not (same_name g.name main_name) || (g.gives_int && not (list_any (λ p. is_array_param p) g.params)))
+          ≡ true → list_all (λ p. not (is_array_param p)) g.params ≡ true
+      here e h = no_array g.params (and_parts g.gives_int (not (list_any (λ p. is_array_param p) g.params))
+          (ap (λ s. not s || (g.gives_int && not (list_any (λ p. is_array_param p) g.params))) (sym (turned g.name main_name ∙ e)) ∙ h)).1
 
       go : (s : Bool) → same_name main_name g.name ≡ s → (if s then true else is_among main_name (map (λ f. f.name) gs)) ≡ true
-          → (not (same_name g.name main_name) || (g.gives_int && not (list_any (λ p. wants_array p) g.params))) ≡ true →
-          (is_among main_name (map (λ f. f.name) gs) ≡ true → list_all (λ p. not (wants_array p)) (function_named main_name gs).params ≡ true)
-          → list_all (λ p. not (wants_array p)) (if s then g else function_named main_name gs).params ≡ true
+          → (not (same_name g.name main_name) || (g.gives_int && not (list_any (λ p. is_array_param p) g.params))) ≡ true →
+          (is_among main_name (map (λ f. f.name) gs) ≡ true → list_all (λ p. not (is_array_param p)) (function_named main_name gs).params ≡ true)
+          → list_all (λ p. not (is_array_param p)) (if s then g else function_named main_name gs).params ≡ true
       go true e o h more = here e h
       go false e o h more = more o
 

@@ -6,7 +6,7 @@ use Rattle.cw_model.specs.Trees.{Invocation}
 use Rattle.cw_model.specs.TreeLaws.{in_mark}
 use Rattle.cw_model.specs.declared.syntax.CallKind.{CallKind}
 use Rattle.cw_model.specs.declared.syntax.CallKind.TheVariants.{Plain, Spawned}
-use Rattle.cw_model.specs.Syntax.{Name, Expr, Number, Variable, Element, Length, Negative, Not, Binary, Call, Param, Function, wants_array, takes_array}
+use Rattle.cw_model.specs.Syntax.{Name, Expr, Number, Variable, Element, Length, Negative, Not, Binary, Call, Param, Function, is_array_param, takes_array}
 use Rattle.cw_model.specs.Names.{is_among, find}
 use Rattle.cw_model.specs.lemmas.Fits.{written_is_array}
 use Rattle.cw_model.specs.Frames.{Frame, no_frame, array_of, new_int, new_array, set_array, set_result}
@@ -58,7 +58,7 @@ given_fine (Binary o d e) f g = record { short = omega arith; elements = tt }
 abbrev pub Matches : List Param → List Expr → Frame → List (Name × List ℤ) → Type 0
 Matches [] es f t = Unit {0}
 Matches (p ∷ ps) [] f t = Unit {0}
-Matches (p ∷ ps) (e ∷ es) f t = (wants_array p ≡ true → (is_among p.name (keys t) ≡ true) × (length (find [] p.name t) ≡ length (given_array e f))) × Matches ps es f t
+Matches (p ∷ ps) (e ∷ es) f t = (is_array_param p ≡ true → (is_among p.name (keys t) ≡ true) × (length (find [] p.name t) ≡ length (given_array e f))) × Matches ps es f t
 
 -- the frames of the call are the same on both sides
 pub record SameGiven (ps : List Param) (es : List Expr) (f start given given' : Frame) : Type 0 where
@@ -78,13 +78,13 @@ among_there a v t u = rw (keys-append t ((a, v) ∷ u)) (there (keys t))
     there [] = front_among a (keys u)
     there (x ∷ xs) = later_among a x (xs ++ a ∷ keys u) (there xs)
 
-fresh_if : (b : Bool) (p : Param) (ps : List Param) (known : List Name) → wants_array p ≡ b → Fresh known (arrays_of (p ∷ ps)) → Fresh known (if b then p.name ∷ arrays_of ps else arrays_of ps)
+fresh_if : (b : Bool) (p : Param) (ps : List Param) (known : List Name) → is_array_param p ≡ b → Fresh known (arrays_of (p ∷ ps)) → Fresh known (if b then p.name ∷ arrays_of ps else arrays_of ps)
 fresh_if b p ps known e h = subst (λ x. Fresh known (if x then p.name ∷ arrays_of ps else arrays_of ps)) e h
 
-ints_if : (b : Bool) (p : Param) (ps : List Param) → wants_array p ≡ b → (if b then integers_of ps else p.name ∷ integers_of ps) ≡ integers_of (p ∷ ps)
+ints_if : (b : Bool) (p : Param) (ps : List Param) → is_array_param p ≡ b → (if b then integers_of ps else p.name ∷ integers_of ps) ≡ integers_of (p ∷ ps)
 ints_if b p ps e = ap (λ x. if x then integers_of ps else p.name ∷ integers_of ps) (sym e)
 
-arrays_if : (b : Bool) (p : Param) (ps : List Param) → wants_array p ≡ b → (if b then p.name ∷ arrays_of ps else arrays_of ps) ≡ arrays_of (p ∷ ps)
+arrays_if : (b : Bool) (p : Param) (ps : List Param) → is_array_param p ≡ b → (if b then p.name ∷ arrays_of ps else arrays_of ps) ≡ arrays_of (p ∷ ps)
 arrays_if b p ps e = ap (λ x. if x then p.name ∷ arrays_of ps else arrays_of ps) (sym e)
 
 module _ (c : Surroundings) (fo go : List (Name × ℤ)) (Slot : (fa ga : List (Name × List ℤ)) → Type 0) (w : World c fo go Slot) (ints arrays : List Name)
@@ -119,10 +119,10 @@ module _ (c : Surroundings) (fo go : List (Name × ℤ)) (Slot : (fa ga : List (
       })
   args_alike (p ∷ ps) [] as_many can start g fresh line left = absurd (omega arith)
   args_alike (p ∷ ps) (e ∷ es) as_many can start g fresh line left =
-      by_kind (wants_array p) refl (and_parts (can_pass c e) (can_pass_all c es) can)
+      by_kind (is_array_param p) refl (and_parts (can_pass c e) (can_pass_all c es) can)
       (λ start g f l. args_alike ps es (omega arith) (and_parts (can_pass c e) (can_pass_all c es) can).1 start g f line l)
     where
-      by_kind : (b : Bool) → wants_array p ≡ b → (can_pass c e ≡ true) × (can_pass_all c es ≡ true) →
+      by_kind : (b : Bool) → is_array_param p ≡ b → (can_pass c e ≡ true) × (can_pass_all c es ≡ true) →
           ((start : Frame) → Good start → Fresh (keys start.arrays) (arrays_of ps) → (l : ℕ)
           → Alike (SameGiven ps es f0 start) l (arguments ps es f0 line start l) (arguments ps (lower_exprs c.over es) g0 line start l)) →
           Alike (SameGiven (p ∷ ps) (e ∷ es) f0 start) left
@@ -183,7 +183,7 @@ module _ (c : Surroundings) (fo go : List (Name × ℤ)) (Slot : (fa ga : List (
       let one = one_back e cans.0 m.0 in
       back_rel ps es cans.1 t m.1 callee gc k (returned_array p e callee f) (returned_array p (lower_expr c.over e) callee g) one.0 one.1
     where
-      one_back : (e : Expr) → can_pass c e ≡ true → (wants_array p ≡ true → (is_among p.name (keys t) ≡ true) × (length (find [] p.name t) ≡ length (given_array e f0))) →
+      one_back : (e : Expr) → can_pass c e ≡ true → (is_array_param p ≡ true → (is_among p.name (keys t) ≡ true) × (length (find [] p.name t) ≡ length (given_array e f0))) →
           Rel c fo go Slot ints arrays (returned_array p e callee f) (returned_array p (lower_expr c.over e) callee g) × (sizes (returned_array p e callee f).arrays ≡ sizes f0.arrays)
       one_back (Variable a) h n = by_kind (takes_array p) refl f g rel s
         where

@@ -8,7 +8,7 @@ use Rattle.cw_model.specs.declared.syntax.NameKind.{NameKind}
 use Rattle.cw_model.specs.declared.syntax.NameKind.TheVariants as name_kind
 use Rattle.cw_model.specs.declared.syntax.CallKind.TheVariants.{Plain, Spawned}
 use Rattle.cw_model.specs.declared.syntax.Operator.TheVariants.{AtMost, Less, Plus, Minus, Divide}
-use Rattle.cw_model.specs.Syntax.{Name, Param, wants_array}
+use Rattle.cw_model.specs.Syntax.{Name, Param, is_array_param}
 use Rattle.cw_model.specs.Syntax as model
 use Rattle.cw_model.specs.Names.{same_name, is_among, differ}
 use Rattle.cw_model.specs.lemmas.Names.{same_itself, same_are}
@@ -144,19 +144,19 @@ kinds : (taken over : List Name) → map (λ (p : Param). p.kind) (int_params ta
 kinds [] over = array_kinds over
 kinds (v ∷ taken) over = ap (λ r. name_kind.Integer ∷ r) (kinds taken over)
 
-no_ints : (over : List Name) → map (λ (p : Param). p.name) (filter (λ p. not (wants_array p)) (array_params over)) ≡ []
+no_ints : (over : List Name) → map (λ (p : Param). p.name) (filter (λ p. not (is_array_param p)) (array_params over)) ≡ []
 no_ints [] = refl
 no_ints (a ∷ over) = no_ints over
 
-all_arrays : (over : List Name) → map (λ (p : Param). p.name) (filter (λ p. wants_array p) (array_params over)) ≡ over
+all_arrays : (over : List Name) → map (λ (p : Param). p.name) (filter (λ p. is_array_param p) (array_params over)) ≡ over
 all_arrays [] = refl
 all_arrays (a ∷ over) = ap (λ r. a ∷ r) (all_arrays over)
 
-ints_are : (taken over : List Name) → map (λ (p : Param). p.name) (filter (λ p. not (wants_array p)) (int_params taken ++ array_params over)) ≡ taken
+ints_are : (taken over : List Name) → map (λ (p : Param). p.name) (filter (λ p. not (is_array_param p)) (int_params taken ++ array_params over)) ≡ taken
 ints_are [] over = no_ints over
 ints_are (v ∷ taken) over = ap (λ r. v ∷ r) (ints_are taken over)
 
-arrays_are : (taken over : List Name) → map (λ (p : Param). p.name) (filter (λ p. wants_array p) (int_params taken ++ array_params over)) ≡ over
+arrays_are : (taken over : List Name) → map (λ (p : Param). p.name) (filter (λ p. is_array_param p) (int_params taken ++ array_params over)) ≡ over
 arrays_are [] over = all_arrays over
 arrays_are (v ∷ taken) over = arrays_are taken over
 
@@ -375,5 +375,5 @@ module _ (lists : Lists) (line : ℕ) (name x : Name) (grain : ℕ) (taken over 
       (ap (λ b. choice b (by_slot.node index loop)) (sym leaf_is) ∙ ap (choice (slotted_block lists (joined [] [] given over) (leaf_block line x body))) (sym node_is)
       ∙ ap (λ vs. slotted_block lists (joined [] [] (low ∷ high ∷ vs) over) (loop_function name line x grain taken over body).body) (sym (ints_are taken over))
       ∙ ap (λ r. slotted_block lists (joined [] [] (low ∷ high ∷ map (λ (p : Param). p.name)
-      (filter (λ p. not (wants_array p)) (int_params taken ++ array_params over))) r) (loop_function name line x grain taken over body).body)
+      (filter (λ p. not (is_array_param p)) (int_params taken ++ array_params over))) r) (loop_function name line x grain taken over body).body)
       (sym (arrays_are taken over)))

@@ -9,7 +9,7 @@ use Rattle.cw_model.specs.declared.syntax.CallKind.{CallKind}
 use Rattle.cw_model.specs.Lines.{unless}
 use Rattle.cw_model.specs.declared.syntax.NameKind.TheVariants as name_kind
 use Rattle.cw_model.specs.Syntax.{Name, Expr, Number, Variable, Element, Length, Negative, Not, Binary, Stmt, Declare, DeclareArray, Assign, AssignElement, Reduce, Call, Start}
-use Rattle.cw_model.specs.Syntax.{Begin, Sync, If, IfElse, While, For, Scope, Cut, Region, Print, Return, Block, End, Then, Param, Function, Program, wants_array}
+use Rattle.cw_model.specs.Syntax.{Begin, Sync, If, IfElse, While, For, Scope, Cut, Region, Print, Return, Block, End, Then, Param, Function, Program, is_array_param}
 use Rattle.cw_model.specs.Names.{same_name, is_among, differ}
 use Rattle.cw_model.specs.Meaning.{function_named}
 use Rattle.cw_model.specs.Captured.{captured, read_by, read_by_all, read_in, read_in_block, declared_in_block}
@@ -97,12 +97,12 @@ module _ {c : Surroundings} {ints arrays : List Name} {known : Known} {owners : 
   arguments_can taken (p ∷ ps) [] source fine reads inner well = refl
   arguments_can taken (p ∷ ps) (e ∷ es) source fine reads inner well =
       let s = and_parts (is_source_expr e) (list_all is_source_expr es) source in
-      let f = and_parts (fits_kind known (wants_array p) e) (fit_kinds known ps es) fine in
+      let f = and_parts (fits_kind known (is_array_param p) e) (fit_kinds known ps es) fine in
       let r = and_parts (may_read around taken e) (list_all (λ e. may_read around taken e) es) reads in
       both_true (can_pass c e) (can_pass_all c es)
-      (argument_can (wants_array p) e s.0 f.0 (read_keeps around taken e r.0)
-      (λ v q. inner v (among_left v (if wants_array p then names_in e else []) (arrays_passed ps es) q)) (first_well c (read_by e) (read_by_all es) well))
-      (arguments_can taken ps es s.1 f.1 r.1 (λ v q. inner v (among_right v (if wants_array p then names_in e else []) (arrays_passed ps es) q)) (second_well c (read_by e) (read_by_all es) well))
+      (argument_can (is_array_param p) e s.0 f.0 (read_keeps around taken e r.0)
+      (λ v q. inner v (among_left v (if is_array_param p then names_in e else []) (arrays_passed ps es) q)) (first_well c (read_by e) (read_by_all es) well))
+      (arguments_can taken ps es s.1 f.1 r.1 (λ v q. inner v (among_right v (if is_array_param p then names_in e else []) (arrays_passed ps es) q)) (second_well c (read_by e) (read_by_all es) well))
 
   target_can : (target : Option Name) → is_source_target target ≡ true → AllInner around (target_names target) → can_target c target ≡ true
   target_can None source inner = refl

@@ -9,7 +9,7 @@ use Rattle.cw_model.specs.declared.trap.Trap.TheVariants as trap
 use Rattle.cw_model.specs.Trees.{Join, tree_of, normal, Marked, Invocation}
 use Rattle.cw_model.specs.TreeLaws.{in_mark}
 use Rattle.cw_model.specs.lemmas.Regrouping.{same_normal}
-use Rattle.cw_model.specs.Syntax.{Name, Param, Function, Reducer, Program, wants_array}
+use Rattle.cw_model.specs.Syntax.{Name, Param, Function, Reducer, Program, is_array_param}
 use Rattle.cw_model.specs.Names.{differ}
 use Rattle.cw_model.specs.Frames.{Frame, no_frame, new_int}
 use Rattle.cw_model.specs.Outcome.{Outcome, Trapped, then_do, Piece, shows}
@@ -141,23 +141,23 @@ main_good (p ∷ ps) (v ∷ args) frame g h =
     let q = and_parts (fits v) (list_all fits args) h in
     main_good ps args (new_int p.name v frame) (record { ints = fit-append frame.ints ((p.name, v) ∷ []) g.ints (q.0, tt); arrays = g.arrays }) q.1
 
-main_ints : (ps : List Param) (args : List ℤ) (frame : Frame) → length args ≡ length ps → list_all (λ p. not (wants_array p)) ps ≡ true
+main_ints : (ps : List Param) (args : List ℤ) (frame : Frame) → length args ≡ length ps → list_all (λ p. not (is_array_param p)) ps ≡ true
     → keys (main_frame ps args frame).ints ≡ keys frame.ints ++ integers_of ps
 main_ints [] args frame n h = sym (append-nil (keys frame.ints))
 main_ints (p ∷ ps) [] frame n h = absurd (omega arith)
 main_ints (p ∷ ps) (v ∷ args) frame n h =
-    let q = and_parts (not (wants_array p)) (list_all (λ p. not (wants_array p)) ps) h in
+    let q = and_parts (not (is_array_param p)) (list_all (λ p. not (is_array_param p)) ps) h in
     main_ints ps args (new_int p.name v frame) (omega arith) q.1 ∙ ap (λ t. t ++ integers_of ps) (keys-append frame.ints ((p.name, v) ∷ []))
     ∙ append_assoc (keys frame.ints) (p.name ∷ []) (integers_of ps)
-    ∙ ap (λ b. keys frame.ints ++ (if b then integers_of ps else p.name ∷ integers_of ps)) (sym (not_true (wants_array p) q.0))
+    ∙ ap (λ b. keys frame.ints ++ (if b then integers_of ps else p.name ∷ integers_of ps)) (sym (not_true (is_array_param p) q.0))
 
-main_arrays : (ps : List Param) (args : List ℤ) (frame : Frame) → length args ≡ length ps → list_all (λ p. not (wants_array p)) ps ≡ true
+main_arrays : (ps : List Param) (args : List ℤ) (frame : Frame) → length args ≡ length ps → list_all (λ p. not (is_array_param p)) ps ≡ true
     → keys (main_frame ps args frame).arrays ≡ keys frame.arrays ++ arrays_of ps
 main_arrays [] args frame n h = sym (append-nil (keys frame.arrays))
 main_arrays (p ∷ ps) [] frame n h = absurd (omega arith)
 main_arrays (p ∷ ps) (v ∷ args) frame n h =
-    let q = and_parts (not (wants_array p)) (list_all (λ p. not (wants_array p)) ps) h in
-    main_arrays ps args (new_int p.name v frame) (omega arith) q.1 ∙ ap (λ b. keys frame.arrays ++ (if b then p.name ∷ arrays_of ps else arrays_of ps)) (sym (not_true (wants_array p) q.0))
+    let q = and_parts (not (is_array_param p)) (list_all (λ p. not (is_array_param p)) ps) h in
+    main_arrays ps args (new_int p.name v frame) (omega arith) q.1 ∙ ap (λ b. keys frame.arrays ++ (if b then p.name ∷ arrays_of ps else arrays_of ps)) (sym (not_true (is_array_param p) q.0))
 
 main_sliced : (ps : List Param) (args : List ℤ) (frame : Frame) → (main_frame ps args frame).sliced ≡ frame.sliced
 main_sliced [] args frame = refl
@@ -176,7 +176,7 @@ same_answer reducers whole_over = refl
 
 -- a lowered program has the answers of its source, for a list of 64-bit arguments as long as the parameter list of main
 pub lowered_answers : (p : Program) (args : List ℤ) (limit : ℕ) → is_lowerable p ≡ true → list_all fits args ≡ true
-    → length args ≡ length (function_named main_name p.functions).params → list_all (λ q. not (wants_array q)) (function_named main_name p.functions).params ≡ true →
+    → length args ≡ length (function_named main_name p.functions).params → list_all (λ q. not (is_array_param q)) (function_named main_name p.functions).params ≡ true →
     serial_answer (lowered p) args limit ≡ serial_answer p args limit
 unfolding serial_answer
 lowered_answers p args limit can args_fit as_many no_arrays =

@@ -10,7 +10,7 @@ use Rattle.cw_model.specs.Meaning.{function_named}
 use Rattle.cw_model.specs.declared.limits.TheConstants.{MOST_DECLARED}
 use Rattle.cw_model.specs.Lines.{unless}
 use Rattle.cw_model.specs.Syntax.{Name, Stmt, Declare, DeclareArray, Assign, AssignElement, Reduce, Call, Start, Begin, Sync, If, IfElse, While, For}
-use Rattle.cw_model.specs.Syntax.{Scope, Cut, Region, Print, Return, Block, End, Then, Param, Function, Program, wants_array}
+use Rattle.cw_model.specs.Syntax.{Scope, Cut, Region, Print, Return, Block, End, Then, Param, Function, Program, is_array_param}
 use Rattle.cw_model.specs.Names.{is_among, differ}
 use Rattle.cw_model.specs.Sizes.{loops_in, loops_in_block, limit_faults, loop_faults, function_limits}
 use Rattle.cw_model.specs.Typing.{is_head, faults_of, type_faults, WithInt, Alone, known_of, IsWellTyped}
@@ -95,32 +95,32 @@ few_loops program h =
 
 -- the parameters of a function
 
-ints_same : (ps : List Param) → map (λ (p : Param). p.name) (filter (λ p. not (wants_array p)) ps) ≡ integers_of ps
+ints_same : (ps : List Param) → map (λ (p : Param). p.name) (filter (λ p. not (is_array_param p)) ps) ≡ integers_of ps
 ints_same [] = refl
-ints_same (p ∷ ps) = go (wants_array p) (ints_same ps)
+ints_same (p ∷ ps) = go (is_array_param p) (ints_same ps)
   where
-    go : (b : Bool) → map (λ (q : Param). q.name) (filter (λ q. not (wants_array q)) ps) ≡ integers_of ps →
-        map (λ (q : Param). q.name) (if not b then p ∷ filter (λ q. not (wants_array q)) ps else filter (λ q. not (wants_array q)) ps) ≡ (if b then integers_of ps else p.name ∷ integers_of ps)
+    go : (b : Bool) → map (λ (q : Param). q.name) (filter (λ q. not (is_array_param q)) ps) ≡ integers_of ps →
+        map (λ (q : Param). q.name) (if not b then p ∷ filter (λ q. not (is_array_param q)) ps else filter (λ q. not (is_array_param q)) ps) ≡ (if b then integers_of ps else p.name ∷ integers_of ps)
     go true e = e
     go false e = ap (λ r. p.name ∷ r) e
 
-arrays_same : (ps : List Param) → map (λ (p : Param). p.name) (filter (λ p. wants_array p) ps) ≡ arrays_of ps
+arrays_same : (ps : List Param) → map (λ (p : Param). p.name) (filter (λ p. is_array_param p) ps) ≡ arrays_of ps
 arrays_same [] = refl
-arrays_same (p ∷ ps) = go (wants_array p) (arrays_same ps)
+arrays_same (p ∷ ps) = go (is_array_param p) (arrays_same ps)
   where
-    go : (b : Bool) → map (λ (q : Param). q.name) (filter (λ q. wants_array q) ps) ≡ arrays_of ps →
-        map (λ (q : Param). q.name) (if b then p ∷ filter (λ q. wants_array q) ps else filter (λ q. wants_array q) ps) ≡ (if b then p.name ∷ arrays_of ps else arrays_of ps)
+    go : (b : Bool) → map (λ (q : Param). q.name) (filter (λ q. is_array_param q) ps) ≡ arrays_of ps →
+        map (λ (q : Param). q.name) (if b then p ∷ filter (λ q. is_array_param q) ps else filter (λ q. is_array_param q) ps) ≡ (if b then p.name ∷ arrays_of ps else arrays_of ps)
     go true e = ap (λ r. p.name ∷ r) e
     go false e = e
 
 params_same : (fs : List Function) (ps : List Param) → locals_of ps ≡ at (nothing_around fs) (integers_of ps) (arrays_of ps)
 params_same fs ps =
-    two_lists (map (λ (p : Param). p.name) (filter (λ p. not (wants_array p)) ps)) (integers_of ps)
-    (map (λ (p : Param). p.name) (filter (λ p. wants_array p) ps)) (arrays_of ps) (ints_same ps) (arrays_same ps)
+    two_lists (map (λ (p : Param). p.name) (filter (λ p. not (is_array_param p)) ps)) (integers_of ps)
+    (map (λ (p : Param). p.name) (filter (λ p. is_array_param p) ps)) (arrays_of ps) (ints_same ps) (arrays_same ps)
 
 few_kinds : (ps : List Param) → length (integers_of ps) + length (arrays_of ps) ≡ length ps
 few_kinds [] = omega arith
-few_kinds (p ∷ ps) = go (wants_array p) (few_kinds ps)
+few_kinds (p ∷ ps) = go (is_array_param p) (few_kinds ps)
   where
     go : (b : Bool) → length (integers_of ps) + length (arrays_of ps) ≡ length ps
         → length (if b then integers_of ps else p.name ∷ integers_of ps) + length (if b then p.name ∷ arrays_of ps else arrays_of ps) ≡ suc (length ps)
@@ -129,7 +129,7 @@ few_kinds (p ∷ ps) = go (wants_array p) (few_kinds ps)
 
 arrays_counted : (n : ℕ) (ps : List Param) → n + length (arrays_of ps) ≤ 256 → arrays_from n ps ≡ n + length (arrays_of ps)
 arrays_counted n [] few = omega arith
-arrays_counted n (p ∷ ps) few = go (wants_array p) few (λ m. arrays_counted m ps)
+arrays_counted n (p ∷ ps) few = go (is_array_param p) few (λ m. arrays_counted m ps)
   where
     go : (b : Bool) → n + length (if b then p.name ∷ arrays_of ps else arrays_of ps) ≤ 256 → ((m : ℕ) → m + length (arrays_of ps) ≤ 256 → arrays_from m ps ≡ m + length (arrays_of ps)) →
         arrays_from (if b then slot (n + 1) else n) ps ≡ n + length (if b then p.name ∷ arrays_of ps else arrays_of ps)

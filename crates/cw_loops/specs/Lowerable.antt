@@ -6,7 +6,7 @@ use Rattle.cw_model.specs.Ints.{fits}
 use Rattle.cw_model.specs.Syntax.{Name, Expr, Number, Variable, Element, Length, Negative, Not, Binary, Stmt, Declare}
 use Rattle.cw_model.specs.Syntax.{DeclareArray, Assign, AssignElement, Reduce, Call, Start, Begin, Sync, If, IfElse}
 use Rattle.cw_model.specs.Syntax.{While, For, Scope, Cut, Region, Print, Return, Block, End, Then, Param, Function}
-use Rattle.cw_model.specs.Syntax.{Program, wants_array}
+use Rattle.cw_model.specs.Syntax.{Program, is_array_param}
 use Rattle.cw_model.specs.Names.{same_name, is_among, differ}
 use Rattle.cw_model.specs.Captured.{captured}
 use Rattle.cw_model.specs.Meaning.{function_named}
@@ -160,11 +160,11 @@ abbrev mutual
 -- the integers and the arrays among parameters
 abbrev pub integers_of : List Param → List Name
 integers_of [] = []
-integers_of (p ∷ ps) = if wants_array p then integers_of ps else p.name ∷ integers_of ps
+integers_of (p ∷ ps) = if is_array_param p then integers_of ps else p.name ∷ integers_of ps
 
 abbrev pub arrays_of : List Param → List Name
 arrays_of [] = []
-arrays_of (p ∷ ps) = if wants_array p then p.name ∷ arrays_of ps else arrays_of ps
+arrays_of (p ∷ ps) = if is_array_param p then p.name ∷ arrays_of ps else arrays_of ps
 
 -- a function can be lowered: its name is plain, its array parameters are distinct, and its body can be lowered
 abbrev pub can_lower_function : List Function → Function → Bool

@@ -5,7 +5,7 @@ use Rattle.cw_model.specs.Ints.{fits}
 use Rattle.cw_model.specs.declared.token.Token.{Token}
 use Rattle.cw_model.specs.Tokens.{IsTokenCut}
 use Rattle.cw_model.specs.Grammar.{Derives}
-use Rattle.cw_model.specs.Syntax.{Function, Program, wants_array}
+use Rattle.cw_model.specs.Syntax.{Function, Program, is_array_param}
 use Rattle.cw_model.specs.Meaning.{function_named}
 use Rattle.cw_model.specs.Answers.{main_name, serial_answer}
 use Rattle.cw_model.specs.Sizes.{loops_in_block, call_count, static_size}
@@ -28,7 +28,7 @@ AnswersAsItsSource program =
 
 -- main takes only integers
 abbrev pub MainTakesIntegers : Program → Type 0
-MainTakesIntegers program = list_all (λ p. not (wants_array p)) (main_of program).params ≡ true
+MainTakesIntegers program = list_all (λ p. not (is_array_param p)) (main_of program).params ≡ true
 
 abbrev pub LoweredAnswersAsItsSource : Type 0
 LoweredAnswersAsItsSource =

@@ -1,6 +1,6 @@
 -- The result of lowering the functions of a resolved tree, and the abstraction of lowered code.
 use Rattle.std.specs.Prelude.{ℕ, ◌+◌, if◌then◌else◌, List, [], ◌∷◌, length, map}
-use Rattle.cw_model.specs.Syntax.{Param, wants_array}
+use Rattle.cw_model.specs.Syntax.{Param, is_array_param}
 use Rattle.cw_tree.specs.Resolved as source
 use Rattle.cw_loops.specs.declared.tree.Tree.{Tree}
 use Rattle.cw_loops.specs.Slotted.{Block}
@@ -19,7 +19,7 @@ with_body b rest = record { blocks = b ∷ rest.blocks; loops = rest.loops }
 -- the number of parameters that are arrays, added to `n`
 abbrev pub arrays_from : ℕ → List Param → ℕ
 arrays_from n [] = n
-arrays_from n (p ∷ ps) = arrays_from (if wants_array p then slot (n + 1) else n) ps
+arrays_from n (p ∷ ps) = arrays_from (if is_array_param p then slot (n + 1) else n) ps
 
 -- the lowered bodies of functions, with their loops after these loops; `functions` counts the source functions
 abbrev pub made_bodies : (functions : ℕ) → List Loop → List source.Function → Bodies

@@ -32,7 +32,7 @@ use Rattle.cw_jobs.specs.declared.effect.PieceOutput.{PieceOutput}
 use Rattle.cw_jobs.specs.declared.call.Rest.{Rest}
 use Rattle.cw_jobs.specs.declared.job.Job.{Job}
 use Rattle.cw_jobs.specs.Jobs.{Ok, IsJob, IsRoot, IsRootOf}
-use Rattle.cw_jobs.specs.Means.{IsMeaningOf, MeansIt, Tells, Counts, HasShown}
+use Rattle.cw_jobs.specs.Means.{IsMeaningOf, MeansIt, Tracks, Counts, HasShown}
 use Rattle.cw_machine.specs.declared.alone.Ended as alone
 use Rattle.cw_machine.specs.Arrays.{IsFit}
 use Rattle.cw_machine.specs.declared.values.Values.{Values}
@@ -87,7 +87,7 @@ module _ (laws : RootsAreSerial) (v : Verified) (ok : IsFit v) (f : Func) (args 
       → IsTrapped trap line lines.items (code_serial (code_view v.code) args n)
   trapped trap line lines cost back m = cases m.effect m.tells (serial m.effect m.means)
     where
-      cases : (w : jobs.Effect) → Tells (code_view v.code) (root_job f args n) root.parts.value.rest (effect.Trapped trap line lines cost back) w
+      cases : (w : jobs.Effect) → Tracks (code_view v.code) (root_job f args n) root.parts.value.rest (effect.Trapped trap line lines cost back) w
           → (w ≡ jobs.Memory) ⊎ (jobs.answered (code_view v.code) w ≡ code_serial (code_view v.code) args n) → IsTrapped trap line lines.items (code_serial (code_view v.code) args n)
       cases (jobs.TrapIn t l ls c) h (inr e) = subst (λ o. IsTrapped trap line lines.items o) e (ap trap_number (sym h.0), sym h.1, same_as ls lines.items (sym h.2))
       cases (jobs.TrapIn t l ls c) h (inl e) = cc
@@ -99,7 +99,7 @@ module _ (laws : RootsAreSerial) (v : Verified) (ok : IsFit v) (f : Func) (args 
   pub over : (back : _) → MeansIt v ok root.parts.value (effect.OverLimit back) (root_job f args n) → is_over (code_serial (code_view v.code) args n) ≡ true
   over back m = cases m.effect m.tells (serial m.effect m.means)
     where
-      cases : (w : jobs.Effect) → Tells (code_view v.code) (root_job f args n) root.parts.value.rest (effect.OverLimit back) w
+      cases : (w : jobs.Effect) → Tracks (code_view v.code) (root_job f args n) root.parts.value.rest (effect.OverLimit back) w
           → (w ≡ jobs.Memory) ⊎ (jobs.answered (code_view v.code) w ≡ code_serial (code_view v.code) args n) → is_over (code_serial (code_view v.code) args n) ≡ true
       cases jobs.OverLimit h (inr e) = ap is_over (sym e)
       cases jobs.OverLimit h (inl e) = cc
@@ -111,7 +111,7 @@ module _ (laws : RootsAreSerial) (v : Verified) (ok : IsFit v) (f : Func) (args 
   pub never_joined : (frame : Rest) (replaced : _) (shown : PieceOutput) → MeansIt v ok root.parts.value (effect.Joined frame replaced shown) (root_job f args n) → ⊥
   never_joined frame replaced shown m = cases m.effect m.tells (few (code_view v.code) f args n m.effect m.means)
     where
-      cases : (w : jobs.Effect) → Tells (code_view v.code) (root_job f args n) root.parts.value.rest (effect.Joined frame replaced shown) w → Few n w → ⊥
+      cases : (w : jobs.Effect) → Tracks (code_view v.code) (root_job f args n) root.parts.value.rest (effect.Joined frame replaced shown) w → Few n w → ⊥
       cases (jobs.Joined frame t c) h w = w
       cases _ h w = absurd h
 
@@ -124,7 +124,7 @@ module _ (laws : RootsAreSerial) (v : Verified) (ok : IsFit v) (f : Func) (args 
       most : n ≤ MOST_LIMIT
       most = asked_limit f args n burden asked
 
-      cases : (w : jobs.Effect) → Tells (code_view v.code) (root_job f args n) root.parts.value.rest (effect.Ended x shown) w → Few n w
+      cases : (w : jobs.Effect) → Tracks (code_view v.code) (root_job f args n) root.parts.value.rest (effect.Ended x shown) w → Few n w
           → (w ≡ jobs.Memory) ⊎ (jobs.answered (code_view v.code) w ≡ code_serial (code_view v.code) args n) → IsGiven e (code_serial (code_view v.code) args n)
       cases (jobs.Ended y arrays t cost) h w (inr s) =
           let has : HasShown (code_view v.code) shown t cost = h.2 in
@@ -147,7 +147,7 @@ module _ (laws : RootsAreSerial) (v : Verified) (ok : IsFit v) (f : Func) (args 
       most : n ≤ MOST_LIMIT
       most = asked_limit f args n burden asked
 
-      cases : (w : jobs.Effect) → Tells (code_view v.code) (root_job f args n) root.parts.value.rest (effect.Ended x shown) w
+      cases : (w : jobs.Effect) → Tracks (code_view v.code) (root_job f args n) root.parts.value.rest (effect.Ended x shown) w
           → Counts (code_view v.code) root.parts.value.detail root.parts.value.site (effect.Ended x shown) w → Few n w
           → (w ≡ jobs.Memory) ⊎ (jobs.answered (code_view v.code) w ≡ code_serial (code_view v.code) args n)
           → (shown.cost ≤ n) × Finishes (code_view v.code) args n d x shown

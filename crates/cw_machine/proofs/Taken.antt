@@ -15,7 +15,7 @@ use Rattle.cw_jobs.specs.declared.effect.PieceOutput.{PieceOutput}
 use Rattle.cw_jobs.specs.declared.job.Job.{Job}
 use Rattle.cw_jobs.specs.Jobs.{IsRootOf}
 use Rattle.cw_jobs.specs.Means.{IsMeaningOf}
-use Rattle.cw_machine.specs.Answering.{AreValuesOf, IsAnswerOf, TakesOut, TellsOf}
+use Rattle.cw_machine.specs.Answering.{AreValuesOf, IsAnswerOf, TakesOut, IsResultOf}
 use Rattle.cw_machine.specs.Runs.{IsFailure}
 use Rattle.cw_machine.proofs.RootEnds.{trapped_as_code, over_as_code}
 
@@ -34,7 +34,7 @@ ended_is (effect.Trapped trap line lines cost back) x shown told = let is = told
 ended_is _ x shown told = cc
 
 -- why a run has not ended does not depend on what is returned for a run that has ended
-pub fault_told : (A : Type 0) (ended : Option ℤ → PieceOutput → Type 0) (e : Effect) (f : Fault) → TakesOut e (Err f) → TellsOf {A = A} ended e (Err f)
+pub fault_told : (A : Type 0) (ended : Option ℤ → PieceOutput → Type 0) (e : Effect) (f : Fault) → TakesOut e (Err f) → IsResultOf {A = A} ended e (Err f)
 fault_told A ended (effect.Ended value shown) f told = cc
 fault_told A ended (effect.Joined frame replaced shown) f told = absurd told
 fault_told A ended (effect.Trapped trap line lines cost back) f told =

@@ -20,7 +20,7 @@ use Rattle.cw_code.specs.lemmas.Slots.{not_in_first, not_in_second, not_in_both}
 use Rattle.cw_runnable.specs.declared.verified.Verified.{Verified}
 use Rattle.cw_machine.specs.declared.machine.Frame.{Frame}
 use Rattle.cw_machine.specs.declared.machine.Machine.{Machine}
-use Rattle.cw_machine.specs.Arrays.{ReadsAll, RoundReads, Ok, view, Memory, Has, HasComing, CutIn, taken_round, StandsOn, Floors, RoundOn}
+use Rattle.cw_machine.specs.Arrays.{ReadsAll, RoundReads, Ok, view, Memory, Has, HasComing, CutIn, taken_round, HoldsWaiting, Floors, RoundOn}
 use Rattle.cw_machine.specs.Shows.{Stands, Round, Shows, cut_cell, cut_cells}
 use Rattle.cw_jobs.specs.Cuts.{parts_round, cut_slots}
 use Rattle.cw_machine.specs.Arrays.{is_among}
@@ -270,7 +270,7 @@ module _ (v : Verified) (ok : Ok v) (m : Machine) (s : State) (w : Waiting) (aro
   unfolding on_arrays waiting_frame
   floors = on_arrays.4.1
 
-  pub stands_on : StandsOn memory m.first_array waiting_frame w
+  pub stands_on : HoldsWaiting memory m.first_array waiting_frame w
   unfolding on_arrays waiting_frame
   stands_on = on_arrays.5
 

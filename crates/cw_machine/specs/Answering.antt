@@ -45,22 +45,22 @@ IsTrapAfter trap line lines r =
 
 -- THE RESULT OF AN EFFECT, if `ended` is the result of a run that ended: `Memory` if the effect says that memory ran
 -- out
-abbrev pub TellsOf : {A : Type 0} → (ended : Option ℤ → PieceOutput → Type 0) → Effect → Result A Fault → Type 0
-TellsOf ended (effect.Ended value shown) r = ended value shown
-TellsOf ended (effect.Joined frame replaced shown) r = ⊥
-TellsOf ended (effect.Trapped trap line lines cost back) r = IsTrapAfter trap line lines.items r
-TellsOf ended (effect.OverLimit back) r = r ≡ Err fault.OverLimit
-TellsOf ended (effect.Memory back) r = r ≡ Err fault.Memory
-TellsOf ended (effect.GivenUp back) r = r ≡ Err fault.Memory
+abbrev pub IsResultOf : {A : Type 0} → (ended : Option ℤ → PieceOutput → Type 0) → Effect → Result A Fault → Type 0
+IsResultOf ended (effect.Ended value shown) r = ended value shown
+IsResultOf ended (effect.Joined frame replaced shown) r = ⊥
+IsResultOf ended (effect.Trapped trap line lines cost back) r = IsTrapAfter trap line lines.items r
+IsResultOf ended (effect.OverLimit back) r = r ≡ Err fault.OverLimit
+IsResultOf ended (effect.Memory back) r = r ≡ Err fault.Memory
+IsResultOf ended (effect.GivenUp back) r = r ≡ Err fault.Memory
 
 -- the result of a run that ended is its value and what it has printed and counted
 abbrev pub TakesOut : Effect → Result (Option ℤ × PieceOutput) Fault → Type 0
-TakesOut e r = TellsOf (λ value shown. r ≡ Ok (value, shown)) e r
+TakesOut e r = IsResultOf (λ value shown. r ≡ Ok (value, shown)) e r
 
 -- the result is `Memory` only if the effect says so, or for a run that ended
 abbrev pub IsAnswerOf : {A : Type 0} → Effect → Result A Fault → Type 0
-IsAnswerOf e r = TellsOf (λ value shown. IsEndOrMemory r) e r
+IsAnswerOf e r = IsResultOf (λ value shown. IsEndOrMemory r) e r
 
 -- the result is `Memory` only if the effect says so
 abbrev pub AreValuesOf : {A : Type 0} → Effect → Result A Fault → Type 0
-AreValuesOf e r = TellsOf (λ value shown. IsEnd r) e r
+AreValuesOf e r = IsResultOf (λ value shown. IsEnd r) e r

@@ -10,7 +10,7 @@ use Rattle.cw_code.specs.Frozen.{AreBlocks}
 use Rattle.cw_code.specs.Good.{IsNotAmong, slots_in, Seat, GoodState}
 use Rattle.cw_code.specs.declared.code.Loan.{Loan}
 use Rattle.cw_code.specs.Fits.{slots_lent}
-use Rattle.cw_code.specs.Jobs.{Standing}
+use Rattle.cw_code.specs.Jobs.{JoinFrame}
 use Rattle.cw_runnable.specs.declared.verified.Verified.{Verified}
 use Rattle.cw_jobs.specs.declared.call.Rest.{Rest}
 use Rattle.cw_jobs.specs.Calls.{placed, HasArrays, HoldsFrame}
@@ -190,7 +190,7 @@ pub record Waits (s : State) : Type 0 where
   pub are_arrays : s.arrived ≡ newest_arrays ++ other_arrays
 
 -- the block continues after a join: the results of its own spawns go into their slots, and the others still wait
-abbrev pub went_on : (s : State) → Standing → Waits s → State
+abbrev pub went_on : (s : State) → JoinFrame → Waits s → State
 went_on s frame waits = record s {
   place = frame.place;
   operands = frame.operands;
@@ -225,7 +225,7 @@ pub record KeepsSlots (s : State) (o : Out) (back : Rest) (replaced : List (Opti
 
 -- a machine represents a state while slices of the running call are handed out, and the continuation has come back
 -- with this frame
-pub record IsGiving (v : Verified) (ok : Ok v) (o : Out) (m : Machine) (s : State) (frame : Standing) (waits : Waits s)
+pub record IsGiving (v : Verified) (ok : Ok v) (o : Out) (m : Machine) (s : State) (frame : JoinFrame) (waits : Waits s)
     (back : Rest) (replaced : List (Option Placed)) (count : ℕ) (lent : List ℕ) (target : Option ℕ) : Type 0 where
   pub slots_are : o.slots ≡ count
   pub lent_are : o.lent ≡ lent
@@ -254,7 +254,7 @@ pub record IsGiving (v : Verified) (ok : Ok v) (o : Out) (m : Machine) (s : Stat
 -- join
 abbrev pub Gives : Machine → Rest → List (Option Placed) → (slots : ℕ) → (lent : List ℕ) → Option ℕ → Machine → Type 0
 Gives m back replaced slots lent target m' =
-    (v : Verified) (ok : Ok v) (o : Out) (s : State) (frame : Standing) (waits : Waits s)
+    (v : Verified) (ok : Ok v) (o : Out) (s : State) (frame : JoinFrame) (waits : Waits s)
     → IsGiving v ok o m s frame waits back replaced slots lent target → Shows v ok m' (went_on s frame waits)
 
 -- a machine represents some state, and the continuation that comes back was executed in that state
@@ -264,7 +264,7 @@ pub record MayGive (m : Machine) (back : Rest) (replaced : List (Option Placed))
   pub ok : Ok code
   pub out : Out
   pub state : State
-  pub frame : Standing
+  pub frame : JoinFrame
   pub waits : Waits state
   pub gives : IsGiving code ok out m state frame waits back replaced slots lent target
 

@@ -14,7 +14,7 @@ use Rattle.cw_jobs.specs.declared.call.Parts.{Parts}
 use Rattle.cw_jobs.specs.declared.call.Rest.{Rest}
 use Rattle.cw_jobs.specs.Calls.{cell, placed, HoldsCall, HoldsFrame}
 use Rattle.cw_jobs.specs.Cuts.{cut_slots, AreNone, AreThere, RoundThere}
-use Rattle.cw_jobs.specs.Totals.{none_told}
+use Rattle.cw_jobs.specs.Totals.{empty_totals}
 use Rattle.cw_jobs.specs.Jobs.{AreBlocks, IsOutermost, IsJob, own_or, home_of, IsOwnIn, KeepsHomes, KeepsEmpty}
 use Rattle.cw_jobs.specs.Jobs.{KeepsFixed, OwnsSlots}
 use Rattle.cw_runnable.specs.declared.verified.Verified.{Verified}
@@ -69,7 +69,7 @@ pub record HasRoomFor (rest : Rest) (room : ℕ) (reducers : List Reducer) (m : 
   pub small : AreSmall rest.slices.items
   pub blocks : length m.blocks.items ≡ length rest.slices.items + length rest.slices.items
   pub bare : (k : ℕ) → IsBare (block m.blocks.items k)
-  pub totals : m.totals.items ≡ none_told reducers
+  pub totals : m.totals.items ≡ empty_totals reducers
 
 -- slices are the first blocks of a machine, and its other blocks have no numbers
 pub record HasSlices (slices : List Placed) (m : Machine) : Type 0 where

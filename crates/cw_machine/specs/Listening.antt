@@ -21,7 +21,7 @@ use Rattle.cw_machine.specs.declared.machine.Moved.{Moved}
 use Rattle.cw_machine.specs.declared.machine.Moved.TheVariants as moved
 use Rattle.cw_machine.specs.Arrays.{IsFit, Ok, alone}
 use Rattle.cw_machine.specs.Shows.{Shows, MayGo, Follows}
-use Rattle.cw_machine.specs.Telling.{opens_round, After, Tells}
+use Rattle.cw_machine.specs.Notifying.{opens_round, After, Tracks}
 
 -- the record of a run so far, after this number of instructions: the open parts, and the events of the innermost one
 abbrev pub Keeping : Type 0 → Type 1
@@ -44,11 +44,11 @@ NeedsNoCall {W = W} keeps =
 
 -- this instruction was reported to a listener after `count` others: for all open parts, the listener records the run
 -- up to where the instruction leads
-abbrev pub IsToldOf : {W : Type 0} → Keeping W → (old new : W) → (count : ℕ) → Op → Type 0
-IsToldOf keeps old new count o =
+abbrev pub IsNotifiedOf : {W : Type 0} → Keeping W → (old new : W) → (count : ℕ) → Op → Type 0
+IsNotifiedOf keeps old new count o =
     (code : Code) (os : List Open) (es : List Event)
     → count < MOST_LIMIT → IsOpen Main os → keeps count os es old
-    → Tells (λ os es. keeps (count + 1) os es new) code o os es
+    → Tracks (λ os es. keeps (count + 1) os es new) code o os es
 
 -- a listener records the run up to where a move leads; nothing is stated if memory ran out
 abbrev pub KeepsMove : {W : Type 0} → Keeping W → (count : ℕ) → Moved → W → Transition → Type 0

@@ -53,7 +53,7 @@ pub record ComesTo (v : Verified) (ok : Ok v) (o : Out) (m : Machine) (cell slot
   pub homes : KeepsHomes o.slices back replaced
 
 -- slices may be returned to some call that is handed out
-pub record MayComeHome (m : Machine) (cell slots : ℕ) (lent : List ℕ) (back : List Placed)
+pub record MayReturnSlices (m : Machine) (cell slots : ℕ) (lent : List ℕ) (back : List Placed)
     (replaced : List (Option Placed)) : Type 0 where
   pub code : Verified
   pub ok : Ok code
@@ -61,14 +61,14 @@ pub record MayComeHome (m : Machine) (cell slots : ℕ) (lent : List ℕ) (back 
   pub comes : ComesTo code ok out m cell slots lent back replaced
 
 -- the call to which the slices were returned is no longer handed out
-abbrev pub ComesHome : Machine → (cell slots : ℕ) → (lent : List ℕ) → List Placed → List (Option Placed) → Machine
+abbrev pub HasReturnedSlices : Machine → (cell slots : ℕ) → (lent : List ℕ) → List Placed → List (Option Placed) → Machine
     → Type 0
-ComesHome m cell slots lent back replaced m' =
+HasReturnedSlices m cell slots lent back replaced m' =
     (v : Verified) (ok : Ok v) (o : Out) → ComesTo v ok o m cell slots lent back replaced → Remains v ok m'
 
--- `MayComeHome` and `ComesHome` for this lender and the slots that were lent by these loans
+-- `MayReturnSlices` and `HasReturnedSlices` for this lender and the slots that were lent by these loans
 abbrev pub MayReturn : Machine → Lender → List Loan → List Placed → List (Option Placed) → Type 0
-MayReturn m lender lent back replaced = MayComeHome m lender.first lender.slots (slots_lent lent) back replaced
+MayReturn m lender lent back replaced = MayReturnSlices m lender.first lender.slots (slots_lent lent) back replaced
 
 abbrev pub Returns : Machine → Lender → List Loan → List Placed → List (Option Placed) → Machine → Type 0
-Returns m lender lent back replaced m' = ComesHome m lender.first lender.slots (slots_lent lent) back replaced m'
+Returns m lender lent back replaced m' = HasReturnedSlices m lender.first lender.slots (slots_lent lent) back replaced m'

@@ -43,7 +43,7 @@ impl Listener for Freeing {
     ghost keeps = { FreesRun };
 
     #[inline(always)]
-    fn tell(&mut self, count: u64, o: &Op) -> Result<(), AllocError> {
+    fn on_instruction(&mut self, count: u64, o: &Op) -> Result<(), AllocError> {
         cw_freed::laws::instructions_need_no_call();
         match o {
             Op::Call(_, kind, c) => {

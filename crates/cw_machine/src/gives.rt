@@ -88,7 +88,7 @@ impl Machine {
 
     // Returns each array to its slot, the newest share of an element first. Afterwards `replaced` holds the new
     // arrays.
-    fn lay_homes(
+    fn lay_returned(
         &mut self,
         slices: &mut Vec<Slice>,
         replaced: &mut Vec<Option<Slice>>,
@@ -172,7 +172,7 @@ impl Machine {
         ensures bare { AreBare back.new.slices.items }
         ensures as_many { length back.new.slices.items ≡ length back.old.slices.items }
     {
-        self.lay_homes(&mut back.slices, replaced, slots, lent);
+        self.lay_returned(&mut back.slices, replaced, slots, lent);
         self.lay_made(replaced, slots)?;
         self.lay_cells(&back.cells, target);
         self.place = back.place;

@@ -16,7 +16,7 @@ impl Machine {
     /// executed before. The continuation of the call returned without being executed, or with its effect. `lent`
     /// lists what the spawned call was lent. If a new array was made in a slot, `replaced` holds the slot's own array
     /// before, and the new one afterwards. The slices are left without elements. Allocates nothing and cannot fail.
-    pub fn come_home(
+    pub fn return_slices(
         &mut self,
         lender: Lender,
         lent: &[Loan],

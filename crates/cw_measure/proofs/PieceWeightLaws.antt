@@ -9,7 +9,7 @@ use Rattle.cw_measure.specs.declared.burdened_path.BurdenedBlock.{BurdenedBlock}
 use Rattle.cw_measure.specs.declared.burdened_path.BurdenedPath.{BurdenedPath}
 use Rattle.cw_measure.specs.OpenParts.{Open, has_spawned, no_joins}
 use Rattle.cw_measure.specs.BlockWeights.{BlockWeight, Straight, Split, now_of, gone_on, child_ended, top_of, after_all, joined_on, enters, block_weight}
-use Rattle.cw_measure.specs.StrandWeights.{StrandWeight, strand_weight, lengthened, appends_at, appends, longest_of, FitsPiece, reversed, StandsOn, Under, ShowsWeight, FitsRun, AppendsWeight}
+use Rattle.cw_measure.specs.StrandWeights.{StrandWeight, strand_weight, lengthened, appends_at, appends, longest_of, FitsPiece, reversed, IsStackedOn, Under, ShowsWeight, FitsRun, AppendsWeight}
 use Rattle.cw_measure.specs.PathCalls.{AppendsWithin}
 use Rattle.cw_measure.specs.lemmas.OpenParts.{work_append}
 use Rattle.cw_measure.specs.lemmas.StrandWeights.{after_all-append, is_split, split-block, ShowsBlock, by_block, stands_gone_on, now_gone_on, burdened_append}
@@ -60,7 +60,7 @@ abbrev is_none : List BurdenedBlock → Type 0
 is_none bs = bs ≡ []
 
 lengthened_at : (below : List BurdenedBlock → Type 0) (first : Bool) (L : BlockWeight) (l m n : ℕ) (bs : List BurdenedBlock) → is_split L ≡ not first
-    → n ≡ now_of L → StandsOn below L bs → ShowsBlock below (joined_on L (Split l m)) (record { now = n + m; blocks = lengthened first (n + l) n bs })
+    → n ≡ now_of L → IsStackedOn below L bs → ShowsBlock below (joined_on L (Split l m)) (record { now = n + m; blocks = lengthened first (n + l) n bs })
 lengthened_at below true (Straight k) l m n bs s e h = record { now_is = ap (λ (x : ℕ). x + m) e; blocks_are = (ap (λ (x : ℕ). x + l) e, h) }
 lengthened_at below true (Split j k) l m n bs s e h = cc
 lengthened_at below false (Straight k) l m n bs s e h = cc
@@ -68,7 +68,7 @@ lengthened_at below false (Split j k) l m n [] s e h = absurd h
 lengthened_at below false (Split j k) l m n (b ∷ bs) s e h = let a = h.0 in record { now_is = ap (λ (x : ℕ). x + m) e; blocks_are = (omega arith, h.1) }
 
 appended_at : (below : List BurdenedBlock → Type 0) (first : Bool) (L M : BlockWeight) (m : ℕ) (ps : List BurdenedBlock) (v : StrandWeight)
-    → is_split L ≡ not first → ShowsBlock below L v → m ≡ now_of M → StandsOn is_none M ps → ShowsBlock below (joined_on L M) (appends_at first m ps v)
+    → is_split L ≡ not first → ShowsBlock below L v → m ≡ now_of M → IsStackedOn is_none M ps → ShowsBlock below (joined_on L M) (appends_at first m ps v)
 appended_at below first L (Straight k) m [] v s h e g =
     let a = h.now_is in let b = now_gone_on k L in
     record { now_is = omega arith; blocks_are = stands_gone_on below k L v.blocks h.blocks_are }
@@ -89,7 +89,7 @@ shows_piece burden os es fs u v first s n h g =
     (record { now_is = h.now_is; blocks_are = h.blocks_are }) g.now_is g.blocks_are)
 
 -- the paths of the piece fit
-longest_top : (L : BlockWeight) (bs : List BurdenedBlock) → StandsOn is_none L bs → longest_of bs ≤ top_of L
+longest_top : (L : BlockWeight) (bs : List BurdenedBlock) → IsStackedOn is_none L bs → longest_of bs ≤ top_of L
 longest_top (Straight n) [] h = omega arith
 longest_top (Straight n) (b ∷ bs) h = cc
 longest_top (Split l n) [] h = absurd h

@@ -9,8 +9,8 @@ use Rattle.cw_measure.specs.declared.burdened_path.BurdenedPath.{BurdenedPath}
 use Rattle.cw_measure.specs.OpenParts.{Open, in_fork, marked, closed, has_spawned, Since, work_in}
 use Rattle.cw_measure.specs.BlockWeights.{BlockWeight, Straight, Split, now_of, gone_on, child_ended, top_of, after, after_all}
 use Rattle.cw_measure.specs.BlockWeights.{enters, block_weight, weight_in, burdened_work_in, WorkAndWeightAreMetered}
-use Rattle.cw_measure.specs.StrandWeights.{StrandWeight, reversed, strand_weight, goes_on, begins, begins_again, spawns, ends, joins, saved_of, Fits, StandsOn}
-use Rattle.cw_measure.specs.StrandWeights.{RestsOn, Under, ShowsWeight, TellsWeight, FitsRun, HasGoneOn, noted_at, LatePathsWait, NotesLate}
+use Rattle.cw_measure.specs.StrandWeights.{StrandWeight, reversed, strand_weight, goes_on, begins, begins_again, spawns, ends, joins, saved_of, Fits, IsStackedOn}
+use Rattle.cw_measure.specs.StrandWeights.{RestsOn, Under, ShowsWeight, TracksWeight, FitsRun, HasGoneOn, noted_at, LatePathsWait, NotesLate}
 use Rattle.cw_measure.specs.lemmas.BlockWeights.{top-after_all, child_charge}
 use Rattle.cw_measure.specs.lemmas.OpenParts.{KeptBy, kept_since, has_spawned_since, work_since, work_adds, work_more, sum_begun, left_work}
 use Rattle.cw_measure.specs.lemmas.StrandWeights.{block_more, is_split, split-block, straight, span_marked, ended_weight, weight_meters, work_meters, ShowsBlock}
@@ -45,7 +45,7 @@ begins_split below (Straight n) v e h = (refl, h.now_is, h.blocks_are)
 begins_split below (Split l n) v e h = cc
 
 again_at : (below : List BurdenedBlock → Type 0) (L : BlockWeight) (n : ℕ) (bs : List BurdenedBlock) → is_split L ≡ true → n ≡ now_of L
-    → StandsOn below L bs → RestsOn below L (begins_again (record { now = n; blocks = bs })).blocks
+    → IsStackedOn below L bs → RestsOn below L (begins_again (record { now = n; blocks = bs })).blocks
 again_at below (Straight m) n bs e f h = cc
 again_at below (Split l m) n [] e f h = absurd h
 again_at below (Split l m) n (b ∷ bs) e f h = (h.0, f, h.1)
@@ -66,7 +66,7 @@ shows_spawned false burden mark os es v e h = record {
 }
 
 joins_at : (below : List BurdenedBlock → Type 0) (L : BlockWeight) (n : ℕ) (bs : List BurdenedBlock) → is_split L ≡ true → n ≡ now_of L
-    → StandsOn below L bs → ShowsBlock below (Straight (top_of L)) (joins (record { now = n; blocks = bs }))
+    → IsStackedOn below L bs → ShowsBlock below (Straight (top_of L)) (joins (record { now = n; blocks = bs }))
 joins_at below (Straight m) n bs e f h = cc
 joins_at below (Split l m) n [] e f h = absurd h
 joins_at below (Split l m) n (b ∷ bs) e f h = record { now_is = ap (λ (x : ℕ). max x n) h.0 ∙ ap (max l) f; blocks_are = h.1 }
@@ -168,8 +168,8 @@ child_fits burden mark outer os es v e fits h =
 -- The methods.
 
 pub noted_weight : (burden : Burden) (os : List Open) (es fs : List Event) (old new : BurdenedPath) (count : ℕ) → Since old.noted count es fs
-    → FitsRun burden os (es ++ fs) → TellsWeight burden os es old → (old.weight + (count - old.noted) < 2 ^ 128
-    → strand_weight new ≡ goes_on (count - old.noted) (strand_weight old)) → new.noted ≡ count → TellsWeight burden os (es ++ fs) new
+    → FitsRun burden os (es ++ fs) → TracksWeight burden os es old → (old.weight + (count - old.noted) < 2 ^ 128
+    → strand_weight new ≡ goes_on (count - old.noted) (strand_weight old)) → new.noted ≡ count → TracksWeight burden os (es ++ fs) new
 noted_weight burden os es fs old new count since fits h f m =
     let k = count - old.noted in
     let v = strand_weight old in
@@ -217,8 +217,8 @@ late_noted old new count gone n = λ burden os es fs since fits h.
     record { shows = subst D (f ∙ sym c) t.shows; noted_is = omega arith }
 
 pub spawned_weight : (burden : Burden) (mark : Option Mark) (os : List Open) (es fs : List Event) (old mid new : BurdenedPath) (count : ℕ)
-    (first : Bool) → Since old.noted count es fs → has_spawned es ≡ not first → TellsWeight burden os (es ++ fs) mid
-    → strand_weight new ≡ spawns first (strand_weight mid) → new.noted ≡ mid.noted → TellsWeight burden (in_fork mark (es ++ fs) os) [] new
+    (first : Bool) → Since old.noted count es fs → has_spawned es ≡ not first → TracksWeight burden os (es ++ fs) mid
+    → strand_weight new ≡ spawns first (strand_weight mid) → new.noted ≡ mid.noted → TracksWeight burden (in_fork mark (es ++ fs) os) [] new
 spawned_weight burden mark os es fs old mid new count first since e h f m =
     let n = has_spawned_since es fs (count - old.noted) since.instructions ∙ e in
     let D : StrandWeight → Type 0 = λ x. ShowsWeight burden (in_fork mark (es ++ fs) os) [] x in
@@ -229,8 +229,8 @@ spawned_weight burden mark os es fs old mid new count first since e h f m =
 
 pub child_ended_weight : (burden : Burden) (o : Open) (os : List Open) (es fs : List Event) (old mid new : BurdenedPath) (count : ℕ)
     → Since old.noted count es fs → FitsRun burden (o ∷ os) (es ++ fs) → o.spawned ≡ true → has_spawned es ≡ false
-    → TellsWeight burden (o ∷ os) (es ++ fs) mid → (Fits burden (strand_weight mid) → strand_weight new ≡ ends burden (strand_weight mid))
-    → new.noted ≡ mid.noted → TellsWeight burden os (closed o (es ++ fs)) new
+    → TracksWeight burden (o ∷ os) (es ++ fs) mid → (Fits burden (strand_weight mid) → strand_weight new ≡ ends burden (strand_weight mid))
+    → new.noted ≡ mid.noted → TracksWeight burden os (closed o (es ++ fs)) new
 child_ended_weight burden o os es fs old mid new count since fits b e h f m =
     let n = has_spawned_since es fs (count - old.noted) since.instructions ∙ e in
     let D : StrandWeight → Type 0 = λ x. ShowsWeight burden os (closed o (es ++ fs)) x in
@@ -246,8 +246,8 @@ child_ended_weight burden o os es fs old mid new count since fits b e h f m =
     fits_by false b fits h n = cc
 
 pub joined_weight : (burden : Burden) (os : List Open) (es fs : List Event) (old mid new : BurdenedPath) (count : ℕ) → Since old.noted count es fs
-    → has_spawned es ≡ true → TellsWeight burden os (es ++ fs) mid → strand_weight new ≡ joins (strand_weight mid) → new.noted ≡ mid.noted
-    → TellsWeight burden os ((es ++ fs) ++ Join ∷ []) new
+    → has_spawned es ≡ true → TracksWeight burden os (es ++ fs) mid → strand_weight new ≡ joins (strand_weight mid) → new.noted ≡ mid.noted
+    → TracksWeight burden os ((es ++ fs) ++ Join ∷ []) new
 joined_weight burden os es fs old mid new count since e h f m =
     let n = has_spawned_since es fs (count - old.noted) since.instructions ∙ e in
     let D : StrandWeight → Type 0 = λ x. ShowsWeight burden os ((es ++ fs) ++ Join ∷ []) x in
@@ -256,7 +256,7 @@ joined_weight burden os es fs old mid new count since e h f m =
       noted_is = let a = work_more os (es ++ fs) Join in let b = h.noted_is in omega arith;
     }
 
-pub weight_read : (burden : Burden) (es : List Event) (path : BurdenedPath) → has_spawned es ≡ false → TellsWeight burden [] es path → path.weight ≡ burdened_span burden (tree_of es)
+pub weight_read : (burden : Burden) (es : List Event) (path : BurdenedPath) → has_spawned es ≡ false → TracksWeight burden [] es path → path.weight ≡ burdened_span burden (tree_of es)
 weight_read burden es path e h =
     h.shows.now_is ∙ straight (block_weight burden [] es) (split-block burden [] es ∙ e) ∙ top-after_all burden 0 es ∙ omega arith
 

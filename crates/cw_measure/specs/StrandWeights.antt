@@ -109,10 +109,10 @@ Fits burden v =
     (saved_of v.blocks + (at_child burden + v.now) < 2 ^ 128) × (saved_of v.blocks + at_rest burden < 2 ^ 128)
 
 -- the current block, or a block in which a part in series is open
-abbrev pub StandsOn : (below : List BurdenedBlock → Type 0) → BlockWeight → List BurdenedBlock → Type 0
-StandsOn below (Straight n) bs = below bs
-StandsOn below (Split l n) [] = ⊥
-StandsOn below (Split l n) (b ∷ bs) = (b.longest ≡ l) × below bs
+abbrev pub IsStackedOn : (below : List BurdenedBlock → Type 0) → BlockWeight → List BurdenedBlock → Type 0
+IsStackedOn below (Straight n) bs = below bs
+IsStackedOn below (Split l n) [] = ⊥
+IsStackedOn below (Split l n) (b ∷ bs) = (b.longest ≡ l) × below bs
 
 -- a block whose spawned child is running
 abbrev pub RestsOn : (below : List BurdenedBlock → Type 0) → BlockWeight → List BurdenedBlock → Type 0
@@ -124,7 +124,7 @@ RestsOn below (Split l n) (b ∷ bs) = (b.longest ≡ l) × (b.saved ≡ n) × b
 abbrev pub LiesUnder : (spawned : Bool) → (below : List BurdenedBlock → Type 0) → BlockWeight → List BurdenedBlock
     → Type 0
 LiesUnder true below L bs = RestsOn below L bs
-LiesUnder false below L bs = StandsOn below L bs
+LiesUnder false below L bs = IsStackedOn below L bs
 
 -- the blocks below all open parts
 abbrev pub Under : Burden → List Open → List BurdenedBlock → Type 0
@@ -134,10 +134,10 @@ Under burden (o ∷ os) bs = LiesUnder o.spawned (Under burden os) (block_weight
 -- the weights of a strand represent a run so far
 pub record ShowsWeight (burden : Burden) (os : List Open) (es : List Event) (v : StrandWeight) : Type 0 where
   pub now_is : v.now ≡ now_of (block_weight burden os es)
-  pub blocks_are : StandsOn (Under burden os) (block_weight burden os es) v.blocks
+  pub blocks_are : IsStackedOn (Under burden os) (block_weight burden os es) v.blocks
 
 -- a burdened path represents a run so far
-pub record TellsWeight (burden : Burden) (os : List Open) (es : List Event) (path : BurdenedPath) : Type 0 where
+pub record TracksWeight (burden : Burden) (os : List Open) (es : List Event) (path : BurdenedPath) : Type 0 where
   pub shows : ShowsWeight burden os es (strand_weight path)
   pub noted_is : path.noted ≡ work_in os es
 
@@ -152,66 +152,66 @@ noted_at count path =
 
 -- a late burdened path: instructions, and starts and ends of parts in series, may be missing; it represents the run
 -- once all instructions are included
-pub record TellsLate (burden : Burden) (os : List Open) (es : List Event) (path : BurdenedPath) : Type 0 where
+pub record TracksLate (burden : Burden) (os : List Open) (es : List Event) (path : BurdenedPath) : Type 0 where
   pub late : path.noted ≤ work_in os es
-  pub tells : TellsWeight burden os es (noted_at (work_in os es) path)
+  pub tells : TracksWeight burden os es (noted_at (work_in os es) path)
 
 -- a late path stays late as instructions, and joins of blocks that have spawned nothing, follow
 abbrev pub LatePathsWait : Type 0
 LatePathsWait =
     (burden : Burden) (os : List Open) (es fs : List Event) (path : BurdenedPath) (count : ℕ)
     → Since (work_in os es) count es fs → FitsRun burden os (es ++ fs)
-    → TellsLate burden os es path → TellsLate burden os (es ++ fs) path
+    → TracksLate burden os es path → TracksLate burden os (es ++ fs) path
 
 -- a late path represents the run after `note`
 abbrev pub NotesLate : BurdenedPath → BurdenedPath → (count : ℕ) → Type 0
 NotesLate old new count =
     (burden : Burden) (os : List Open) (es fs : List Event) → Since (work_in os es) count es fs
-    → FitsRun burden os (es ++ fs) → TellsLate burden os es old → TellsWeight burden os (es ++ fs) new
+    → FitsRun burden os (es ++ fs) → TracksLate burden os es old → TracksWeight burden os (es ++ fs) new
 
 -- includes the instructions up to a count: a path that represents a run represents the run after the events
 abbrev pub NotesWeight : BurdenedPath → BurdenedPath → (count : ℕ) → Type 0
 NotesWeight old new count =
     (burden : Burden) (os : List Open) (es fs : List Event) → Since old.noted count es fs → FitsRun burden os (es ++ fs)
-    → TellsWeight burden os es old → TellsWeight burden os (es ++ fs) new
+    → TracksWeight burden os es old → TracksWeight burden os (es ++ fs) new
 
 -- begins a spawned part
 abbrev pub SpawnsWeight : BurdenedPath → BurdenedPath → (count : ℕ) → (first : Bool) → Type 0
 SpawnsWeight old new count first =
     (burden : Burden) (mark : Option Mark) (os : List Open) (es fs : List Event) → Since old.noted count es fs
     → FitsRun burden os (es ++ fs)
-    → has_spawned es ≡ not first → TellsWeight burden os es old → TellsWeight burden (in_fork mark (es ++ fs) os) [] new
+    → has_spawned es ≡ not first → TracksWeight burden os es old → TracksWeight burden (in_fork mark (es ++ fs) os) [] new
 
 -- ends a spawned part whose block has joined
 abbrev pub EndsChildWeight : BurdenedPath → BurdenedPath → (count : ℕ) → Burden → Type 0
 EndsChildWeight old new count burden =
     (o : Open) (os : List Open) (es fs : List Event) → Since old.noted count es fs → FitsRun burden (o ∷ os) (es ++ fs)
-    → o.spawned ≡ true → has_spawned es ≡ false → TellsWeight burden (o ∷ os) es old
-    → TellsWeight burden os (closed o (es ++ fs)) new
+    → o.spawned ≡ true → has_spawned es ≡ false → TracksWeight burden (o ∷ os) es old
+    → TracksWeight burden os (closed o (es ++ fs)) new
 
 -- joins a block that has spawned since its last join
 abbrev pub JoinsWeight : BurdenedPath → BurdenedPath → (count : ℕ) → Type 0
 JoinsWeight old new count =
     (burden : Burden) (os : List Open) (es fs : List Event) → Since old.noted count es fs → FitsRun burden os (es ++ fs)
-    → has_spawned es ≡ true → TellsWeight burden os es old → TellsWeight burden os ((es ++ fs) ++ Join ∷ []) new
+    → has_spawned es ≡ true → TracksWeight burden os es old → TracksWeight burden os ((es ++ fs) ++ Join ∷ []) new
 
 -- appends a piece of the current block that was executed separately and has no join
 abbrev pub AppendsWeight : BurdenedPath → (piece : BurdenedPath) → BurdenedPath → (first : Bool) → Type 0
 AppendsWeight old piece new first =
     (burden : Burden) (os : List Open) (es fs : List Event) → has_spawned es ≡ not first → no_joins fs ≡ true
     → work_in os (es ++ fs) < 2 ^ 64
-    → FitsRun burden os (es ++ fs) → TellsWeight burden os es old → TellsWeight burden [] fs piece
-    → TellsWeight burden os (es ++ fs) new
+    → FitsRun burden os (es ++ fs) → TracksWeight burden os es old → TracksWeight burden [] fs piece
+    → TracksWeight burden os (es ++ fs) new
 
 -- parts in series begin and end without a call, once the instructions so far are included
 pub record SeriesNeedNoCall (burden : Burden) (path : BurdenedPath) : Type 0 where
-  pub begins : (mark : Option Mark) (os : List Open) (es : List Event) → TellsWeight burden os es path
-      → TellsWeight burden (in_series mark es os) [] path
+  pub begins : (mark : Option Mark) (os : List Open) (es : List Event) → TracksWeight burden os es path
+      → TracksWeight burden (in_series mark es os) [] path
   pub ends : (o : Open) (os : List Open) (es : List Event) → o.spawned ≡ false → has_spawned es ≡ false
-      → TellsWeight burden (o ∷ os) es path → TellsWeight burden os (closed o es) path
+      → TracksWeight burden (o ∷ os) es path → TracksWeight burden os (closed o es) path
 
 -- the weight of a burdened path at the end of a run
 abbrev pub ReadsWeight : BurdenedPath → (weight : ℕ) → Type 0
 ReadsWeight path weight =
-    (burden : Burden) (es : List Event) → has_spawned es ≡ false → TellsWeight burden [] es path
+    (burden : Burden) (es : List Event) → has_spawned es ≡ false → TracksWeight burden [] es path
     → weight ≡ burdened_span burden (tree_of es)

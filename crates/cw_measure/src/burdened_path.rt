@@ -4,7 +4,7 @@ ghost use Rattle.std.specs.Prelude.{◌≡◌, ℕ, [], true, false, OnOk};
 ghost use Rattle.cw_model.specs.declared.burden.Burden.{Burden};
 ghost use Rattle.cw_measure.specs.PathCalls.{AppendsWithin, BeginsChild, EndsWithin, Lengthens};
 ghost use Rattle.cw_measure.specs.StrandWeights.{begins, begins_again, joins, strand_weight};
-ghost use Rattle.cw_measure.specs.StrandWeights.{AppendsWeight, EndsChildWeight, JoinsWeight, HasGoneOn, HasRoomForBlock, NotesLate, NotesWeight, ReadsWeight, SpawnsWeight, TellsWeight};
+ghost use Rattle.cw_measure.specs.StrandWeights.{AppendsWeight, EndsChildWeight, JoinsWeight, HasGoneOn, HasRoomForBlock, NotesLate, NotesWeight, ReadsWeight, SpawnsWeight, TracksWeight};
 
 use cw_model::burden::Burden;
 use std::alloc::{AllocError, Global};
@@ -35,7 +35,7 @@ pub struct BurdenedPath {
 impl BurdenedPath {
     /// Returns the path of a run at its start. Allocates no memory.
     pub fn new(alloc: Global) -> BurdenedPath
-        ensures { (burden : Burden) → TellsWeight burden [] [] result }
+        ensures { (burden : Burden) → TracksWeight burden [] [] result }
     {
         BurdenedPath {
             weight: 0,

@@ -8,7 +8,7 @@
 //! # How a run calls a `BurdenedPath`
 //!
 //! A run so far is a list of open parts and the events of the current block. Each open part has a flag for a spawn,
-//! its mark, and the events of the enclosing block (`Open` in `specs/OpenParts`). `TellsWeight` states that a path
+//! its mark, and the events of the enclosing block (`Open` in `specs/OpenParts`). `TracksWeight` states that a path
 //! represents such a run, and each method preserves it from the run before to the run after. Between two calls
 //! (`Since`) there may be any list of instructions and of joins of a block that has not spawned. So a machine counts
 //! instructions, and calls a method only if it spawns, ends a child or joins a block that has spawned; it calls

@@ -7,7 +7,7 @@ use Rattle.cw_model.specs.declared.limits.TheConstants.{MOST_LIMIT, MOST_BURDEN}
 use Rattle.cw_model.specs.Trees.{Mark, Invocation, Execution, Event, Series, Fork, tree_of}
 use Rattle.cw_measure.specs.declared.burdened_path.BurdenedPath.{BurdenedPath}
 use Rattle.cw_measure.specs.OpenParts.{Open, marked, closed, has_spawned}
-use Rattle.cw_measure.specs.StrandWeights.{TellsWeight, LatePathsWait, NotesLate, EndsChildWeight}
+use Rattle.cw_measure.specs.StrandWeights.{TracksWeight, LatePathsWait, NotesLate, EndsChildWeight}
 use Rattle.cw_measure.specs.lemmas.OpenParts.{spawned_append}
 use Rattle.cw_measure.specs.lemmas.StrandWeights.{series_need_no_call, late_ended}
 use Rattle.cw_sites.specs.declared.table.SiteTable.{SiteTable}
@@ -22,7 +22,7 @@ use Rattle.cw_meter.specs.declared.tables.Tables.{Tables}
 use Rattle.cw_meter.specs.declared.parts.PartKind.{PartKind}
 use Rattle.cw_meter.specs.declared.parts.PartKind.TheVariants as kind
 use Rattle.cw_meter.specs.declared.parts.Part.{Part}
-use Rattle.cw_meter.specs.Meters.{TablesTell, nothing_open}
+use Rattle.cw_meter.specs.Meters.{TablesTrackLate, nothing_open}
 use Rattle.cw_meter.specs.Parts.{IsOfKind, IsPart}
 use Rattle.cw_meter.specs.Tables.{Closes, Settles, opened}
 use Rattle.cw_meter.proofs.Counting.{counted_closed, small_tags}
@@ -30,7 +30,7 @@ use Rattle.cw_meter.proofs.TableLaws.{tables_told, tables_late, tags_closed, tol
 
 -- the tables represent the run after a part with this mark has ended
 abbrev Ended : (t new : Tables) (count : ℕ) (burden : Burden) (tags : Tags) (from : Origin) (os : List Open) (es : List Event) → Open → Type 0
-Ended t new count burden tags from os es o = TablesTell burden tags from count (o ∷ os) es t → TablesTell burden tags from count os (closed o es) new
+Ended t new count burden tags from os es o = TablesTrackLate burden tags from count (o ∷ os) es t → TablesTrackLate burden tags from count os (closed o es) new
 
 -- a part is determined by its spawned flag and its mark
 of_mark : (P : Open → Type 0) (o : Open) (spawned : Bool) (mark : Option Mark) → o.spawned ≡ spawned → o.mark ≡ mark → P (record { spawned = spawned; mark = mark; outer = o.outer }) → P o
@@ -49,7 +49,7 @@ has_now : (mark : Option Mark) (before es : List Event) → true ≡ has_spawned
 has_now mark before es = sym (spawned_append false before (Fork (marked mark (tree_of es)) ∷ []))
 
 joined_now : (burden : Burden) (tags : Tags) (from : Origin) (count : ℕ) (os : List Open) (es : List Event) (t : Tables) → t.spawned ≡ false
-    → TablesTell burden tags from count os es t → has_spawned es ≡ false
+    → TablesTrackLate burden tags from count os es t → has_spawned es ≡ false
 joined_now burden tags from count os es t e h = sym h.spawned_is ∙ e
 
 -- a plain call ends
@@ -62,7 +62,7 @@ call_closed t s count part leaves waits e = λ burden tags from o os es is joine
     let mark : Option Mark = Some (Invocation site) in
     let this : Open = record { spawned = false; mark = mark; outer = o.outer } in
     let here = opened false mark o.outer os in
-    let S : List Event → Type 0 = λ x. sites.Tells (base_of from) nothing_open os (closed this x) s in
+    let S : List Event → Type 0 = λ x. sites.Tracks (base_of from) nothing_open os (closed this x) s in
     tables_late burden tags from count os (closed this es) (with_tables t s t.path part.spawned)
     (subst S h.all (leaves (base_of from) nothing_open os o.outer h.told h.since site (sites_since burden tags from count here es t h)
     (told_spawned burden tags from count here es t h ∙ joined) is.site (told_small burden tags from count here es t h small) h.sites))
@@ -73,12 +73,12 @@ call_closed t s count part leaves waits e = λ burden tags from o os es is joine
 -- the path of a spawned part that ends
 child_path : (burden : Burden) (tags : Tags) (from : Origin) (count : ℕ) (mark : Option Mark) (before : List Event) (os : List Open)
     (es : List Event) (t : Tables) (m p : BurdenedPath) → NotesLate t.path m count → EndsChildWeight m p count t.burden → t.spawned ≡ false
-    → count ≤ MOST_LIMIT → burden.charge ≤ MOST_BURDEN → TablesTell burden tags from count (opened true mark before os) es t
-    → TellsWeight burden os (closed (record { spawned = true; mark = mark; outer = before }) es) p
+    → count ≤ MOST_LIMIT → burden.charge ≤ MOST_BURDEN → TablesTrackLate burden tags from count (opened true mark before os) es t
+    → TracksWeight burden os (closed (record { spawned = true; mark = mark; outer = before }) es) p
 child_path burden tags from count mark before os es t m p notes ends joined small light h =
     let here = opened true mark before os in
     let o : Open = record { spawned = true; mark = mark; outer = before } in
-    let P : List Event → Type 0 = λ x. TellsWeight burden os (closed o x) p in
+    let P : List Event → Type 0 = λ x. TracksWeight burden os (closed o x) p in
     let E : Burden → Type 0 = λ x. EndsChildWeight m p count x in
     let told = path_told burden tags from count here es t m notes small light h in
     subst P (append-nil es) (subst E h.burden_is ends o os es [] (none_since burden from count here es m h.counted told)
@@ -92,7 +92,7 @@ spawned_call_closed t s m p count part ends notes heavier e = λ burden tags fro
     let site = k.1.0 in
     let mark : Option Mark = Some (Invocation site) in
     let here = opened true mark o.outer os in
-    let S : List Event → Type 0 = λ x. sites.Tells (base_of from) nothing_open os (closed (record { spawned = true; mark = mark; outer = o.outer }) x) s in
+    let S : List Event → Type 0 = λ x. sites.Tracks (base_of from) nothing_open os (closed (record { spawned = true; mark = mark; outer = o.outer }) x) s in
     tables_told burden tags from count os (closed (record { spawned = true; mark = mark; outer = o.outer }) es) (with_tables t s p true) (record {
       sites = subst S h.all (ends (base_of from) nothing_open os o.outer h.told h.since site (sites_since burden tags from count here es t h)
           (told_spawned burden tags from count here es t h ∙ joined) is.site (told_small burden tags from count here es t h small) h.sites);
@@ -109,7 +109,7 @@ half_closed t s m p count part ends notes heavier e = λ burden tags from o os e
     let k = kind_of from tags o os part kind.Half e is in
     of_mark (Ended t (with_tables t s p true) count burden tags from os es) o true None k.0 k.1 (λ h.
     let here = opened true None o.outer os in
-    let S : List Event → Type 0 = λ x. sites.Tells (base_of from) nothing_open os (closed (record { spawned = true; mark = None; outer = o.outer }) x) s in
+    let S : List Event → Type 0 = λ x. sites.Tracks (base_of from) nothing_open os (closed (record { spawned = true; mark = None; outer = o.outer }) x) s in
     tables_told burden tags from count os (closed (record { spawned = true; mark = None; outer = o.outer }) es) (with_tables t s p true) (record {
       sites = subst S h.all (ends (base_of from) nothing_open None os o.outer h.told h.since tt (sites_since burden tags from count here es t h)
           (told_spawned burden tags from count here es t h ∙ joined) (told_small burden tags from count here es t h small) h.sites);

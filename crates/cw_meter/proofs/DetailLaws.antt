@@ -13,7 +13,7 @@ use Rattle.cw_meter.specs.declared.meter.Meter.{Meter}
 use Rattle.cw_meter.specs.declared.parts.PartKind.TheVariants as kind
 use Rattle.cw_meter.specs.Details.{keeps_values, is_counted, burden_of}
 use Rattle.cw_meter.specs.Origins.{Origin, base_of, given_open}
-use Rattle.cw_meter.specs.Meters.{Begins, BeginsRegion, Ends, Returns, Syncs, Rests, Starts, StartsRest, IsHere, IsOutside, InstructionsNeedNoCall, KnowsOpen, Tells, ticked, synced, begun}
+use Rattle.cw_meter.specs.Meters.{Begins, BeginsRegion, Ends, Returns, Syncs, Rests, Starts, StartsRest, IsHere, IsOutside, InstructionsNeedNoCall, KnowsOpen, Tracks, ticked, synced, begun}
 use Rattle.cw_greedy.specs.Recorded.{Recorded}
 use Rattle.cw_greedy.specs.declared.recorder.Recorder.{Recorder}
 use Rattle.cw_greedy.specs.Recording as strands
@@ -44,14 +44,14 @@ not_measures d burden r e = differ is_counted (Measures burden) d refl r.counts 
 
 counted_tells : (old new : Meter) (count : ℕ) → is_counted old.detail ≡ true → new.detail ≡ old.detail
     → (d : Detail) (tags : Tags) (from : Origin) (os os' : List Open) (es es' : List Event)
-    → ((burden : Burden) → Counts old new count burden tags from os os' es es') → Tells old new count d tags from os os' es es'
+    → ((burden : Burden) → Counts old new count burden tags from os os' es es') → Tracks old new count d tags from os os' es es'
 counted_tells old new count so kept Values tags from os os' es es' f = λ small light open_ h. absurd (differ is_counted old.detail Values so refl h.0)
 counted_tells old new count so kept Strands tags from os os' es es' f = λ small light open_ h. absurd (differ is_counted old.detail Strands so refl h.0)
 counted_tells old new count so kept (Measures burden) tags from os os' es es' f = λ small light open_ h. (kept ∙ h.0, f burden small light h.1)
 
 values_tell : (old new : Meter) (count : ℕ) → keeps_values old.detail ≡ true → new.detail ≡ old.detail
     → (d : Detail) (tags : Tags) (from : Origin) (os os' : List Open) (es es' : List Event)
-    → (count < MOST_LIMIT → KnowsOpen (given_open from) count os old → KnowsOpen (given_open from) (count + 1) os' new) → Tells old new count d tags from os os' es es'
+    → (count < MOST_LIMIT → KnowsOpen (given_open from) count os old → KnowsOpen (given_open from) (count + 1) os' new) → Tracks old new count d tags from os os' es es'
 values_tell old new count so kept Values tags from os os' es es' f = λ small light open_ h. (kept ∙ h.0, f small h.1)
 values_tell old new count so kept Strands tags from os os' es es' f = λ small light open_ h. absurd (differ keeps_values old.detail Strands so refl h.0)
 values_tell old new count so kept (Measures burden) tags from os os' es es' f = λ small light open_ h. absurd (differ keeps_values old.detail (Measures burden) so refl h.0)
@@ -59,7 +59,7 @@ values_tell old new count so kept (Measures burden) tags from os os' es es' f = 
 strands_tell : (old new : Meter) (count : ℕ) → Records old.detail → new.detail ≡ old.detail
     → (d : Detail) (tags : Tags) (from : Origin) (os os' : List Open) (es es' : List Event)
     → (count < MOST_LIMIT → KnowsOpen (given_open from) count os old → KnowsOpen (given_open from) (count + 1) os' new)
-    → strands.Tells old.recorder new.recorder count from os os' es es' → Tells old new count d tags from os os' es es'
+    → strands.Tracks old.recorder new.recorder count from os os' es es' → Tracks old new count d tags from os os' es es'
 strands_tell old new count r kept Values tags from os os' es es' f g = λ small light open_ h. absurd (not_values old.detail r h.0)
 strands_tell old new count r kept Strands tags from os os' es es' f g = λ small light open_ h. (kept ∙ h.0, (f small h.1.0, g small open_ h.1.1))
 strands_tell old new count r kept (Measures burden) tags from os os' es es' f g = λ small light open_ h. absurd (not_measures old.detail burden r h.0)

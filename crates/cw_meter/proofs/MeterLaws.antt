@@ -11,7 +11,7 @@ use Rattle.cw_measure.specs.declared.burdened_path.BurdenedPath.{BurdenedPath}
 use Rattle.cw_measure.specs.OpenParts.{Open, closed}
 use Rattle.cw_measure.specs.Outermost.{is_counted}
 use Rattle.cw_measure.specs.BlockWeights.{weight_in}
-use Rattle.cw_measure.specs.StrandWeights.{TellsWeight}
+use Rattle.cw_measure.specs.StrandWeights.{TracksWeight}
 use Rattle.cw_measure.specs.lemmas.OpenParts.{has_spawned-work}
 use Rattle.cw_measure.specs.lemmas.StrandWeights.{series_need_no_call, weight_meters}
 use Rattle.cw_sites.specs.declared.table.SiteTable.{SiteTable}
@@ -28,7 +28,7 @@ use Rattle.cw_meter.specs.declared.parts.PartKind.{PartKind}
 use Rattle.cw_meter.specs.declared.parts.PartKind.TheVariants as kind
 use Rattle.cw_meter.specs.declared.parts.Part.{Part}
 use Rattle.cw_meter.specs.Alike.{AreAlike, AreOpenAlike}
-use Rattle.cw_meter.specs.Meters.{Measured, IsCounted, TablesTell, nothing_open, ticked, synced, begun}
+use Rattle.cw_meter.specs.Meters.{Measured, IsCounted, TablesTrackLate, nothing_open, ticked, synced, begun}
 use Rattle.cw_meter.specs.Moves.{ClosesPart, JoinsBlock, Stacks, part_in}
 use Rattle.cw_meter.specs.Parts.{AreParts, IsOfKind, IsPart}
 use Rattle.cw_meter.specs.Tables.{Closes, Opens, OpensRegion, StartsTables, opened}
@@ -60,11 +60,11 @@ CountsSync old new count = (burden : Burden) (tags : Tags) (from : Origin) (os :
 pub ticks : (m : Meter) (count : ℕ) (burden : Burden) (tags : Tags) (from : Origin) (os : List Open) (es : List Event)
     → Measured burden tags from count os es m → Measured burden tags from (count + 1) os (ticked es) m
 ticks m count burden tags from os es h = record {
-  told_open = h.told_open;
+  recorded_open = h.recorded_open;
   told = ticked h.told;
   open_alike = h.open_alike;
   alike = alike_more es h.told (Work 1 ∷ []) h.alike;
-  tables = tables_ticked burden tags from count h.told_open h.told m.tables h.tables;
+  tables = tables_ticked burden tags from count h.recorded_open h.told m.tables h.tables;
   parts = h.parts;
 }
 
@@ -83,8 +83,8 @@ no_parts : (from : Origin) (tags : Tags) (o : Open) (os : List Open) (parts : Li
 no_parts from tags o os parts e h = let P : List Part → Type 0 = λ x. AreParts from tags (o ∷ os) (reverse x) in subst P e h
 
 -- a run begins
-pub tables_start : (burden : Burden) (empty s : SiteTable) (p : BurdenedPath) (r : RegionTable) → sites.Tells 0 (λ q. 0) [] [] empty
-    → Enters empty s 0 0 → ((b : Burden) → TellsWeight b [] [] p) → StartsRegions r
+pub tables_start : (burden : Burden) (empty s : SiteTable) (p : BurdenedPath) (r : RegionTable) → sites.Tracks 0 (λ q. 0) [] [] empty
+    → Enters empty s 0 0 → ((b : Burden) → TracksWeight b [] [] p) → StartsRegions r
     → StartsTables burden (record { sites = s; path = p; regions = r; burden = burden; spawned = false })
 tables_start burden empty s p r told enters weighs starts = λ tags.
     let t : Tables = record { sites = s; path = p; regions = r; burden = burden; spawned = false } in
@@ -109,7 +109,7 @@ tables_start burden empty s p r told enters weighs starts = λ tags.
 pub meter_starts : (burden : Burden) (m : Meter) → StartsTables burden m.tables
     → m.parts.items ≡ record { kind = kind.Call; site = 0; spawned = false } ∷ [] → (tags : Tags) → Measured burden tags Main 0 main_open [] m
 meter_starts burden m starts e = λ tags. record {
-  told_open = main_open;
+  recorded_open = main_open;
   told = [];
   open_alike = (refl, refl, alike_itself [], tt);
   alike = alike_itself [];
@@ -121,7 +121,7 @@ meter_starts burden m starts e = λ tags. record {
 -- a part begins
 part_stacked : (burden : Burden) (tags : Tags) (from : Origin) (count : ℕ) (spawned : Bool) (mark : Option Mark) (os : List Open) (es : List Event)
     (old mid : Meter) (k : PartKind) → Stacks old mid k → IsOfKind tags (record { spawned = spawned; mark = mark; outer = ticked es }) k
-    → TablesTell burden tags from count os es old.tables → AreParts from tags os (reverse old.parts.items)
+    → TablesTrackLate burden tags from count os es old.tables → AreParts from tags os (reverse old.parts.items)
     → AreParts from tags (opened spawned mark (ticked es) os) (reverse mid.parts.items)
 part_stacked burden tags from count spawned mark os es old mid k stacks is h parts =
     parts_pushed from tags (record { spawned = spawned; mark = mark; outer = ticked es }) os
@@ -138,13 +138,13 @@ meter_begins old mid t count next k spawned mark stacks opens is sat = λ burden
     let opens_old = subst T stacks.tables (subst N (sat small) opens) in
     let within : count + 1 ≤ MOST_LIMIT = omega arith in
     record {
-      told_open = opened spawned mark (ticked h.told) h.told_open;
+      recorded_open = opened spawned mark (ticked h.told) h.recorded_open;
       told = [];
       open_alike = (refl, refl, alike_more es h.told (Work 1 ∷ []) h.alike, h.open_alike);
       alike = alike_itself [];
-      tables = opens_old burden tags from h.told_open (ticked h.told) (counted_opened burden from count spawned mark h.told_open h.told
-          h.tables.counted) within light (tables_ticked burden tags from count h.told_open h.told old.tables h.tables);
-      parts = part_stacked burden tags from count spawned mark h.told_open h.told old mid k stacks (is tags (ticked h.told)) h.tables h.parts;
+      tables = opens_old burden tags from h.recorded_open (ticked h.told) (counted_opened burden from count spawned mark h.recorded_open h.told
+          h.tables.counted) within light (tables_ticked burden tags from count h.recorded_open h.told old.tables h.tables);
+      parts = part_stacked burden tags from count spawned mark h.recorded_open h.told old mid k stacks (is tags (ticked h.told)) h.tables h.parts;
     }
 
 pub meter_begins_region : (old mid : Meter) (t : Tables) (count next tag : ℕ) → Stacks old mid (kind.Region tag) → OpensRegion mid.tables t next tag
@@ -156,14 +156,14 @@ meter_begins_region old mid t count next tag stacks opens sat = λ burden tags f
     let opens_old = subst T stacks.tables (subst N (sat small) opens) in
     let within : count + 1 ≤ MOST_LIMIT = omega arith in
     record {
-      told_open = opened false mark (ticked h.told) h.told_open;
+      recorded_open = opened false mark (ticked h.told) h.recorded_open;
       told = [];
       open_alike = (refl, refl, alike_more es h.told (Work 1 ∷ []) h.alike, h.open_alike);
       alike = alike_itself [];
-      tables = opens_old burden tags from h.told_open (ticked h.told) known
-          (counted_opened burden from count false mark h.told_open h.told h.tables.counted) within light
-          (tables_ticked burden tags from count h.told_open h.told old.tables h.tables);
-      parts = part_stacked burden tags from count false mark h.told_open h.told old mid (kind.Region tag) stacks (refl, known, refl) h.tables h.parts;
+      tables = opens_old burden tags from h.recorded_open (ticked h.told) known
+          (counted_opened burden from count false mark h.recorded_open h.told h.tables.counted) within light
+          (tables_ticked burden tags from count h.recorded_open h.told old.tables h.tables);
+      parts = part_stacked burden tags from count false mark h.recorded_open h.told old mid (kind.Region tag) stacks (refl, known, refl) h.tables h.parts;
     }
 
 -- the current block joins
@@ -178,19 +178,19 @@ pub meter_syncs : (old new : Meter) (count : ℕ) → JoinsBlock old new count �
 meter_syncs old new count joins e = λ burden tags from os es small light h.
     let within : count ≤ MOST_LIMIT = omega arith in
     record {
-      told_open = h.told_open;
+      recorded_open = h.recorded_open;
       told = ticked (h.told ++ Join ∷ []);
       open_alike = h.open_alike;
       alike = synced_alike es h.told h.alike;
-      tables = tables_ticked burden tags from count h.told_open (h.told ++ Join ∷ []) new.tables (joins burden tags from h.told_open h.told within light h.tables);
-      parts = same_parts from tags h.told_open old.parts.items new.parts.items e h.parts;
+      tables = tables_ticked burden tags from count h.recorded_open (h.told ++ Join ∷ []) new.tables (joins burden tags from h.recorded_open h.told within light h.tables);
+      parts = same_parts from tags h.recorded_open old.parts.items new.parts.items e h.parts;
     }
 
 -- the innermost part ends
 pub part_closed : (old : Meter) (left : List Part) (part : Part) (t : Tables) (count : ℕ) → Closes old.tables t count part
     → old.parts.items ≡ left ++ part ∷ [] → (burden : Burden) (tags : Tags) (from : Origin) (o : Open) (os : List Open) (es : List Event)
     → old.tables.spawned ≡ false → AreParts from tags (o ∷ os) (reverse old.parts.items) → count ≤ MOST_LIMIT → burden.charge ≤ MOST_BURDEN
-    → TablesTell burden tags from count (o ∷ os) es old.tables → TablesTell burden tags from count os (closed o es) t × AreParts from tags os (reverse left)
+    → TablesTrackLate burden tags from count (o ∷ os) es old.tables → TablesTrackLate burden tags from count os (closed o es) t × AreParts from tags os (reverse left)
 part_closed old left part t count closes e = λ burden tags from o os es joined parts small light h.
     let a = parts_popped from tags o os part old.parts.items left e parts in (closes burden tags from o os es a.0 joined small light h, a.1)
 
@@ -200,7 +200,7 @@ nothing_closed old new count e = λ burden tags from o os es joined parts small 
 ended_in : (old mid new : Meter) (count : ℕ) → JoinsBlock old mid count → mid.tables.spawned ≡ false → mid.parts.items ≡ old.parts.items
     → ClosesPart mid new count → (burden : Burden) (tags : Tags) (from : Origin) (o : Open) (os : List Open) (es : List Event) (opens : List Open)
     (events : List Event) → count < MOST_LIMIT → burden.charge ≤ MOST_BURDEN → AreOpenAlike (o ∷ os) opens → AreAlike es events
-    → TablesTell burden tags from count opens events old.tables → AreParts from tags opens (reverse old.parts.items)
+    → TablesTrackLate burden tags from count opens events old.tables → AreParts from tags opens (reverse old.parts.items)
     → Measured burden tags from (count + 1) os (ticked (closed o es)) new
 ended_in old mid new count joins joined e closes burden tags from o os es [] events small light alike_open alike h parts = absurd alike_open
 ended_in old mid new count joins joined e closes burden tags from o os es (p ∷ ps) events small light alike_open alike h parts =
@@ -208,7 +208,7 @@ ended_in old mid new count joins joined e closes burden tags from o os es (p ∷
     let c = closes burden tags from p ps (events ++ Join ∷ []) joined (same_parts from tags (p ∷ ps) old.parts.items mid.parts.items e parts) within
     light (joins burden tags from (p ∷ ps) events within light h) in
     record {
-      told_open = ps;
+      recorded_open = ps;
       told = ticked (closed p (events ++ Join ∷ []));
       open_alike = alike_open.3;
       alike = alike_more (closed o es) (closed p (events ++ Join ∷ [])) (Work 1 ∷ []) (alike_closed o p es (events ++ Join ∷ []) alike_open.0 alike_open.1 alike_open.2 (alike_joined es events alike));
@@ -218,12 +218,12 @@ ended_in old mid new count joins joined e closes burden tags from o os es (p ∷
 
 pub meter_ends : (old mid new : Meter) (count : ℕ) → JoinsBlock old mid count → mid.tables.spawned ≡ false → mid.parts.items ≡ old.parts.items → ClosesPart mid new count → CountsEnd old new count
 meter_ends old mid new count joins joined e closes = λ burden tags from o os es series small light h.
-    ended_in old mid new count joins joined e closes burden tags from o os es h.told_open h.told small light h.open_alike h.alike h.tables h.parts
+    ended_in old mid new count joins joined e closes burden tags from o os es h.recorded_open h.told small light h.open_alike h.alike h.tables h.parts
 
 returned_in : (old mid new : Meter) (count : ℕ) → JoinsBlock old mid count → mid.tables.spawned ≡ false → mid.parts.items ≡ old.parts.items
     → ClosesPart mid new (count + 1) → (burden : Burden) (tags : Tags) (from : Origin) (o : Open) (os : List Open) (es : List Event)
     (opens : List Open) (events : List Event) → count < MOST_LIMIT → burden.charge ≤ MOST_BURDEN → AreOpenAlike (o ∷ os) opens → AreAlike es events
-    → TablesTell burden tags from count opens events old.tables → AreParts from tags opens (reverse old.parts.items)
+    → TablesTrackLate burden tags from count opens events old.tables → AreParts from tags opens (reverse old.parts.items)
     → Measured burden tags from (count + 1) os (closed o (synced es)) new
 returned_in old mid new count joins joined e closes burden tags from o os es [] events small light alike_open alike h parts = absurd alike_open
 returned_in old mid new count joins joined e closes burden tags from o os es (p ∷ ps) events small light alike_open alike h parts =
@@ -233,7 +233,7 @@ returned_in old mid new count joins joined e closes burden tags from o os es (p 
     let c = closes burden tags from p ps all joined (same_parts from tags (p ∷ ps) old.parts.items mid.parts.items e parts) within light
     (tables_ticked burden tags from count (p ∷ ps) (events ++ Join ∷ []) mid.tables (joins burden tags from (p ∷ ps) events before light h)) in
     record {
-      told_open = ps;
+      recorded_open = ps;
       told = closed p all;
       open_alike = alike_open.3;
       alike = alike_closed o p (synced es) all alike_open.0 alike_open.1 alike_open.2 (alike_trees (synced es) all (synced_alike es events alike));
@@ -245,4 +245,4 @@ pub meter_returns : (old mid new : Meter) (count next : ℕ) → JoinsBlock old 
     → mid.parts.items ≡ old.parts.items → ClosesPart mid new next → (count < MOST_LIMIT → next ≡ count + 1) → CountsReturn old new count
 meter_returns old mid new count next joins joined e closes sat = λ burden tags from o os es small light h.
     let N : ℕ → Type 0 = λ x. ClosesPart mid new x in
-    returned_in old mid new count joins joined e (subst N (sat small) closes) burden tags from o os es h.told_open h.told small light h.open_alike h.alike h.tables h.parts
+    returned_in old mid new count joins joined e (subst N (sat small) closes) burden tags from o os es h.recorded_open h.told small light h.open_alike h.alike h.tables h.parts

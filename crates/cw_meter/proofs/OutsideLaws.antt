@@ -26,4 +26,4 @@ alike_many (o ∷ os) [] h = absurd h
 alike_many (o ∷ os) (p ∷ ps) h = ap suc (alike_many os ps h.3)
 
 pub parts_many : (burden : Burden) (tags : Tags) (from : Origin) (count : ℕ) (os : List Open) (es : List Event) (m : Meter) → Measured burden tags from count os es m → length m.parts.items ≡ length os
-parts_many burden tags from count os es m h = sym (length-reverse m.parts.items) ∙ as_many from tags h.told_open (reverse m.parts.items) h.parts ∙ alike_many os h.told_open h.open_alike
+parts_many burden tags from count os es m h = sym (length-reverse m.parts.items) ∙ as_many from tags h.recorded_open (reverse m.parts.items) h.parts ∙ alike_many os h.recorded_open h.open_alike

@@ -29,7 +29,7 @@ use Rattle.cw_meter.specs.declared.meter.Measures.{Measures}
 use Rattle.cw_meter.specs.declared.tables.Tables.{Tables}
 use Rattle.cw_meter.specs.Alike.{AreAlike, AreOpenAlike}
 use Rattle.cw_meter.specs.Origins.{Main}
-use Rattle.cw_meter.specs.Meters.{AreTold, nothing_open}
+use Rattle.cw_meter.specs.Meters.{AreUpToDate, nothing_open}
 use Rattle.cw_meter.specs.Moves.{ListsRegions, ListsSites}
 use Rattle.cw_meter.specs.Tables.{Settles}
 use Rattle.cw_meter.specs.Whole.{AreMeasures, HasNames, Reads}
@@ -75,7 +75,7 @@ no_regions t rows e =
     let L : List region.RegionRow → Type 0 = λ x. ListsRegions t 0 x in subst L (sym e) (record { as_many = refl; are = λ k row at. absurd (cc) })
 
 -- the weight of the path of a whole run is its span
-span_is : (es : List Event) (t : SiteTable) → has_spawned es ≡ false → sites.Tells 0 nothing_open [] es t → path_in 0 0 [] es ≡ span (tree_of es)
+span_is : (es : List Event) (t : SiteTable) → has_spawned es ≡ false → sites.Tracks 0 nothing_open [] es t → path_in 0 0 [] es ≡ span (tree_of es)
 span_is es t n h =
     let shown = h.paths 0 in
     let weight = λ (x : Path). x.weight in
@@ -95,7 +95,7 @@ same_region row a b e h = let P : model.RegionRow → Type 0 = λ x. regions.IsR
 
 -- all measures of a run that the tables represent
 measures_told : (burden : Burden) (count sites : ℕ) (by_number : Tags) (names : List Name) (t : Tables) (whole : Tree) (es : List Event)
-    (all : Measures) → count ≤ MOST_LIMIT → burden.charge ≤ MOST_BURDEN → HasNames by_number names → AreTold burden by_number Main count [] es t
+    (all : Measures) → count ≤ MOST_LIMIT → burden.charge ≤ MOST_BURDEN → HasNames by_number names → AreUpToDate burden by_number Main count [] es t
     → has_spawned es ≡ false → ReadSame whole (tree_of es) → all.measure.work ≡ count → ReadsPath t.sites all.measure.span
     → ReadsWeight t.path all.measure.burdened → ListsSites t sites all.sites.items → ListsRegions t (length names) all.regions.items
     → AreMeasures burden sites names whole all
@@ -127,8 +127,8 @@ pub meter_reads : (m : Meter) (t : Tables) (count sites tags : ℕ) (all : Measu
     → ListsRegions t tags all.regions.items → Reads m count sites tags all
 meter_reads m t count sites tags all settles work path heavy rows regions_are = λ burden by_number names es small light named many h.
     let whole = Marked (Invocation 0) (tree_of es) in
-    let O : List Open → Type 0 = λ x. AreTold burden by_number Main count x h.1.told t in
+    let O : List Open → Type 0 = λ x. AreUpToDate burden by_number Main count x h.1.told t in
     let L : ℕ → Type 0 = λ x. ListsRegions t x all.regions.items in
-    let a = subst O (nothing_alike h.1.told_open h.1.open_alike) (settles burden by_number Main h.1.told_open h.1.told small light h.1.tables) in
+    let a = subst O (nothing_alike h.1.recorded_open h.1.open_alike) (settles burden by_number Main h.1.recorded_open h.1.told small light h.1.tables) in
     measures_told burden count sites by_number names t (normal whole) h.1.told all small light named a (sym h.1.alike.spawned)
     (same_readings (normal whole) (tree_of h.1.told) (whole_tree whole h.1.told h.1.alike)) work path heavy rows (subst L (sym many) regions_are)

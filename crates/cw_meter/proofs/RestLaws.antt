@@ -8,7 +8,7 @@ use Rattle.cw_model.specs.Trees.{Event}
 use Rattle.cw_measure.specs.declared.burdened_path.BurdenedPath.{BurdenedPath}
 use Rattle.cw_measure.specs.OpenParts.{Open, has_spawned, no_joins}
 use Rattle.cw_measure.specs.BlockWeights.{weight_in}
-use Rattle.cw_measure.specs.StrandWeights.{TellsWeight, AppendsWeight}
+use Rattle.cw_measure.specs.StrandWeights.{TracksWeight, AppendsWeight}
 use Rattle.cw_measure.specs.lemmas.StrandWeights.{weight_meters}
 use Rattle.cw_sites.specs.declared.table.SiteTable.{SiteTable}
 use Rattle.cw_sites.specs.OpenPaths.{here_in, path_in}
@@ -21,7 +21,7 @@ use Rattle.cw_meter.specs.declared.meter.Meter.{Meter}
 use Rattle.cw_meter.specs.declared.tables.Tables.{Tables}
 use Rattle.cw_meter.specs.declared.parts.Part.{Part}
 use Rattle.cw_meter.specs.Origins.{Origin, Rest, base_of}
-use Rattle.cw_meter.specs.Meters.{AreTold, Measured, nothing_open}
+use Rattle.cw_meter.specs.Meters.{AreUpToDate, Measured, nothing_open}
 use Rattle.cw_meter.specs.Parts.{AreParts}
 use Rattle.cw_meter.specs.Tables.{Settles, StartsTablesOfRest, TakesIn}
 use Rattle.cw_meter.proofs.AlikeLaws.{alike_itself, alike_both, here_alike, spawned_either}
@@ -30,8 +30,8 @@ use Rattle.cw_meter.proofs.TableLaws.{tables_told}
 use Rattle.cw_meter.proofs.ReadingLaws.{nothing_alike}
 
 -- a continuation begins
-pub rest_tables_start : (burden : Burden) (site : ℕ) (s : SiteTable) (p : BurdenedPath) (r : RegionTable) → sites.Tells site (λ q. 0) [] [] s
-    → ((b : Burden) → TellsWeight b [] [] p) → StartsRegions r → StartsTablesOfRest burden site
+pub rest_tables_start : (burden : Burden) (site : ℕ) (s : SiteTable) (p : BurdenedPath) (r : RegionTable) → sites.Tracks site (λ q. 0) [] [] s
+    → ((b : Burden) → TracksWeight b [] [] p) → StartsRegions r → StartsTablesOfRest burden site
     (record { sites = s; path = p; regions = r; burden = burden; spawned = false })
 rest_tables_start burden site s p r told weighs starts = λ tags.
     let t : Tables = record { sites = s; path = p; regions = r; burden = burden; spawned = false } in
@@ -47,7 +47,7 @@ rest_tables_start burden site s p r told weighs starts = λ tags.
 
 pub meter_rest_starts : (burden : Burden) (site : ℕ) (m : Meter) → StartsTablesOfRest burden site m.tables → m.parts.items ≡ [] → (tags : Tags) → Measured burden tags (Rest site) 0 [] [] m
 meter_rest_starts burden site m starts e = λ tags. record {
-  told_open = [];
+  recorded_open = [];
   told = [];
   open_alike = tt;
   alike = alike_itself [];
@@ -58,7 +58,7 @@ meter_rest_starts burden site m starts e = λ tags. record {
 -- the site of the innermost invocation
 pub meter_here : (m : Meter) (burden : Burden) (tags : Tags) (from : Origin) (count : ℕ) (os : List Open) (es : List Event)
     → Measured burden tags from count os es m → m.tables.sites.here ≡ here_in (base_of from) os
-meter_here m burden tags from count os es h = h.tables.sites.here_is ∙ sym (here_alike (base_of from) os h.told_open h.open_alike)
+meter_here m burden tags from count os es h = h.tables.sites.here_is ∙ sym (here_alike (base_of from) os h.recorded_open h.open_alike)
 
 -- the tables of a continuation are appended
 either_way : (b c : Bool) → c ≡ true → b || c ≡ true
@@ -106,17 +106,17 @@ meter_rests old rest told settled new count cost settles settles_ours takes = λ
     let base = base_of from in
     let less : count ≤ MOST_LIMIT = omega arith in
     let apart : cost ≤ MOST_LIMIT = omega arith in
-    let here : here_in base os ≡ here_in base h.told_open = here_alike base os h.told_open h.open_alike in
-    let theirs = settles burden tags (Rest (here_in base os)) g.told_open g.told apart light g.tables in
-    let O : List Open → Type 0 = λ x. AreTold burden tags (Rest (here_in base os)) cost x g.told told in
-    let H : ℕ → Type 0 = λ x. AreTold burden tags (Rest x) cost [] g.told told in
-    let both = takes burden tags from count cost h.told_open h.told g.told small light (sym g.alike.joins ∙ n)
-    (settles_ours burden tags from h.told_open h.told less light h.tables) (subst H here (subst O (nothing_alike g.told_open g.open_alike) theirs)) in
+    let here : here_in base os ≡ here_in base h.recorded_open = here_alike base os h.recorded_open h.open_alike in
+    let theirs = settles burden tags (Rest (here_in base os)) g.recorded_open g.told apart light g.tables in
+    let O : List Open → Type 0 = λ x. AreUpToDate burden tags (Rest (here_in base os)) cost x g.told told in
+    let H : ℕ → Type 0 = λ x. AreUpToDate burden tags (Rest x) cost [] g.told told in
+    let both = takes burden tags from count cost h.recorded_open h.told g.told small light (sym g.alike.joins ∙ n)
+    (settles_ours burden tags from h.recorded_open h.told less light h.tables) (subst H here (subst O (nothing_alike g.recorded_open g.open_alike) theirs)) in
     record {
-      told_open = h.told_open;
+      recorded_open = h.recorded_open;
       told = h.told ++ g.told;
       open_alike = h.open_alike;
       alike = alike_both es h.told fs g.told h.alike g.alike;
-      tables = tables_told burden tags from (count + cost) h.told_open (h.told ++ g.told) new both;
+      tables = tables_told burden tags from (count + cost) h.recorded_open (h.told ++ g.told) new both;
       parts = h.parts;
     }

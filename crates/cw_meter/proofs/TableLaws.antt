@@ -8,7 +8,7 @@ use Rattle.cw_model.specs.declared.limits.TheConstants.{MOST_LIMIT, MOST_BURDEN}
 use Rattle.cw_model.specs.Trees.{Mark, Invocation, Execution, Event, Work, Series, Fork, Join}
 use Rattle.cw_measure.specs.declared.burdened_path.BurdenedPath.{BurdenedPath}
 use Rattle.cw_measure.specs.OpenParts.{Open, closed, has_spawned, IsSince, Since, work_in}
-use Rattle.cw_measure.specs.StrandWeights.{TellsLate, TellsWeight, FitsRun, LatePathsWait, NotesLate, SpawnsWeight, JoinsWeight}
+use Rattle.cw_measure.specs.StrandWeights.{TracksLate, TracksWeight, FitsRun, LatePathsWait, NotesLate, SpawnsWeight, JoinsWeight}
 use Rattle.cw_measure.specs.lemmas.OpenParts.{spawned_append, has_spawned-work, has_spawned_since}
 use Rattle.cw_measure.specs.lemmas.StrandWeights.{series_need_no_call, told_late, late_begun}
 use Rattle.cw_sites.specs.declared.table.SiteTable.{SiteTable}
@@ -21,7 +21,7 @@ use Rattle.cw_regions.specs.Regions as regions
 use Rattle.cw_regions.specs.lemmas.Regions.{regions_need_no_call}
 use Rattle.cw_meter.specs.Origins.{Origin, base_of}
 use Rattle.cw_meter.specs.declared.tables.Tables.{Tables}
-use Rattle.cw_meter.specs.Meters.{AreTold, IsCounted, TablesTell, TellsTags, nothing_open, ticked}
+use Rattle.cw_meter.specs.Meters.{AreUpToDate, IsCounted, TablesTrackLate, TracksTags, nothing_open, ticked}
 use Rattle.cw_meter.specs.Tables.{JoinsSpawned, Opens, OpensRegion, Settles, opened}
 use Rattle.cw_meter.proofs.Counting.{counted_ticked, counted_joined, small_run, fits_run, small_tags}
 
@@ -48,7 +48,7 @@ since_join b (Fork t ∷ fs) k e s = absurd s
 
 -- the region tables as the run continues
 tags_ticked : (burden : Burden) (tags : Tags) (from : Origin) (os : List Open) (es : List Event) (r : RegionTable) (k : ℕ)
-    → TellsTags burden tags from os es r → TellsTags burden tags from os (es ++ Work k ∷ []) r
+    → TracksTags burden tags from os es r → TracksTags burden tags from os (es ++ Work k ∷ []) r
 tags_ticked burden tags from os es r k h = record {
   along = h.along;
   path_is = h.path_is;
@@ -57,7 +57,7 @@ tags_ticked burden tags from os es r k h = record {
 }
 
 tags_joined : (burden : Burden) (tags : Tags) (from : Origin) (os : List Open) (es : List Event) (r : RegionTable)
-    → TellsTags burden tags from os es r → TellsTags burden tags from os (es ++ Join ∷ []) r
+    → TracksTags burden tags from os es r → TracksTags burden tags from os (es ++ Join ∷ []) r
 tags_joined burden tags from os es r h = record {
   along = h.along;
   path_is = h.path_is;
@@ -66,7 +66,7 @@ tags_joined burden tags from os es r h = record {
 }
 
 pub tags_opened : (burden : Burden) (tags : Tags) (from : Origin) (spawned : Bool) (mark : Option Mark) (os : List Open) (es : List Event)
-    (r : RegionTable) → IsNoExecution mark → TellsTags burden tags from os es r → TellsTags burden tags from (opened spawned mark es os) [] r
+    (r : RegionTable) → IsNoExecution mark → TracksTags burden tags from os es r → TracksTags burden tags from (opened spawned mark es os) [] r
 tags_opened burden tags from spawned mark os es r quiet h = record {
   along = h.along;
   path_is = h.path_is;
@@ -75,8 +75,8 @@ tags_opened burden tags from spawned mark os es r quiet h = record {
 }
 
 pub tags_closed : (burden : Burden) (tags : Tags) (from : Origin) (spawned : Bool) (mark : Option Mark) (before : List Event) (os : List Open)
-    (es : List Event) (r : RegionTable) → IsNoExecution mark → TellsTags burden tags from (opened spawned mark before os) es r
-    → TellsTags burden tags from os (closed (record { spawned = spawned; mark = mark; outer = before }) es) r
+    (es : List Event) (r : RegionTable) → IsNoExecution mark → TracksTags burden tags from (opened spawned mark before os) es r
+    → TracksTags burden tags from os (closed (record { spawned = spawned; mark = mark; outer = before }) es) r
 tags_closed burden tags from spawned mark before os es r quiet h = record {
   along = h.along;
   path_is = h.path_is;
@@ -86,7 +86,7 @@ tags_closed burden tags from spawned mark before os es r quiet h = record {
 
 -- whether the events that are included have spawned
 pub told_spawned : (burden : Burden) (tags : Tags) (from : Origin) (count : ℕ) (os : List Open) (es : List Event) (t : Tables)
-    (h : TablesTell burden tags from count os es t) → has_spawned h.told ≡ t.spawned
+    (h : TablesTrackLate burden tags from count os es t) → has_spawned h.told ≡ t.spawned
 told_spawned burden tags from count os es t h =
     sym (has_spawned_since h.told h.since (count - work_in os h.told) h.waits.instructions) ∙ ap has_spawned_of h.all ∙ sym h.spawned_is
   where
@@ -95,7 +95,7 @@ told_spawned burden tags from count os es t h =
 
 -- an instruction, and a join of a block that has not spawned, need no call
 pub tables_ticked : (burden : Burden) (tags : Tags) (from : Origin) (count : ℕ) (os : List Open) (es : List Event) (t : Tables)
-    → TablesTell burden tags from count os es t → TablesTell burden tags from (count + 1) os (ticked es) t
+    → TablesTrackLate burden tags from count os es t → TablesTrackLate burden tags from (count + 1) os (ticked es) t
 tables_ticked burden tags from count os es t h = record {
   told = h.told;
   since = h.since ++ Work 1 ∷ [];
@@ -114,7 +114,7 @@ tables_ticked burden tags from count os es t h = record {
 }
 
 pub tables_unspawned : (burden : Burden) (tags : Tags) (from : Origin) (count : ℕ) (os : List Open) (es : List Event) (t : Tables)
-    → t.spawned ≡ false → TablesTell burden tags from count os es t → TablesTell burden tags from count os (es ++ Join ∷ []) t
+    → t.spawned ≡ false → TablesTrackLate burden tags from count os es t → TablesTrackLate burden tags from count os (es ++ Join ∷ []) t
 tables_unspawned burden tags from count os es t e h = record {
   told = h.told;
   since = h.since ++ Join ∷ [];
@@ -133,8 +133,8 @@ tables_unspawned burden tags from count os es t e h = record {
 
 -- tables that include all events; the heaviest path includes the last ones late
 pub tables_late : (burden : Burden) (tags : Tags) (from : Origin) (count : ℕ) (os : List Open) (es : List Event) (t : Tables)
-    → sites.Tells (base_of from) nothing_open os es t.sites → TellsLate burden os es t.path → TellsTags burden tags from os es t.regions
-    → IsCounted burden from count os es → t.burden ≡ burden → t.spawned ≡ has_spawned es → TablesTell burden tags from count os es t
+    → sites.Tracks (base_of from) nothing_open os es t.sites → TracksLate burden os es t.path → TracksTags burden tags from os es t.regions
+    → IsCounted burden from count os es → t.burden ≡ burden → t.spawned ≡ has_spawned es → TablesTrackLate burden tags from count os es t
 tables_late burden tags from count os es t rows path regions counted b s = record {
   told = es;
   since = [];
@@ -149,42 +149,42 @@ tables_late burden tags from count os es t rows path regions counted b s = recor
 }
 
 pub tables_told : (burden : Burden) (tags : Tags) (from : Origin) (count : ℕ) (os : List Open) (es : List Event) (t : Tables)
-    → AreTold burden tags from count os es t → TablesTell burden tags from count os es t
+    → AreUpToDate burden tags from count os es t → TablesTrackLate burden tags from count os es t
 tables_told burden tags from count os es t h = tables_late burden tags from count os es t h.sites (told_late burden os es t.path h.path) h.regions h.counted h.burden_is h.spawned_is
 
 -- the events that each table does not yet include
 pub sites_since : (burden : Burden) (tags : Tags) (from : Origin) (count : ℕ) (os : List Open) (es : List Event) (t : Tables)
-    (h : TablesTell burden tags from count os es t) → Since t.sites.noted count h.told h.since
+    (h : TablesTrackLate burden tags from count os es t) → Since t.sites.noted count h.told h.since
 sites_since burden tags from count os es t h = let P : ℕ → Type 0 = λ x. Since x count h.told h.since in subst P (sym h.sites.noted_is) h.waits
 
 pub told_small : (burden : Burden) (tags : Tags) (from : Origin) (count : ℕ) (os : List Open) (es : List Event) (t : Tables)
-    (h : TablesTell burden tags from count os es t) → count ≤ MOST_LIMIT → Small nothing_open os (h.told ++ h.since)
+    (h : TablesTrackLate burden tags from count os es t) → count ≤ MOST_LIMIT → Small nothing_open os (h.told ++ h.since)
 told_small burden tags from count os es t h small = let P : List Event → Type 0 = λ x. Small nothing_open os x in subst P (sym h.all) (small_run burden from count os es small h.counted)
 
 pub told_fits : (burden : Burden) (tags : Tags) (from : Origin) (count : ℕ) (os : List Open) (es : List Event) (t : Tables)
-    (h : TablesTell burden tags from count os es t) → count ≤ MOST_LIMIT → burden.charge ≤ MOST_BURDEN → FitsRun burden os (h.told ++ h.since)
+    (h : TablesTrackLate burden tags from count os es t) → count ≤ MOST_LIMIT → burden.charge ≤ MOST_BURDEN → FitsRun burden os (h.told ++ h.since)
 told_fits burden tags from count os es t h small light = let P : List Event → Type 0 = λ x. FitsRun burden os x in subst P (sym h.all) (fits_run burden from count os es small light h.counted)
 
 pub path_told : (burden : Burden) (tags : Tags) (from : Origin) (count : ℕ) (os : List Open) (es : List Event) (t : Tables) (p : BurdenedPath)
-    → NotesLate t.path p count → count ≤ MOST_LIMIT → burden.charge ≤ MOST_BURDEN → TablesTell burden tags from count os es t → TellsWeight burden os es p
+    → NotesLate t.path p count → count ≤ MOST_LIMIT → burden.charge ≤ MOST_BURDEN → TablesTrackLate burden tags from count os es t → TracksWeight burden os es p
 path_told burden tags from count os es t p notes small light h =
-    let P : List Event → Type 0 = λ x. TellsWeight burden os x p in
+    let P : List Event → Type 0 = λ x. TracksWeight burden os x p in
     subst P h.all (notes burden os h.told h.since h.waits (told_fits burden tags from count os es t h small light) h.path)
 
 -- the heaviest path, if it is not updated
 pub path_waits : (burden : Burden) (tags : Tags) (from : Origin) (count : ℕ) (os : List Open) (es : List Event) (t : Tables) → LatePathsWait
-    → count ≤ MOST_LIMIT → burden.charge ≤ MOST_BURDEN → TablesTell burden tags from count os es t → TellsLate burden os es t.path
+    → count ≤ MOST_LIMIT → burden.charge ≤ MOST_BURDEN → TablesTrackLate burden tags from count os es t → TracksLate burden os es t.path
 path_waits burden tags from count os es t waits small light h =
-    let P : List Event → Type 0 = λ x. TellsLate burden os x t.path in
+    let P : List Event → Type 0 = λ x. TracksLate burden os x t.path in
     subst P h.all (waits burden os h.told h.since t.path count h.waits (told_fits burden tags from count os es t h small light) h.path)
 
 -- no event follows the last update of a path
 pub none_since : (burden : Burden) (from : Origin) (count : ℕ) (os : List Open) (es : List Event) (p : BurdenedPath)
-    → IsCounted burden from count os es → TellsWeight burden os es p → Since p.noted count es []
+    → IsCounted burden from count os es → TracksWeight burden os es p → Since p.noted count es []
 none_since burden from count os es p counted h = let w = counted.work in let n = h.noted_is in record { goes_on = omega arith; instructions = omega arith }
 
 pub fits_now : (burden : Burden) (tags : Tags) (from : Origin) (count : ℕ) (os : List Open) (es : List Event) (t : Tables)
-    → TablesTell burden tags from count os es t → count ≤ MOST_LIMIT → burden.charge ≤ MOST_BURDEN → FitsRun burden os (es ++ [])
+    → TablesTrackLate burden tags from count os es t → count ≤ MOST_LIMIT → burden.charge ≤ MOST_BURDEN → FitsRun burden os (es ++ [])
 fits_now burden tags from count os es t h small light = let P : List Event → Type 0 = λ x. FitsRun burden os x in subst P (sym (append-nil es)) (fits_run burden from count os es small light h.counted)
 
 -- tables with these sites, this path, and this flag of the current block
@@ -198,7 +198,7 @@ with_regions t r spawned = record { sites = t.sites; path = t.path; regions = r;
 pub tables_settled : (t : Tables) (s : SiteTable) (p : BurdenedPath) (count : ℕ) → Notes t.sites s count → NotesLate t.path p count → Settles t (with_tables t s p t.spawned) count
 tables_settled t s p count notes heavier = λ burden tags from os es small light h. record {
   sites =
-      let P : List Event → Type 0 = λ x. sites.Tells (base_of from) nothing_open os x s in
+      let P : List Event → Type 0 = λ x. sites.Tracks (base_of from) nothing_open os x s in
       subst P h.all (notes (base_of from) nothing_open os h.told h.since (sites_since burden tags from count os es t h) (told_small burden tags from count os es t h small) h.sites);
   path = path_told burden tags from count os es t p heavier small light h;
   regions = h.regions;
@@ -211,7 +211,7 @@ tables_settled t s p count notes heavier = λ burden tags from os es small light
 pub call_opened : (t : Tables) (s : SiteTable) (count site : ℕ) → Enters t.sites s count site → LatePathsWait → Opens t (with_tables t s t.path false) count false (Some (Invocation site))
 call_opened t s count site enters waits = λ burden tags from os es k small light h.
     let mark : Option Mark = Some (Invocation site) in
-    let P : List Event → Type 0 = λ x. sites.Tells (base_of from) nothing_open (opened false mark x os) [] s in
+    let P : List Event → Type 0 = λ x. sites.Tracks (base_of from) nothing_open (opened false mark x os) [] s in
     let S : List Event → Type 0 = λ x. Small nothing_open (opened false mark x os) [] in
     tables_late burden tags from count (opened false mark es os) [] (with_tables t s t.path false)
     (subst P h.all (enters (base_of from) nothing_open os h.told h.since (sites_since burden tags from count os es t h)
@@ -222,9 +222,9 @@ call_opened t s count site enters waits = λ burden tags from os es k small ligh
 -- a spawned part begins, by the rule of one table
 spawned_path : (burden : Burden) (tags : Tags) (from : Origin) (count : ℕ) (os : List Open) (es : List Event) (t : Tables) (m p : BurdenedPath)
     (mark : Option Mark) → NotesLate t.path m count → SpawnsWeight m p count (not t.spawned) → count ≤ MOST_LIMIT → burden.charge ≤ MOST_BURDEN
-    → TablesTell burden tags from count os es t → TellsWeight burden (opened true mark es os) [] p
+    → TablesTrackLate burden tags from count os es t → TracksWeight burden (opened true mark es os) [] p
 spawned_path burden tags from count os es t m p mark notes spawns small light h =
-    let P : List Event → Type 0 = λ x. TellsWeight burden (opened true mark x os) [] p in
+    let P : List Event → Type 0 = λ x. TracksWeight burden (opened true mark x os) [] p in
     let told = path_told burden tags from count os es t m notes small light h in
     subst P (append-nil es) (spawns burden mark os es [] (none_since burden from count os es m h.counted told)
     (fits_now burden tags from count os es t h small light) (sym h.spawned_is ∙ sym (not-not t.spawned)) told)
@@ -233,7 +233,7 @@ pub spawned_call_opened : (t : Tables) (s : SiteTable) (m p : BurdenedPath) (cou
     → NotesLate t.path m count → SpawnsWeight m p count (not t.spawned) → Opens t (with_tables t s p false) count true (Some (Invocation site))
 spawned_call_opened t s m p count site spawns notes heavier = λ burden tags from os es k small light h.
     let mark : Option Mark = Some (Invocation site) in
-    let P : List Event → Type 0 = λ x. sites.Tells (base_of from) nothing_open (opened true mark x os) [] s in
+    let P : List Event → Type 0 = λ x. sites.Tracks (base_of from) nothing_open (opened true mark x os) [] s in
     let S : List Event → Type 0 = λ x. Small nothing_open (opened true mark x os) [] in
     tables_told burden tags from count (opened true mark es os) [] (with_tables t s p false) (record {
       sites = subst P h.all (spawns (base_of from) nothing_open os h.told h.since (sites_since burden tags from count os es t h)
@@ -249,7 +249,7 @@ spawned_call_opened t s m p count site spawns notes heavier = λ burden tags fro
 pub half_opened : (t : Tables) (s : SiteTable) (m p : BurdenedPath) (count : ℕ) → SpawnsHalf t.sites s count (not t.spawned)
     → NotesLate t.path m count → SpawnsWeight m p count (not t.spawned) → Opens t (with_tables t s p false) count true None
 half_opened t s m p count spawns notes heavier = λ burden tags from os es k small light h.
-    let P : List Event → Type 0 = λ x. sites.Tells (base_of from) nothing_open (opened true None x os) [] s in
+    let P : List Event → Type 0 = λ x. sites.Tracks (base_of from) nothing_open (opened true None x os) [] s in
     tables_told burden tags from count (opened true None es os) [] (with_tables t s p false) (record {
       sites = subst P h.all (spawns (base_of from) nothing_open None os h.told h.since tt (sites_since burden tags from count os es t h)
           (told_spawned burden tags from count os es t h ∙ sym (not-not t.spawned)) (told_small burden tags from count os es t h small) h.sites);
@@ -298,8 +298,8 @@ region_opened t now r count tag path heavy settles reads weighs begins = λ burd
 pub tables_joined : (t : Tables) (s : SiteTable) (m p : BurdenedPath) (count : ℕ) → Joins t.sites s count → NotesLate t.path m count
     → JoinsWeight m p count → JoinsSpawned t (with_tables t s p false) count
 tables_joined t s m p count joins notes heavier = λ burden tags from os es e small light h.
-    let S : List Event → Type 0 = λ x. sites.Tells (base_of from) nothing_open os (x ++ Join ∷ []) s in
-    let P : List Event → Type 0 = λ x. TellsWeight burden os (x ++ Join ∷ []) p in
+    let S : List Event → Type 0 = λ x. sites.Tracks (base_of from) nothing_open os (x ++ Join ∷ []) s in
+    let P : List Event → Type 0 = λ x. TracksWeight burden os (x ++ Join ∷ []) p in
     let told = told_spawned burden tags from count os es t h ∙ e in
     let now = path_told burden tags from count os es t m notes small light h in
     tables_told burden tags from count os (es ++ Join ∷ []) (with_tables t s p false) (record {

@@ -3,23 +3,23 @@ use Rattle.std.proofs.Common.{◌≡◌, ◌+◌, ◌-◌, ℕ, List, [], revers
 use Rattle.cw_model.specs.declared.burden.Burden.{Burden}
 use Rattle.cw_model.specs.Trees.{Event}
 use Rattle.cw_measure.specs.OpenParts.{Open, work_in}
-use Rattle.cw_measure.specs.StrandWeights.{reversed, ShowsWeight, TellsLate}
+use Rattle.cw_measure.specs.StrandWeights.{reversed, ShowsWeight, TracksLate}
 use Rattle.cw_measure.specs.declared.burdened_path.BurdenedBlock.{BurdenedBlock}
 use Rattle.cw_measure.specs.declared.burdened_path.BurdenedPath.{BurdenedPath}
 use Rattle.cw_sites.specs.declared.table.SiteTable.{SiteTable}
-use Rattle.cw_sites.specs.Trimmed.{TellsAsBefore}
+use Rattle.cw_sites.specs.Trimmed.{TracksAsBefore}
 use Rattle.cw_regions.specs.Regions.{Tags}
 use Rattle.cw_meter.specs.declared.detail.Detail.{Detail}
 use Rattle.cw_meter.specs.declared.detail.Detail.TheVariants.{Values, Strands, Measures}
 use Rattle.cw_meter.specs.declared.meter.Meter.{Meter}
 use Rattle.cw_meter.specs.declared.parts.Part.{Part}
 use Rattle.cw_meter.specs.declared.tables.Tables.{Tables}
-use Rattle.cw_meter.specs.Meters.{Measured, Meters, TablesTell, nothing_open}
+use Rattle.cw_meter.specs.Meters.{Measured, Meters, TablesTrackLate, nothing_open}
 use Rattle.cw_meter.specs.Origins.{Origin, base_of}
 use Rattle.cw_meter.specs.Parts.{AreParts}
 
 still_late : (burden : Burden) (os : List Open) (es : List Event) (path : BurdenedPath) (blocks : Vec BurdenedBlock Global) → blocks.items ≡ path.blocks.items
-    → TellsLate burden os es path → TellsLate burden os es (record path { blocks = blocks })
+    → TracksLate burden os es path → TracksLate burden os es (record path { blocks = blocks })
 still_late burden os es path blocks same h = record {
   late = h.late;
   tells = record {
@@ -35,9 +35,9 @@ abbrev trimmed : (m : Meter) → Vec Part Global → Vec BurdenedBlock Global �
 trimmed m parts blocks sites = record m { parts = parts; tables = trimmed_tables m.tables blocks sites }
 
 module _ (m : Meter) (parts : Vec Part Global) (blocks : Vec BurdenedBlock Global) (sites : SiteTable)
-    (same_parts : parts.items ≡ m.parts.items) (same_blocks : blocks.items ≡ m.tables.path.blocks.items) (told : TellsAsBefore m.tables.sites sites) where
-  tables_told : (burden : Burden) (tags : Tags) (from : Origin) (count : ℕ) (os : List Open) (es : List Event) → TablesTell burden tags from count os es m.tables
-      → TablesTell burden tags from count os es (trimmed_tables m.tables blocks sites)
+    (same_parts : parts.items ≡ m.parts.items) (same_blocks : blocks.items ≡ m.tables.path.blocks.items) (told : TracksAsBefore m.tables.sites sites) where
+  tables_told : (burden : Burden) (tags : Tags) (from : Origin) (count : ℕ) (os : List Open) (es : List Event) → TablesTrackLate burden tags from count os es m.tables
+      → TablesTrackLate burden tags from count os es (trimmed_tables m.tables blocks sites)
   tables_told burden tags from count os es h = record {
     told = h.told;
     since = h.since;
@@ -54,12 +54,12 @@ module _ (m : Meter) (parts : Vec Part Global) (blocks : Vec BurdenedBlock Globa
   measured : (burden : Burden) (tags : Tags) (from : Origin) (count : ℕ) (os : List Open) (es : List Event) → Measured burden tags from count os es m
       → Measured burden tags from count os es (trimmed m parts blocks sites)
   measured burden tags from count os es h = record {
-    told_open = h.told_open;
+    recorded_open = h.recorded_open;
     told = h.told;
     open_alike = h.open_alike;
     alike = h.alike;
-    tables = tables_told burden tags from count h.told_open h.told h.tables;
-    parts = subst (λ l. AreParts from tags h.told_open (reverse l)) (sym same_parts) h.parts;
+    tables = tables_told burden tags from count h.recorded_open h.told h.tables;
+    parts = subst (λ l. AreParts from tags h.recorded_open (reverse l)) (sym same_parts) h.parts;
   }
 
   pub still_tells : (d : Detail) (tags : Tags) (from : Origin) (count : ℕ) (os : List Open) (es : List Event) → Meters d tags from count os es m

@@ -13,7 +13,7 @@ use Rattle.cw_meter.specs.declared.meter.Meter.{Meter}
 use Rattle.cw_meter.specs.declared.parts.PartKind.{PartKind}
 use Rattle.cw_meter.specs.declared.parts.Part.{Part}
 use Rattle.cw_meter.specs.declared.tables.Tables.{Tables}
-use Rattle.cw_meter.specs.Meters.{TablesTell}
+use Rattle.cw_meter.specs.Meters.{TablesTrackLate}
 use Rattle.cw_meter.specs.Parts.{AreParts}
 use Rattle.cw_meter.specs.Tables.{TellOf}
 
@@ -51,8 +51,8 @@ ClosesPart old new count =
     (burden : Burden) (tags : Tags) (from : Origin) (o : Open) (os : List Open) (es : List Event)
     → old.tables.spawned ≡ false
     → AreParts from tags (o ∷ os) (reverse old.parts.items) → count ≤ MOST_LIMIT → burden.charge ≤ MOST_BURDEN
-    → TablesTell burden tags from count (o ∷ os) es old.tables
-    → TablesTell burden tags from count os (closed o es) new.tables × AreParts from tags os (reverse new.parts.items)
+    → TablesTrackLate burden tags from count (o ∷ os) es old.tables
+    → TablesTrackLate burden tags from count os (closed o es) new.tables × AreParts from tags os (reverse new.parts.items)
 
 -- the rows of the sites, by their numbers, as a table reads them
 pub record ListsSites (t : Tables) (count : ℕ) (rows : List SiteRow) : Type 0 where

@@ -10,26 +10,26 @@ use Rattle.cw_meter.specs.Origins.{Origin, Main, Rest, base_of, main_open}
 use Rattle.cw_meter.specs.declared.parts.Part.{Part}
 use Rattle.cw_meter.specs.declared.parts.PartKind.{PartKind}
 use Rattle.cw_meter.specs.declared.tables.Tables.{Tables}
-use Rattle.cw_meter.specs.Meters.{AreTold, IsCounted, TablesTell}
+use Rattle.cw_meter.specs.Meters.{AreUpToDate, IsCounted, TablesTrackLate}
 use Rattle.cw_meter.specs.Parts.{IsPart}
 
 -- if the old tables represent one run so far, the new tables represent another, within the maximum limit
 abbrev pub TellOf : (old new : Tables) → (count : ℕ) → Burden → Tags → (from : Origin) → (os os' : List Open)
     → (es es' : List Event) → Type 0
 TellOf old new count burden tags from os os' es es' =
-    count ≤ MOST_LIMIT → burden.charge ≤ MOST_BURDEN → TablesTell burden tags from count os es old
-    → TablesTell burden tags from count os' es' new
+    count ≤ MOST_LIMIT → burden.charge ≤ MOST_BURDEN → TablesTrackLate burden tags from count os es old
+    → TablesTrackLate burden tags from count os' es' new
 
 -- the tables of a run that begins
 abbrev pub StartsTables : Burden → Tables → Type 0
-StartsTables burden t = (tags : Tags) → TablesTell burden tags Main 0 main_open [] t
+StartsTables burden t = (tags : Tags) → TablesTrackLate burden tags Main 0 main_open [] t
 
 -- the tables include all events of the run so far
 abbrev pub Settles : (old new : Tables) → (count : ℕ) → Type 0
 Settles old new count =
     (burden : Burden) (tags : Tags) (from : Origin) (os : List Open) (es : List Event) → count ≤ MOST_LIMIT
     → burden.charge ≤ MOST_BURDEN
-    → TablesTell burden tags from count os es old → AreTold burden tags from count os es new
+    → TablesTrackLate burden tags from count os es old → AreUpToDate burden tags from count os es new
 
 -- one more part is open
 abbrev pub opened : (spawned : Bool) → Option Mark → List Event → List Open → List Open
@@ -64,7 +64,7 @@ Closes old new count part =
 
 -- the tables of a continuation that begins in an invocation of this site
 abbrev pub StartsTablesOfRest : Burden → (site : ℕ) → Tables → Type 0
-StartsTablesOfRest burden site t = (tags : Tags) → TablesTell burden tags (Rest site) 0 [] [] t
+StartsTablesOfRest burden site t = (tags : Tags) → TablesTrackLate burden tags (Rest site) 0 [] [] t
 
 -- the tables of the continuation of the current block, which was executed separately up to its join, are appended;
 -- both include all events
@@ -72,9 +72,9 @@ abbrev pub TakesIn : (old rest new : Tables) → Type 0
 TakesIn old rest new =
     (burden : Burden) (tags : Tags) (from : Origin) (count cost : ℕ) (os : List Open) (es fs : List Event)
     → count + cost ≤ MOST_LIMIT → burden.charge ≤ MOST_BURDEN
-    → no_joins fs ≡ true → AreTold burden tags from count os es old
-    → AreTold burden tags (Rest (here_in (base_of from) os)) cost [] fs rest
-    → AreTold burden tags from (count + cost) os (es ++ fs) new
+    → no_joins fs ≡ true → AreUpToDate burden tags from count os es old
+    → AreUpToDate burden tags (Rest (here_in (base_of from) os)) cost [] fs rest
+    → AreUpToDate burden tags from (count + cost) os (es ++ fs) new
 
 -- the record of an open part
 abbrev pub part_of : PartKind → (site : ℕ) → (spawned : Bool) → Part

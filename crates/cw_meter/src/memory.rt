@@ -1,6 +1,6 @@
 //! The memory of a meter.
 
-ghost use Rattle.cw_meter.specs.Meters.{TellsAsBefore};
+ghost use Rattle.cw_meter.specs.Meters.{TracksAsBefore};
 
 use crate::meter::Meter;
 
@@ -16,7 +16,7 @@ impl Meter {
     /// before.
     #[inline(never)]
     pub fn trim(&mut self)
-        ensures { TellsAsBefore self.old self.new }
+        ensures { TracksAsBefore self.old self.new }
     {
         self.parts.shrink_to_fit();
         self.tables.path.blocks.shrink_to_fit();

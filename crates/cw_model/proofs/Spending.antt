@@ -11,7 +11,7 @@ use Rattle.cw_model.specs.Trees.{Execution, Tree, Marked, Event, Work, Series, F
 use Rattle.cw_model.specs.declared.syntax.CallKind.{CallKind}
 use Rattle.cw_model.specs.declared.syntax.CallKind.TheVariants.{Plain, Spawned}
 use Rattle.cw_model.specs.Syntax.{Name, Expr, Stmt, Declare, DeclareArray, Assign, AssignElement, Reduce, Call, Start, Begin, Sync, If, IfElse}
-use Rattle.cw_model.specs.Syntax.{While, For, Scope, Cut, Region, Print, Return, Block, End, Then, Param, Function, wants_array}
+use Rattle.cw_model.specs.Syntax.{While, For, Scope, Cut, Region, Print, Return, Block, End, Then, Param, Function, is_array_param}
 use Rattle.cw_model.specs.Frames.{Frame, no_frame, leave, inside_loop, new_array, new_int}
 use Rattle.cw_model.specs.Expressions.{Evaluated, Gives, Traps, evaluate}
 use Rattle.cw_model.specs.Outcome.{Trace, shows, Outcome, Done, Trapped, Over, then_do, Piece, ◌>>=◌, gives, show, pay, pay_for, joined_up, as_one}
@@ -104,7 +104,7 @@ spends_arguments : (ps : List Param) (es : List Expr) (frame : Frame) (line : �
 spends_arguments [] es frame line given = spends_nothing given
 spends_arguments (p ∷ ps) [] frame line given = spends_nothing given
 spends_arguments (p ∷ ps) (e ∷ es) frame line given =
-    spends_if (wants_array p) (spends_arguments ps es frame line (new_array p.name (given_array e frame) given))
+    spends_if (is_array_param p) (spends_arguments ps es frame line (new_array p.name (given_array e frame) given))
     (spends_then (spends_value (evaluate e frame) line) (λ v. spends_arguments ps es frame line (new_int p.name v given)))
 
 spends_turns : (bound : ℕ) (test : Frame → Evaluated) (line : ℕ) (body : Frame → Piece Completion) → ((frame : Frame) → Spends (body frame)) →

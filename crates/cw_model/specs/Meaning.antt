@@ -8,7 +8,7 @@ use Rattle.cw_model.specs.declared.syntax.CallKind.{CallKind}
 use Rattle.cw_model.specs.declared.syntax.CallKind.TheVariants.{Plain, Spawned}
 use Rattle.cw_model.specs.Syntax.{Name, Expr, Variable, Stmt, Declare, DeclareArray, Assign, AssignElement, Reduce}
 use Rattle.cw_model.specs.Syntax.{Call, Start, Begin, Sync, If, IfElse, While, For, Scope, Cut, Region, Print, Return}
-use Rattle.cw_model.specs.Syntax.{Block, End, Then, Param, Function, wants_array, takes_array}
+use Rattle.cw_model.specs.Syntax.{Block, End, Then, Param, Function, is_array_param, takes_array}
 use Rattle.cw_model.specs.Names.{same_name}
 use Rattle.cw_model.specs.Captured.{captured}
 use Rattle.cw_model.specs.Frames.{Frame, no_frame, int_of, array_of, set_int, set_array, new_int, new_array}
@@ -80,7 +80,7 @@ abbrev pub arguments : List Param → List Expr → Frame → (line : ℕ) → F
 arguments [] es frame line given = gives given
 arguments (p ∷ ps) [] frame line given = gives given
 arguments (p ∷ ps) (e ∷ es) frame line given =
-    if wants_array p
+    if is_array_param p
     then arguments ps es frame line (new_array p.name (given_array e frame) given)
     else (do
       v ← pay_for (evaluate e frame) line

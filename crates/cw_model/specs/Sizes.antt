@@ -12,7 +12,7 @@ use Rattle.cw_model.specs.declared.limits.TheConstants.{MOST_CALL_STATEMENTS}
 use Rattle.cw_model.specs.Syntax.{Name, Expr, Number, Variable, Element, Length, Negative, Not, Binary, Stmt, Declare}
 use Rattle.cw_model.specs.Syntax.{DeclareArray, Assign, AssignElement, Reduce, Call, Start, Begin, Sync, If, IfElse}
 use Rattle.cw_model.specs.Syntax.{While, For, Scope, Cut, Region, Print, Return, Block, End, Then, Param, Function}
-use Rattle.cw_model.specs.Syntax.{wants_array, Program}
+use Rattle.cw_model.specs.Syntax.{is_array_param, Program}
 use Rattle.cw_model.specs.Names.{is_among}
 use Rattle.cw_model.specs.Captured.{captured}
 use Rattle.cw_model.specs.Meaning.{function_named}
@@ -146,7 +146,7 @@ size_of over (Binary operator d e) = size_of over d + size_of over e + 1
 abbrev pub arguments_size : List Name → List Param → List Expr → ℕ
 arguments_size over [] es = 0
 arguments_size over (p ∷ ps) [] = 0
-arguments_size over (p ∷ ps) (e ∷ es) = (if wants_array p then 0 else size_of over e) + arguments_size over ps es
+arguments_size over (p ∷ ps) (e ∷ es) = (if is_array_param p then 0 else size_of over e) + arguments_size over ps es
 
 -- the number of instructions of a return
 abbrev pub returned_size : List Name → Option Expr → ℕ

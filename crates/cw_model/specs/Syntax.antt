@@ -74,8 +74,8 @@ pub record Param : Type 0 where
   pub kind : NameKind
 
 -- the argument for this parameter is an array
-abbrev pub wants_array : Param → Bool
-wants_array p = is_array_kind p.kind
+abbrev pub is_array_param : Param → Bool
+is_array_param p = is_array_kind p.kind
 
 -- the argument for this parameter is an array that the call takes from its caller until it returns
 abbrev pub takes_array : Param → Bool

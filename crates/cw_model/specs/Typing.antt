@@ -11,7 +11,7 @@ use Rattle.cw_model.specs.declared.syntax.NameKind.TheVariants.{Integer, Array, 
 use Rattle.cw_model.specs.Syntax.{Name, Expr, Number, Variable, Element, Length, Negative, Not, Binary, Stmt, Declare}
 use Rattle.cw_model.specs.Syntax.{DeclareArray, Assign, AssignElement, Reduce, Call, Start, Begin, Sync, If, IfElse}
 use Rattle.cw_model.specs.Syntax.{While, For, Scope, Cut, Region, Print, Return, Block, End, Then, Param, Function}
-use Rattle.cw_model.specs.Syntax.{Reducer, Program, is_array_kind, is_written_kind, wants_array}
+use Rattle.cw_model.specs.Syntax.{Reducer, Program, is_array_kind, is_written_kind, is_array_param}
 use Rattle.cw_model.specs.Names.{same_name, is_among, differ}
 use Rattle.cw_model.specs.Answers.{main_name}
 
@@ -202,7 +202,7 @@ abbrev pub is_head : Program → Function → Bool
 is_head program f =
     differ (map (λ p. p.name) f.params) && not (list_any (λ p. is_among p.name (globals program)) f.params)
     && (not f.gives_int || block_returns f.body)
-    && (not (same_name f.name main_name) || (f.gives_int && not (list_any (λ p. wants_array p) f.params)))
+    && (not (same_name f.name main_name) || (f.gives_int && not (list_any (λ p. is_array_param p) f.params)))
 
 -- the lines that break a rule in a function
 abbrev pub faults_of : Program → Function → List ℕ

@@ -20,18 +20,18 @@ use Rattle.cw_own.proofs.Showing.{Shows, known_row}
 use Rattle.cw_own.proofs.Knowing.{Knows, Fresh, knows_int, knows_array, knows_const, known_int, known_array}
 use Rattle.cw_model.specs.declared.syntax.NameKind.{NameKind}
 use Rattle.cw_model.specs.declared.syntax.NameKind.TheVariants as name_kind
-use Rattle.cw_model.specs.Syntax.{wants_array, is_array_kind}
+use Rattle.cw_model.specs.Syntax.{is_array_param, is_array_kind}
 use Rattle.cw_model.specs.lemmas.Names.{names_of, heads_are}
 
 -- the locals with these parameters appended
 abbrev pub params_after : Locals → List Param → Locals
 params_after locals [] = locals
-params_after locals (p ∷ ps) = params_after (if wants_array p then spec.with_array p.name locals else spec.with_int p.name locals) ps
+params_after locals (p ∷ ps) = params_after (if is_array_param p then spec.with_array p.name locals else spec.with_int p.name locals) ps
 
 -- parameters with distinct names that were not known before
 abbrev pub AreFresh : Locals → List Param → Type 0
 AreFresh locals [] = Unit {0}
-AreFresh locals (p ∷ ps) = Fresh p.name locals × AreFresh (if wants_array p then spec.with_array p.name locals else spec.with_int p.name locals) ps
+AreFresh locals (p ∷ ps) = Fresh p.name locals × AreFresh (if is_array_param p then spec.with_array p.name locals else spec.with_int p.name locals) ps
 
 params_known : (ps : List Param) (known : Known) (locals : Locals) → AreFresh locals ps → Knows known locals → Knows (known_of ps ++ known) (params_after locals ps)
 params_known [] known locals f k = k
@@ -51,20 +51,20 @@ joined a b = record { ints = a.ints ++ b.ints; arrays = a.arrays ++ b.arrays }
 
 params_joined : (ps : List Param) (locals : Locals) → params_after locals ps ≡ joined locals (locals_of ps)
 params_joined [] locals = λ i. record { ints = sym (append-nil locals.ints) i; arrays = sym (append-nil locals.arrays) i }
-params_joined (p ∷ ps) locals = by (wants_array p) (params_joined ps)
+params_joined (p ∷ ps) locals = by (is_array_param p) (params_joined ps)
   where
     by : (b : Bool) → ((locals : Locals) → params_after locals ps ≡ joined locals (locals_of ps)) → params_after (if b then spec.with_array p.name locals else spec.with_int p.name locals) ps
         ≡ (let l : Locals = record {
           ints = locals.ints ++ map (λ p. p.name)
-              (cond (not b) (p ∷ filter (λ p. not (wants_array p)) ps) (filter (λ p. not (wants_array p)) ps));
-          arrays = locals.arrays ++ map (λ p. p.name) (cond b (p ∷ filter (λ p. wants_array p) ps) (filter (λ p. wants_array p) ps));
+              (cond (not b) (p ∷ filter (λ p. not (is_array_param p)) ps) (filter (λ p. not (is_array_param p)) ps));
+          arrays = locals.arrays ++ map (λ p. p.name) (cond b (p ∷ filter (λ p. is_array_param p) ps) (filter (λ p. is_array_param p) ps));
         } in l)
     by true more = more (spec.with_array p.name locals) ∙ (λ i. record { ints = locals.ints ++ (locals_of ps).ints; arrays = append_assoc locals.arrays (p.name ∷ []) (locals_of ps).arrays i })
     by false more = more (spec.with_int p.name locals) ∙ (λ i. record { ints = append_assoc locals.ints (p.name ∷ []) (locals_of ps).ints i; arrays = locals.arrays ++ (locals_of ps).arrays })
 
 params_row : (ps : List Param) (locals : Locals) → with_params (length locals.ints) (length locals.arrays) ps (known_row locals) ≡ known_row (params_after locals ps)
 params_row [] locals = refl
-params_row (p ∷ ps) locals = by (wants_array p) (params_row ps)
+params_row (p ∷ ps) locals = by (is_array_param p) (params_row ps)
   where
     by : (b : Bool) → ((locals : Locals) → with_params (length locals.ints) (length locals.arrays) ps (known_row locals)
         ≡ known_row (params_after locals ps)) → (if b then with_params (length locals.ints) (length locals.arrays + 1) ps
@@ -110,7 +110,7 @@ fresh_params (p ∷ ps) locals d f =
     let out = not_true (is_among p.name (names_of ps)) (first_true (not (is_among p.name (names_of ps))) (differ (names_of ps)) d) in
     let here = f p.name (ap (λ b. if b then true else is_among p.name (names_of ps)) ((bytes_eq-Decides p.name p.name).1 refl)) in
     let later = apart_all p.name locals ps out (λ q there. f q (if_or (same_name q p.name) (is_among q (names_of ps)) ∙ ap (λ b. same_name q p.name || b) there ∙ or-true (same_name q p.name))) in
-    (record { no_int = here.0; no_array = here.1 }, by (wants_array p) later (λ l. fresh_params ps l (second_true (not (is_among p.name (names_of ps))) (differ (names_of ps)) d)))
+    (record { no_int = here.0; no_array = here.1 }, by (is_array_param p) later (λ l. fresh_params ps l (second_true (not (is_among p.name (names_of ps))) (differ (names_of ps)) d)))
   where
     by : (b : Bool) → ((q : Name) → is_among q (names_of ps) ≡ true → (NotIn (spec.with_int p.name locals) q) × (NotIn (spec.with_array p.name locals) q)) →
         ((l : Locals) → ((q : Name) → is_among q (names_of ps) ≡ true → NotIn l q) → AreFresh l ps) →

@@ -13,7 +13,7 @@ use Rattle.cw_tree.specs.Slots.{is_resolved}
 use Rattle.cw_text.specs.declared.reasons.At.{At}
 use Rattle.cw_text.specs.declared.reasons.Reasons.{Reasons}
 use Rattle.cw_text.specs.Rising.{first_of, there}
-use Rattle.cw_own.specs.Faults.{AreTold, IsFirstTold, IsTold}
+use Rattle.cw_own.specs.Faults.{AreLeastFaults, IsFirstTold, IsLeastFault}
 use Rattle.cw_own.specs.Laws.{IsRefusedBefore}
 use Rattle.cw_own.specs.Reasons.{Reason, ownership_reasons, IsDisowned, line_in}
 use Rattle.cw_text.specs.lemmas.Kept.{first-map, first-none, soonest, there-map, there-rising}
@@ -32,7 +32,7 @@ least_is tree right fine =
     ∙ sym (first_line None (ownership_reasons tree))
 
 pub told_right : (tree : Tree) → is_resolved (resolved_of tree) ≡ true → type_faults (program_of tree) ≡ [] → (found : Option (At Disowned)) →
-    option_map line_and_reason found ≡ soonest line_in None (ownership_reasons (resolved_of tree)) → MatchOption found (KeepsOwnership (program_of tree)) (IsTold tree)
+    option_map line_and_reason found ≡ soonest line_in None (ownership_reasons (resolved_of tree)) → MatchOption found (KeepsOwnership (program_of tree)) (IsLeastFault tree)
 told_right tree right fine None h =
     no_lines (ownership_faults (program_of tree)) (least_is (resolved_of tree) right fine ∙ ap (option_map line_of) (sym h))
 told_right tree right fine (Some at) h = record {
@@ -48,7 +48,7 @@ first_right tree right fine told h =
     (sym (first-map line_and_reason told.places) ∙ ap first_of h ∙ first-none line_in (ownership_reasons (resolved_of tree)))
 
 -- the recorded lines are the least
-pub all_right : (tree : Tree) (told : Reasons Disowned) → AreNoted tree told → AreTold tree told
+pub all_right : (tree : Tree) (told : Reasons Disowned) → AreNoted tree told → AreLeastFaults tree told
 all_right tree told h = sym (there-map line_and_reason told.places) ∙ ap there h ∙ there-rising line_in (ownership_reasons (resolved_of tree))
 
 -- the line of a reason of the list

@@ -7,7 +7,7 @@ use Rattle.cw_text.specs.lemmas.Kept.{keep-map, kept-append}
 use Rattle.cw_text.specs.declared.reasons.At.{At}
 use Rattle.cw_own.specs.Reasons.{Reason, line_in, reasons_at}
 use Rattle.cw_own.specs.declared.reason.Disowned.{Disowned}
-use Rattle.cw_own.specs.Views.{line_and_reason, told_at, told_of}
+use Rattle.cw_own.specs.Views.{line_and_reason, views_at, view_of_reason}
 
 pub appended : {A : Type 0} → (xs ys zs : List A) → (xs ++ ys) ++ zs ≡ xs ++ (ys ++ zs)
 appended [] ys zs = refl
@@ -18,7 +18,7 @@ pub kept_append : (ps : List (Option (ℕ × Reason))) (xs ys : List (ℕ × Rea
 kept_append = kept-append line_in
 
 -- recording the reason found in a line
-pub found_kept : (line : ℕ) (found : Option Disowned) (ps : List (Option (At Disowned))) → told_at (with_found line found ps) ≡ kept line_in (told_at ps) (reasons_at line (told_of found))
+pub found_kept : (line : ℕ) (found : Option Disowned) (ps : List (Option (At Disowned))) → views_at (with_found line found ps) ≡ kept line_in (views_at ps) (reasons_at line (view_of_reason found))
 found_kept line None ps = refl
 found_kept line (Some r) ps = keep-map line_in line_and_reason (record { line = line; reason = r }) ps
 

@@ -21,15 +21,15 @@ BreaksOwnership program fault.Memory = Unit {0}
 BreaksOwnership program _ = ⊥
 
 -- the line is the least line of the tree that breaks a rule, and it breaks this rule
-pub record IsTold (tree : Tree) (at : At Disowned) : Type 0 where
+pub record IsLeastFault (tree : Tree) (at : At Disowned) : Type 0 where
   pub least : IsLeastLine (ownership_faults (program_of tree)) at.line
   pub told : IsDisowned (resolved_of tree) at.line (reason_of at.reason)
 
 -- the first place is empty exactly if the tree keeps ownership; otherwise it has the least line that breaks a rule,
 -- with a rule that this line breaks
 abbrev pub IsFirstTold : Tree → Reasons Disowned → Type 0
-IsFirstTold tree told = MatchOption (first_of told.places) (KeepsOwnership (program_of tree)) (IsTold tree)
+IsFirstTold tree told = MatchOption (first_of told.places) (KeepsOwnership (program_of tree)) (IsLeastFault tree)
 
 -- the recorded lines are the least lines that break a rule, each with the first rule that it breaks
-abbrev pub AreTold : Tree → Reasons Disowned → Type 0
-AreTold tree told = map line_and_reason (there told.places) ≡ reasons_told (resolved_of tree)
+abbrev pub AreLeastFaults : Tree → Reasons Disowned → Type 0
+AreLeastFaults tree told = map line_and_reason (there told.places) ≡ reasons_told (resolved_of tree)

@@ -7,7 +7,7 @@ use Rattle.cw_model.specs.declared.syntax.CallKind.TheVariants.{Plain, Spawned}
 use Rattle.cw_tree.specs.Resolved.{Use, Parts, Argument, Int, Array, Shared, Stmt, Declare, DeclareArray, Call, Sync}
 use Rattle.cw_tree.specs.Resolved.{If}
 use Rattle.cw_tree.specs.Resolved.{IfElse, While, For, Scope, Cut, Region, Return, Block, End, Then}
-use Rattle.cw_model.specs.Syntax.{Param, wants_array}
+use Rattle.cw_model.specs.Syntax.{Param, is_array_param}
 use Rattle.cw_own.specs.declared.held.Held as code_held
 use Rattle.cw_own.specs.declared.taken.Taken as code
 use Rattle.cw_own.specs.Sets.{Slots, no_slot, with_slot, without_slot, either, both, slots_of, Row, with_int}
@@ -203,7 +203,7 @@ taken_after_all known b taken =
 abbrev pub with_params : (ints arrays : ℕ) → List Param → Row → Row
 with_params ints arrays [] known = known
 with_params ints arrays (p ∷ ps) known =
-    if wants_array p then with_params ints (arrays + 1) ps (with_array arrays known)
+    if is_array_param p then with_params ints (arrays + 1) ps (with_array arrays known)
     else with_params (ints + 1) arrays ps (with_int ints known)
 
 -- the abstraction of the locals that a value of the code holds

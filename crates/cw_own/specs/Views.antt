@@ -25,7 +25,7 @@ use Rattle.cw_own.specs.declared.taken.Taken as code_taken
 use Rattle.cw_own.specs.declared.around.Loop as code_loop
 use Rattle.cw_own.specs.declared.reason.Disowned as code_reason
 use Rattle.cw_own.specs.declared.reason.Disowned.TheVariants as reason
-use Rattle.cw_own.specs.declared.told.Findings as code_told
+use Rattle.cw_own.specs.declared.findings.Findings as code_findings
 use Rattle.cw_own.specs.Sets.{Slots, slots_of, with_int, row_of}
 use Rattle.cw_own.specs.Taken.{Held, either_held, held_within, held_of, Taken, taken_of, inside, inside_cut, taken_by_call}
 use Rattle.cw_own.specs.Taken.{after_all, with_parts, gain, turns, turns_in}
@@ -55,24 +55,24 @@ reason_of (reason.OuterArray u how line) = OuterArray (use_of u.now) how line
 reason_of (reason.OtherElement u how variable line) = OtherElement (use_of u.now) how (use_of variable.now) line
 
 -- the abstraction of a broken rule, if there is one
-abbrev pub told_of : Option code_reason.Disowned → Option Reason
-told_of found = option_map reason_of found
+abbrev pub view_of_reason : Option code_reason.Disowned → Option Reason
+view_of_reason found = option_map reason_of found
 
 -- the reason is found, unless one was found before
 abbrev pub Finds : (before after : Option code_reason.Disowned) → (found : Option Reason) → Type 0
-Finds before after found = told_of after ≡ option_or (told_of before) found
+Finds before after found = view_of_reason after ≡ option_or (view_of_reason before) found
 
 -- the abstraction of a line with the rule that it breaks
 abbrev pub line_and_reason : At code_reason.Disowned → ℕ × Reason
 line_and_reason at = (at.line, reason_of at.reason)
 
 -- the abstraction of the lines of these places, each with the rule that it breaks
-abbrev pub told_at : List (Option (At code_reason.Disowned)) → List (Option (ℕ × Reason))
-told_at places = map (option_map line_and_reason) places
+abbrev pub views_at : List (Option (At code_reason.Disowned)) → List (Option (ℕ × Reason))
+views_at places = map (option_map line_and_reason) places
 
 -- the abstraction of the recorded lines
-abbrev pub places_told : code_told.Findings → List (Option (ℕ × Reason))
-places_told told = told_at told.reasons.places
+abbrev pub recorded_reasons : code_findings.Findings → List (Option (ℕ × Reason))
+recorded_reasons told = views_at told.reasons.places
 
 -- the abstraction of a loop
 abbrev pub turn_of : code_loop.Loop → Turn
@@ -244,9 +244,9 @@ abbrev pub reasons_of_all : List code_function.Function → List (ℕ × Reason)
 reasons_of_all fs = flat_map function_reasons (map function_of fs)
 
 -- `after` is `before` with these reasons recorded
-abbrev pub Noted : (before after : code_told.Findings) → List (ℕ × Reason) → Type 0
-Noted before after reasons = places_told after ≡ kept line_in (places_told before) reasons
+abbrev pub Noted : (before after : code_findings.Findings) → List (ℕ × Reason) → Type 0
+Noted before after reasons = recorded_reasons after ≡ kept line_in (recorded_reasons before) reasons
 
 -- the reasons of a tree are recorded
 abbrev pub AreNoted : Tree → Reasons code_reason.Disowned → Type 0
-AreNoted tree reasons = told_at reasons.places ≡ kept line_in no_place (ownership_reasons (resolved_of tree))
+AreNoted tree reasons = views_at reasons.places ≡ kept line_in no_place (ownership_reasons (resolved_of tree))

@@ -17,7 +17,7 @@ ghost use Rattle.cw_own.specs.Views.{turns_of, turns_of_lines, turns_of_while};
 
 use crate::held::Held;
 use crate::row::Row;
-use crate::told::{Local, Watch};
+use crate::findings::{Local, Watch};
 use cw_model::syntax::CallKind;
 use cw_tree::resolved::{Argument, Call, Line, Stmt, Use};
 use std::alloc::Global;

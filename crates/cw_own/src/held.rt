@@ -7,7 +7,7 @@ ghost use Rattle.cw_own.specs.Taken.{none_held, taking_int, taking_array, freezi
 
 use crate::bits::Bits;
 use crate::row::Row;
-use crate::told::Watch;
+use crate::findings::Watch;
 
 /// Holds the lines since which the watched local is taken and frozen.
 #[derive(Clone, Copy)]

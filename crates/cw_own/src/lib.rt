@@ -13,7 +13,7 @@ mod reason;
 mod row;
 mod rules;
 mod taken;
-mod told;
+mod findings;
 
 pub use owned::Owned;
 pub use owning::{disowned, own};

@@ -6,7 +6,7 @@ ghost use Rattle.cw_model.specs.declared.limits.TheConstants.{MOST_PARAMETERS};
 ghost use Rattle.cw_model.specs.Ownership.{KeepsOwnership};
 ghost use Rattle.cw_tree.specs.ResolvedView.{program_of, resolved_of, param_of, function_of};
 ghost use Rattle.cw_own.specs.Bounds.{small_function};
-ghost use Rattle.cw_own.specs.Faults.{AreTold, BreaksOwnership, IsFirstTold, IsTold};
+ghost use Rattle.cw_own.specs.Faults.{AreLeastFaults, BreaksOwnership, IsFirstTold, IsLeastFault};
 ghost use Rattle.cw_own.specs.Sets.{row_of, no_local};
 ghost use Rattle.cw_own.specs.Taken.{with_params};
 ghost use Rattle.cw_own.specs.Views.{reasons_of, reasons_of_all, Noted};
@@ -17,7 +17,7 @@ use crate::reason::{Disowned, Holder};
 use crate::row::Row;
 use crate::rules::{Turns, note_sync_block};
 use crate::taken::Taken;
-use crate::told::{Findings, Local};
+use crate::findings::{Findings, Local};
 use cw_model::syntax::NameKind;
 use cw_text::{At, Fault, Place, Reasons};
 use cw_tree::Typed;
@@ -48,7 +48,7 @@ pub fn own(alloc: Global, typed: Typed) -> Result<Owned, Fault>
 // Returns the least line that breaks a rule, with the rule.
 fn first_broken(alloc: Global, typed: &Typed) -> Result<Option<At<Disowned<'_>>>, AllocError>
     ensures { IfOk result (λ told. MatchOption told (KeepsOwnership (program_of typed.now.tree))
-        (IsTold typed.now.tree)) }
+        (IsLeastFault typed.now.tree)) }
 {
     let told = broken(alloc, typed, None)?;
     Ok(told.first())
@@ -63,7 +63,7 @@ fn first_broken(alloc: Global, typed: &Typed) -> Result<Option<At<Disowned<'_>>>
 /// Returns an error if memory runs out, as in `own`.
 pub fn disowned(alloc: Global, typed: &Typed) -> Result<Reasons<Disowned<'_>>, AllocError>
     ensures first { IfOk result (IsFirstTold typed.now.tree) }
-    ensures all { IfOk result (AreTold typed.now.tree) }
+    ensures all { IfOk result (AreLeastFaults typed.now.tree) }
 {
     let told = broken(alloc, typed, None)?;
     match held_local(told.first()) {
@@ -100,7 +100,7 @@ fn broken(
     watched: Option<Local>,
 ) -> Result<Reasons<Disowned<'_>>, AllocError>
     ensures first { IfOk result (IsFirstTold typed.now.tree) }
-    ensures all { IfOk result (AreTold typed.now.tree) }
+    ensures all { IfOk result (AreLeastFaults typed.now.tree) }
 {
     let mut told = Findings::new(watched);
     note_functions(alloc, &typed.tree.functions, &mut told)?;

@@ -14,7 +14,7 @@ ghost use Rattle.cw_own.specs.Reasons.{held_by, outside, why_index, why_outer_in
 ghost use Rattle.cw_own.specs.Reasons.{why_taken, why_read, why_write, why_whole, why_lend, why_target, why_argument};
 ghost use Rattle.cw_own.specs.Reasons.{why_arguments, why_return, why_twice, why_read_too, why_over_twice, why_over};
 ghost use Rattle.cw_own.specs.Reasons.{why_head, why_cut, why_element, why};
-ghost use Rattle.cw_own.specs.Views.{set_of, turn_of, around_of, used, returned, reason_of, told_of, why_here, why_of_call};
+ghost use Rattle.cw_own.specs.Views.{set_of, turn_of, around_of, used, returned, reason_of, view_of_reason, why_here, why_of_call};
 ghost use Rattle.cw_own.specs.Views.{Finds};
 ghost use Rattle.cw_own.specs.declared.reason.Touch.TheVariants as touch;
 
@@ -37,7 +37,7 @@ fn keep<'a>(reason: Disowned<'a>, first: &mut Option<Disowned<'a>>)
 
 // Records the rule that was found broken, if there is one.
 fn of_found<'a>(found: Option<Disowned<'a>>, first: &mut Option<Disowned<'a>>)
-    ensures { Finds first.old first.new (told_of found.entry) }
+    ensures { Finds first.old first.new (view_of_reason found.entry) }
 {
     if let Some(reason) = found {
         keep(reason, first);
@@ -313,7 +313,7 @@ fn of_return<'a>(
 // Returns a reason if an array is given away twice.
 fn given_twice<'a>(callee: &'a Listed, es: &'a [Argument]) -> Option<Disowned<'a>>
     requires { list_all small_argument (map argument_of es.now) ≡ true }
-    ensures { told_of result ≡ why_twice (listed_of callee.now) no_slot (map argument_of es.now) }
+    ensures { view_of_reason result ≡ why_twice (listed_of callee.now) no_slot (map argument_of es.now) }
 {
     let mut seen = Bits::none();
     for e in es {
@@ -343,7 +343,7 @@ fn given_away(es: &[Argument]) -> Bits
 
 // Returns a reason if an array that is given away is also passed to be read.
 fn read_too<'a>(callee: &'a Listed, given: &Bits, es: &'a [Argument]) -> Option<Disowned<'a>>
-    ensures { told_of result
+    ensures { view_of_reason result
         ≡ why_read_too (listed_of callee.now) (set_of given.now) (map argument_of es.now) }
 {
     for e in es {
@@ -377,7 +377,7 @@ fn of_call<'a>(
 // Returns a reason if a loop is over an array twice.
 fn over_twice<'a>(uses: &'a [Use]) -> Option<Disowned<'a>>
     requires { list_all is_small (map use_of uses.now) ≡ true }
-    ensures { told_of result ≡ why_over_twice no_slot (map use_of uses.now) }
+    ensures { view_of_reason result ≡ why_over_twice no_slot (map use_of uses.now) }
 {
     let mut seen = Bits::none();
     for used in uses {

@@ -11,7 +11,7 @@ ghost use Rattle.cw_own.specs.Views.{left_after, left_by_if, left_by_scope, left
 ghost use Rattle.cw_own.specs.Views.{turns_of, turns_inside, turns_of_lines, Past};
 ghost use Rattle.cw_own.specs.Views.{reasons_among, reasons_leaving, reasons_joining, reasons_inside};
 ghost use Rattle.cw_own.specs.Views.{reasons_of_either, reasons_of_for, reasons_of_scope, reasons_of_cut};
-ghost use Rattle.cw_own.specs.Views.{told_of, still_taken, Noted};
+ghost use Rattle.cw_own.specs.Views.{view_of_reason, still_taken, Noted};
 
 use crate::around::Loop;
 use crate::gains::{after_call, know};
@@ -20,7 +20,7 @@ use crate::reading::of_stmt;
 use crate::reason::{Disowned, Holder};
 use crate::row::Row;
 use crate::taken::Taken;
-use crate::told::Findings;
+use crate::findings::Findings;
 use cw_tree::resolved::{Cut, Head, Line, Stmt, Use};
 
 /// Holds the locals that one iteration of each remaining `while` holds, in order.
@@ -75,7 +75,7 @@ fn see(known: &Row, taken: &mut Taken, stmt: &Stmt, rest: &mut Turns<'_>)
 
 // Returns a reason if a name whose scope ends is held.
 fn ends<'a>(taken: &Taken, used: &'a Use, holder: Option<Holder>) -> Option<Disowned<'a>>
-    ensures { told_of result ≡ ends_by (use_of used.now) holder }
+    ensures { view_of_reason result ≡ ends_by (use_of used.now) holder }
 {
     match holder {
         None => None,
@@ -85,7 +85,7 @@ fn ends<'a>(taken: &Taken, used: &'a Use, holder: Option<Holder>) -> Option<Diso
 
 // Returns a reason if the name that a statement declares is held at the end of its block.
 fn of_end<'a>(taken: &Taken, stmt: &'a Stmt) -> Option<Disowned<'a>>
-    ensures { told_of result ≡ why_left (taken_of taken.now) (stmt_of stmt.now) }
+    ensures { view_of_reason result ≡ why_left (taken_of taken.now) (stmt_of stmt.now) }
 {
     match stmt {
         Stmt::Declare(used, _) => ends(taken, used, taken.int_holder(used.slot)),

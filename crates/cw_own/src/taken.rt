@@ -10,7 +10,7 @@ use crate::bits::Bits;
 use crate::held::Held;
 use crate::reason::{Holder, Start};
 use crate::row::Row;
-use crate::told::Watch;
+use crate::findings::Watch;
 
 /// Holds what is held by the spawns of the enclosing sync blocks, what is held by the spawns of the innermost sync
 /// block, and the arrays that are cut.

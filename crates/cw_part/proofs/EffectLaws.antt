@@ -27,7 +27,7 @@ use Rattle.cw_reduce.specs.Greatest.{greater}
 use Rattle.cw_reduce.specs.PieceResults.{totals_joined}
 use Rattle.cw_reduce.specs.SumsOfIntegers.{SumsHoldIntegers}
 use Rattle.cw_reduce.specs.ShownLaws.{same_shown}
-use Rattle.cw_code.specs.Jobs.{Standing, Effect, Ended, Joined, TrapIn, OverLimit}
+use Rattle.cw_code.specs.Jobs.{JoinFrame, Effect, Ended, Joined, TrapIn, OverLimit}
 use Rattle.cw_code.specs.Jobs as jobs
 use Rattle.cw_code.specs.Strands.{HasStopped, resumed, stopped_after, dropped}
 use Rattle.cw_jobs.specs.Totals.{kept, HoldsTotals}
@@ -142,7 +142,7 @@ module _ (held_law : SumsHoldIntegers) (law : MeasuresReadTrees) (code : Code) (
   burdened_both m n es fs h i =
       ap (λ c. onward (up_to most_burdened) c n.burdened) h ∙ ap (onward (up_to most_burdened) (measure_of burden es).burdened) i ∙ ap (λ x. x.burdened) (measured_both es fs)
 
-  read_both : (s : State) (count : ℕ) (frame : Standing) (t : Trace) (cost : ℕ) (a b : Read) → HasRead code burden a s.trace count
+  read_both : (s : State) (count : ℕ) (frame : JoinFrame) (t : Trace) (cost : ℕ) (a b : Read) → HasRead code burden a s.trace count
       → HasRead code burden b t cost → HasRead code burden (read_joined a b) (resumed s frame t).trace (count + cost)
   read_both s count frame t cost a b h i = record {
     lines = lines_both a b s.trace.lines t.lines h.lines i.lines;

@@ -26,7 +26,7 @@ use Rattle.cw_reduce.specs.ReducerState.{ReducerState, Summed, Raised, held_join
 use Rattle.cw_reduce.specs.SumsOfIntegers.{SumsHoldIntegers}
 use Rattle.cw_part.specs.declared.read.Read.{Read}
 use Rattle.cw_part.specs.Parts.{Came, Completed, Trapped, Over, over_if, within}
-use Rattle.cw_part.specs.Runs.{Run, Numbering, cost, traces, serial, told_so, TellsTrace, TellsCame, RanAlike, TrappedAlike, OverAlike}
+use Rattle.cw_part.specs.Runs.{Run, Numbering, cost, traces, serial, told_so, RepresentsTrace, RepresentsOutcome, RanAlike, TrappedAlike, OverAlike}
 use Rattle.cw_part.specs.PieceRuns.{OfCall, Exit, IsRunOf}
 use Rattle.cw_part.specs.Elision.{elision, TellsAnswer, EndedSo, TrappedSo, OverSo, ElisionIsARun, RunGivesTheAnswers, PiecesAreTheElision, AllFit, UpdatesAreTotals, wrapped}
 use Rattle.cw_part.proofs.RunLaws.{serial_is}
@@ -52,7 +52,7 @@ reads_normal same burden m site t r =
     }
 
 reads_events : MeasuresReadTrees → NormalsReadTheSame → (burden : Burden) (numbering : Numbering) (t : Trace) (a : Read)
-    → TellsTrace burden numbering t a → ReadsTree burden a.measure (normal (Marked (Invocation 0) (tree_of t.events)))
+    → RepresentsTrace burden numbering t a → ReadsTree burden a.measure (normal (Marked (Invocation 0) (tree_of t.events)))
 reads_events law same burden numbering t a h =
     let P : Measured → Type 0 = λ m. ReadsTree burden m (tree_of t.events) in
     reads_normal same burden a.measure 0 (tree_of t.events) (subst P (sym h.measure) (law.reads burden t.events))
@@ -73,22 +73,22 @@ trap_answered reducers true trap line lines = refl
 trap_answered reducers false trap line lines = refl
 
 module _ (law : MeasuresReadTrees) (same : NormalsReadTheSame) (burden : Burden) (numbering : Numbering) (program : Program) (args : List ℤ) (limit : ℕ) where
-  abbrev Tells : Outcome Returned → Came Read → Type 0
-  Tells o c = TellsAnswer burden numbering program args limit (answer_of program.reducers o) c
+  abbrev Tracks : Outcome Returned → Came Read → Type 0
+  Tracks o c = TellsAnswer burden numbering program args limit (answer_of program.reducers o) c
 
   abbrev piece : Piece Returned
   piece = elision program args limit
 
-  ended_so : (returned : Returned) (left : ℕ) {t : Trace} {c : Came Read} → piece limit ≡ Done returned left t → TellsCame burden numbering (Completed t) c → Tells (Done returned left t) c
+  ended_so : (returned : Returned) (left : ℕ) {t : Trace} {c : Came Read} → piece limit ≡ Done returned left t → RepresentsOutcome burden numbering (Completed t) c → Tracks (Done returned left t) c
   ended_so returned left e (RanAlike t a h) =
       EndedSo (int_given returned.0) t.lines (map (λ r. total_to r.how r.name t.updates) program.reducers) (normal (Marked (Invocation 0) (tree_of t.events))) a
       (record { returned = returned; left = left; trace = t; ends = e; printed = h.lines; reduced = refl; kept = h.totals; measured = reads_events law same burden numbering t a h })
 
-  over_so : {c : Came Read} → TellsCame burden numbering Over c → Tells model.Over c
+  over_so : {c : Came Read} → RepresentsOutcome burden numbering Over c → Tracks model.Over c
   over_so OverAlike = OverSo
 
   trapped_so : {trap : Trap} {line : ℕ} {t : Trace} {c : Came Read} → ((n : ℕ) → n ≤ limit → piece n ≡ tested n (cost t) (λ k. model.Trapped trap line t.lines))
-      → TellsCame burden numbering (Trapped trap line t) c → Tells (model.Trapped trap line t.lines) c
+      → RepresentsOutcome burden numbering (Trapped trap line t) c → Tracks (model.Trapped trap line t.lines) c
   trapped_so f (TrappedAlike trap line t a h) =
       TrappedSo trap line t.lines a (record {
         printed = h.lines;
@@ -100,29 +100,29 @@ module _ (law : MeasuresReadTrees) (same : NormalsReadTheSame) (burden : Burden)
       })
 
   -- how the elision came out within the limit
-  tells : {exit : Exit OfCall} {x : Came Trace} (c : Came Read) → Comes OfCall limit piece exit x → TellsCame burden numbering (within traces limit x) c → Tells (piece limit) c
+  tells : {exit : Exit OfCall} {x : Came Trace} (c : Came Read) → Comes OfCall limit piece exit x → RepresentsOutcome burden numbering (within traces limit x) c → Tracks (piece limit) c
   tells c (Ending a left t e f) h =
       let g = f limit (omega arith) in
-      subst (λ o. Tells o c) (sym g) (by_test (nat_lt limit (cost t)) g h)
+      subst (λ o. Tracks o c) (sym g) (by_test (nat_lt limit (cost t)) g h)
     where
       by_test : (b : Bool) → piece limit ≡ (if b then model.Over else Done a (limit - cost t) t)
-          → TellsCame burden numbering (over_if b (Completed t)) c → Tells (if b then model.Over else Done a (limit - cost t) t) c
+          → RepresentsOutcome burden numbering (over_if b (Completed t)) c → Tracks (if b then model.Over else Done a (limit - cost t) t) c
       by_test true g k = over_so k
       by_test false g k = ended_so a (limit - cost t) g k
   tells c (Trapping trap line t f) h =
-      subst (λ o. Tells o c) (sym (f limit (omega arith))) (by_test (nat_lt limit (cost t)) h)
+      subst (λ o. Tracks o c) (sym (f limit (omega arith))) (by_test (nat_lt limit (cost t)) h)
     where
-      by_test : (b : Bool) → TellsCame burden numbering (over_if b (Trapped trap line t)) c → Tells (if b then model.Over else model.Trapped trap line t.lines) c
+      by_test : (b : Bool) → RepresentsOutcome burden numbering (over_if b (Trapped trap line t)) c → Tracks (if b then model.Over else model.Trapped trap line t.lines) c
       by_test true k = over_so k
       by_test false k = trapped_so f k
   tells c (Passing t d f) h =
-      let Q : Bool → Type 0 = λ b. TellsCame burden numbering (over_if b (Completed t)) c in
-      subst (λ o. Tells o c) (sym (f limit (omega arith))) (over_so (subst Q (below limit (cost t) d) h))
+      let Q : Bool → Type 0 = λ b. RepresentsOutcome burden numbering (over_if b (Completed t)) c in
+      subst (λ o. Tracks o c) (sym (f limit (omega arith))) (over_so (subst Q (below limit (cost t) d) h))
 
-  tells_serial : (run : Run) (exit : Exit OfCall) (c : Came Read) → IsRunOf OfCall limit piece run exit → TellsCame burden numbering (serial limit run) c
+  tells_serial : (run : Run) (exit : Exit OfCall) (c : Came Read) → IsRunOf OfCall limit piece run exit → RepresentsOutcome burden numbering (serial limit run) c
       → TellsAnswer burden numbering program args limit (serial_answer program args limit) c
   tells_serial run exit c d h =
-      let P : Came Trace → Type 0 = λ z. TellsCame burden numbering z c in
+      let P : Came Trace → Type 0 = λ z. RepresentsOutcome burden numbering z c in
       let Q : Answer → Type 0 = λ z. TellsAnswer burden numbering program args limit z c in
       subst Q (sym (answer_within program args limit limit (omega arith))) (tells c (run_comes d) (subst P (serial_is run limit) h))
 

@@ -9,7 +9,7 @@ use Rattle.cw_model.specs.Captured.{captured}
 use Rattle.cw_model.specs.Ints.{is_zero, natural}
 use Rattle.cw_model.specs.declared.limits.TheConstants.{MOST_DEPTH}
 use Rattle.cw_model.specs.Syntax.{Expr, Stmt, Declare, DeclareArray, Assign, AssignElement, Reduce, Call, Start, Begin, Sync, If, IfElse, While}
-use Rattle.cw_model.specs.Syntax.{For, Scope, Cut, Region, Print, Return, Block, End, Then, Param, Function, wants_array}
+use Rattle.cw_model.specs.Syntax.{For, Scope, Cut, Region, Print, Return, Block, End, Then, Param, Function, is_array_param}
 use Rattle.cw_model.specs.Trees.{Mark, Invocation, Execution, Join, works}
 use Rattle.cw_model.specs.Frames.{Frame, no_frame, leave, inside_loop, new_array, new_int}
 use Rattle.cw_model.specs.Expressions.{Evaluated, Gives, Traps, evaluate}
@@ -91,7 +91,7 @@ abbrev pub runs_arguments : (ps : List Param) (es : List Expr) (frame : Frame) (
 runs_arguments [] es frame line given = runs_nothing OfFrame given
 runs_arguments (p ∷ ps) [] frame line given = runs_nothing OfFrame given
 runs_arguments (p ∷ ps) (e ∷ es) frame line given =
-    runs_if OfFrame (wants_array p) (runs_arguments ps es frame line (new_array p.name (given_array e frame) given))
+    runs_if OfFrame (is_array_param p) (runs_arguments ps es frame line (new_array p.name (given_array e frame) given))
     (runs_then OfInt OfFrame (runs_value (evaluate e frame) line) (λ v. runs_arguments ps es frame line (new_int p.name v given)))
 
 abbrev pub runs_turns : (bound : ℕ) (test : Frame → Evaluated) (line : ℕ) (body : Frame → Piece Completion)

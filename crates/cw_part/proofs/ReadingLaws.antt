@@ -14,7 +14,7 @@ use Rattle.cw_part.specs.declared.read.Read.{Read}
 use Rattle.cw_part.specs.Parts.{Came, Completed, Trapped, Over, Memory, seen, is_above}
 use Rattle.cw_part.specs.Read.{readings}
 use Rattle.cw_part.specs.RunParts.{RunPart}
-use Rattle.cw_part.specs.Runs.{Run, Numbering, cost, traces, serial, told, TellsTrace, TellsTrap, TellsCame, RanAlike, TrappedAlike, OverAlike, Alone}
+use Rattle.cw_part.specs.Runs.{Run, Numbering, cost, traces, serial, told, RepresentsTrace, RepresentsTrap, RepresentsOutcome, RanAlike, TrappedAlike, OverAlike, Alone}
 use Rattle.cw_part.specs.RunsHaveParts.{RunsHaveParts}
 use Rattle.cw_part.proofs.RunLaws.{IsNoMemory}
 use Rattle.cw_part.proofs.TellingLaws.{held_both}
@@ -70,13 +70,13 @@ totals_read numbering q (x ∷ xs) =
 abbrev read_of : (burden : Burden) (numbering : Numbering) → Trace → Read
 read_of burden numbering t = record { views = record { totals = totals_of numbering t.updates; lines = t.lines }; measure = measure_of burden t.events }
 
-reads_all : (burden : Burden) (numbering : Numbering) (t : Trace) → TellsTrace burden numbering t (read_of burden numbering t)
+reads_all : (burden : Burden) (numbering : Numbering) (t : Trace) → RepresentsTrace burden numbering t (read_of burden numbering t)
 reads_all burden numbering t = record { lines = refl; totals = λ q. totals_read numbering q t.updates; measure = refl }
 
-reads_trap : (burden : Burden) (numbering : Numbering) (t : Trace) → TellsTrap t (read_of burden numbering t)
+reads_trap : (burden : Burden) (numbering : Numbering) (t : Trace) → RepresentsTrap t (read_of burden numbering t)
 reads_trap burden numbering t = record { lines = refl; work = refl }
 
-all_told : (burden : Burden) (numbering : Numbering) (x : Came Trace) → IsNoMemory x → TellsCame burden numbering x (seen (read_of burden numbering) x)
+all_told : (burden : Burden) (numbering : Numbering) (x : Came Trace) → IsNoMemory x → RepresentsOutcome burden numbering x (seen (read_of burden numbering) x)
 all_told burden numbering (Completed t) h = RanAlike t (read_of burden numbering t) (reads_all burden numbering t)
 all_told burden numbering (Trapped trap line t) h = TrappedAlike trap line t (read_of burden numbering t) (reads_trap burden numbering t)
 all_told burden numbering Over h = OverAlike

@@ -12,7 +12,7 @@ use Rattle.cw_part.specs.Parts.{Came, Completed, Trapped, Over, Memory, followed
 use Rattle.cw_part.specs.PartFacts.{is_tested}
 use Rattle.cw_part.specs.Read.{readings}
 use Rattle.cw_part.specs.RunParts.{RunPart, as_child, as_call}
-use Rattle.cw_part.specs.Runs.{Run, Numbering, Inside, then_run, cost, traces, as_event, serial, TellsCame, RanAlike, TrappedAlike}
+use Rattle.cw_part.specs.Runs.{Run, Numbering, Inside, then_run, cost, traces, as_event, serial, RepresentsOutcome, RanAlike, TrappedAlike}
 use Rattle.cw_part.specs.Runs.{OverAlike, IsCountedAfter, IsJoinedOf, Alone, Refused, Cut, Apart, Called, PiecesAreTheRun}
 use Rattle.cw_part.proofs.RunLaws.{cost_both, cost_inside, IsNoMemory, meaning, none_meant, trap_stays, over_stays, serial_is, runs_join, children_join}
 use Rattle.cw_part.proofs.TellingLaws.{came_both, came_tested, part_read, came_inside}
@@ -27,7 +27,7 @@ IsBeyond n d Memory = ⊥
 -- memory was refused to a part, or it tells of the run, or it is over and the run passes the limit
 data Stands (burden : Burden) (numbering : Numbering) (limit before : ℕ) (x : Came Trace) (a : Came Read) : Type 0 where
   Short : a ≡ Memory → Stands burden numbering limit before x a
-  Same : TellsCame burden numbering x a → Stands burden numbering limit before x a
+  Same : RepresentsOutcome burden numbering x a → Stands burden numbering limit before x a
   Passed : a ≡ Over → IsBeyond limit before x → Stands burden numbering limit before x a
 
 beyond_within : (n d : ℕ) (z : Came Trace) → IsBeyond n d z → IsBeyond n d (within traces n z)
@@ -78,7 +78,7 @@ counted_inside d e spawned mark Over h = tt
 counted_inside d e spawned mark Memory h = tt
 
 -- what is over stays so, unless memory was refused behind it
-over_then : (burden : Burden) (numbering : Numbering) {y : Came Trace} {b : Came Read} → TellsCame burden numbering y b → followed readings Over b ≡ Over
+over_then : (burden : Burden) (numbering : Numbering) {y : Came Trace} {b : Came Read} → RepresentsOutcome burden numbering y b → followed readings Over b ≡ Over
 over_then burden numbering (RanAlike t a h) = refl
 over_then burden numbering (TrappedAlike trap line t a h) = refl
 over_then burden numbering OverAlike = refl
@@ -91,13 +91,13 @@ refused_later Memory = refl
 
 -- a part that tells of a run, and one that is over because what follows passes the limit
 passed_later : (burden : Burden) (numbering : Numbering) (n d e : ℕ) (x y : Came Trace) (a b : Came Read) → n ≤ MOST_LIMIT → IsNoMemory y
-    → IsCountedAfter d x e → TellsCame burden numbering x a → b ≡ Over → IsBeyond n e y
+    → IsCountedAfter d x e → RepresentsOutcome burden numbering x a → b ≡ Over → IsBeyond n e y
     → Stands burden numbering n d (within traces n (followed traces x y)) (within readings n (followed readings a b))
 passed_later burden numbering n d e x y a b l m c h f q =
     let P : Came Read → Type 0 = λ z. Stands burden numbering n d (within traces n (followed traces x y)) (within readings n (followed readings a z)) in
     subst P (sym f) (by_case x a c h)
   where
-    by_case : (x : Came Trace) (a : Came Read) → IsCountedAfter d x e → TellsCame burden numbering x a
+    by_case : (x : Came Trace) (a : Came Read) → IsCountedAfter d x e → RepresentsOutcome burden numbering x a
         → Stands burden numbering n d (within traces n (followed traces x y)) (within readings n (followed readings a Over))
     by_case _ _ c (RanAlike t r h) = Passed refl (beyond_within n d (followed traces (Completed t) y) (beyond_second n d e t y c q))
     by_case _ _ c (TrappedAlike trap line t r h) =
@@ -132,24 +132,24 @@ stands_inside law burden numbering n d spawned mark x a b (Same h) = Same (came_
 stands_inside law burden numbering n d spawned mark x a b (Passed f p) = Passed (ap (seen (part_read spawned burden)) f) (beyond_inside n d spawned mark x p)
 
 -- a strand that stops no earlier than the limit with this cost before it
-over_told : (burden : Burden) (numbering : Numbering) (a : Came Read) → TellsCame burden numbering Over a → a ≡ Over
+over_told : (burden : Burden) (numbering : Numbering) (a : Came Read) → RepresentsOutcome burden numbering Over a → a ≡ Over
 over_told burden numbering _ OverAlike = refl
 
 stopped : (burden : Burden) (numbering : Numbering) (n d left : ℕ) (m : Came Trace) (a : Came Read) → is_above traces left m ≡ true → IsBeyond n d m
-    → TellsCame burden numbering (within traces left m) a → Stands burden numbering n d (within traces n m) a
+    → RepresentsOutcome burden numbering (within traces left m) a → Stands burden numbering n d (within traces n m) a
 stopped burden numbering n d left m a e p h =
-    let P : Bool → Type 0 = λ b. TellsCame burden numbering (over_if b m) a in
+    let P : Bool → Type 0 = λ b. RepresentsOutcome burden numbering (over_if b m) a in
     Passed (over_told burden numbering a (subst P e h)) (beyond_within n d m p)
 
 unstopped : (burden : Burden) (numbering : Numbering) (n d left : ℕ) (m : Came Trace) (a : Came Read) → is_above traces left m ≡ false
-    → is_above traces n m ≡ false → TellsCame burden numbering (within traces left m) a → Stands burden numbering n d (within traces n m) a
+    → is_above traces n m ≡ false → RepresentsOutcome burden numbering (within traces left m) a → Stands burden numbering n d (within traces n m) a
 unstopped burden numbering n d left m a e f h =
-    let P : Bool → Type 0 = λ b. TellsCame burden numbering (over_if b m) a in
+    let P : Bool → Type 0 = λ b. RepresentsOutcome burden numbering (over_if b m) a in
     let Q : Bool → Type 0 = λ b. Stands burden numbering n d (over_if b m) a in
     subst Q (sym f) (Same (subst P e h))
 
 stands_alone : (burden : Burden) (numbering : Numbering) (n d left : ℕ) (m : Came Trace) (a : Came Read) → IsNoMemory m → left ≤ n → n ≤ d + left
-    → TellsCame burden numbering (within traces left m) a → Stands burden numbering n d (within traces n m) a
+    → RepresentsOutcome burden numbering (within traces left m) a → Stands burden numbering n d (within traces n m) a
 stands_alone burden numbering n d left (Completed t) a k l g h = by_test (nat_lt left (cost t)) refl
   where
     by_test : (b : Bool) → nat_lt left (cost t) ≡ b → Stands burden numbering n d (within traces n (Completed t)) a
@@ -182,9 +182,9 @@ pub none_met : (n : ℕ) (run : Run) → IsNoMemory (serial n run)
 none_met n run = subst IsNoMemory (sym (serial_is run n)) (none_within n (meaning run) (none_meant run))
 
 alone_stands : (burden : Burden) (numbering : Numbering) (n d left : ℕ) (run : Run) (a : Came Read) → left ≤ n → n ≤ d + left
-    → TellsCame burden numbering (serial left run) a → Stands burden numbering n d (serial n run) a
+    → RepresentsOutcome burden numbering (serial left run) a → Stands burden numbering n d (serial n run) a
 alone_stands burden numbering n d left run a l g h =
-    let P : Came Trace → Type 0 = λ z. TellsCame burden numbering z a in
+    let P : Came Trace → Type 0 = λ z. RepresentsOutcome burden numbering z a in
     let Q : Came Trace → Type 0 = λ z. Stands burden numbering n d z a in
     subst Q (sym (serial_is run n)) (stands_alone burden numbering n d left (meaning run) a (none_meant run) l g (subst P (serial_is run left) h))
 
@@ -234,12 +234,12 @@ over_at_once n Memory e p = absurd p
 pub serial_tested : (n : ℕ) (run : Run) → is_above traces n (serial n run) ≡ false
 serial_tested n run = ap (is_above traces n) (serial_is run n) ∙ is_tested traces n (meaning run)
 
-told_at_once : (burden : Burden) (numbering : Numbering) (n : ℕ) (run : Run) (a : Came Read) → Stands burden numbering n 0 (serial n run) a → (a ≡ Memory) ⊎ TellsCame burden numbering (serial n run) a
+told_at_once : (burden : Burden) (numbering : Numbering) (n : ℕ) (run : Run) (a : Came Read) → Stands burden numbering n 0 (serial n run) a → (a ≡ Memory) ⊎ RepresentsOutcome burden numbering (serial n run) a
 told_at_once burden numbering n run a (Short f) = inl f
 told_at_once burden numbering n run a (Same h) = inr h
 told_at_once burden numbering n run a (Passed f p) =
-    let P : Came Trace → Type 0 = λ z. TellsCame burden numbering z a in
-    let Q : Came Read → Type 0 = λ z. TellsCame burden numbering Over z in
+    let P : Came Trace → Type 0 = λ z. RepresentsOutcome burden numbering z a in
+    let Q : Came Read → Type 0 = λ z. RepresentsOutcome burden numbering Over z in
     inr (subst P (sym (over_at_once n (serial n run) (serial_tested n run) p)) (subst Q (sym f) OverAlike))
 
 pub pieces_are_the_run : MeasuresReadTrees → PiecesAreTheRun

@@ -23,7 +23,7 @@ use Rattle.cw_reduce.specs.PieceResults.{held_of, totals_joined}
 use Rattle.cw_part.specs.declared.read.Read.{Read}
 use Rattle.cw_part.specs.Parts.{Came, Completed, Trapped, followed, seen, over_if, within}
 use Rattle.cw_part.specs.Read.{readings, read_joined, child_read, call_read}
-use Rattle.cw_part.specs.Runs.{Numbering, cost, traces, as_event, told, told_so, TellsTrace, TellsTrap, TellsCame, RanAlike, TrappedAlike, OverAlike}
+use Rattle.cw_part.specs.Runs.{Numbering, cost, traces, as_event, told, told_so, RepresentsTrace, RepresentsTrap, RepresentsOutcome, RanAlike, TrappedAlike, OverAlike}
 use Rattle.cw_part.proofs.RunLaws.{cost_both, cost_inside}
 
 -- what is held over both
@@ -46,15 +46,15 @@ told_both how number q (x ∷ xs) ys = by_test (number x.0 == q) (told_both how 
     by_test false e = e
 
 -- the work that is read of a trace, and of a child
-work_told : {burden : Burden} {numbering : Numbering} (t : Trace) (a : Read) → TellsTrace burden numbering t a → a.measure.work ≡ min most (cost t)
+work_told : {burden : Burden} {numbering : Numbering} (t : Trace) (a : Read) → RepresentsTrace burden numbering t a → a.measure.work ≡ min most (cost t)
 work_told t a h = ap (λ (m : Measured). m.work) h.measure
 
-trap_told : {burden : Burden} {numbering : Numbering} (t : Trace) (a : Read) → TellsTrace burden numbering t a → TellsTrap t a
+trap_told : {burden : Burden} {numbering : Numbering} (t : Trace) (a : Read) → RepresentsTrace burden numbering t a → RepresentsTrap t a
 trap_told t a h = record { lines = h.lines; work = work_told t a h }
 
 -- of both
-trace_both : MeasuresReadTrees → (burden : Burden) (numbering : Numbering) (t u : Trace) (a b : Read) → TellsTrace burden numbering t a
-    → TellsTrace burden numbering u b → TellsTrace burden numbering (joined t u) (read_joined a b)
+trace_both : MeasuresReadTrees → (burden : Burden) (numbering : Numbering) (t u : Trace) (a b : Read) → RepresentsTrace burden numbering t a
+    → RepresentsTrace burden numbering u b → RepresentsTrace burden numbering (joined t u) (read_joined a b)
 trace_both law burden numbering t u a b h k = record {
   lines = ap (λ (l : List ℤ). l ++ b.views.lines) h.lines ∙ ap (λ (l : List ℤ). t.lines ++ l) k.lines;
   totals = λ q.
@@ -65,14 +65,14 @@ trace_both law burden numbering t u a b h k = record {
       ∙ sym (law.pieces burden t.events u.events);
 }
 
-trap_both : (t u : Trace) (a b : Read) → TellsTrap t a → TellsTrap u b → TellsTrap (joined t u) (read_joined a b)
+trap_both : (t u : Trace) (a b : Read) → RepresentsTrap t a → RepresentsTrap u b → RepresentsTrap (joined t u) (read_joined a b)
 trap_both t u a b h k = record {
   lines = ap (λ (l : List ℤ). l ++ b.views.lines) h.lines ∙ ap (λ (l : List ℤ). t.lines ++ l) k.lines;
   work = let e = h.work in let f = k.work in let c = cost_both t u in omega arith;
 }
 
-pub came_both : MeasuresReadTrees → (burden : Burden) (numbering : Numbering) {x y : Came Trace} {a b : Came Read} → TellsCame burden numbering x a
-    → TellsCame burden numbering y b → TellsCame burden numbering (followed traces x y) (followed readings a b)
+pub came_both : MeasuresReadTrees → (burden : Burden) (numbering : Numbering) {x y : Came Trace} {a b : Came Read} → RepresentsOutcome burden numbering x a
+    → RepresentsOutcome burden numbering y b → RepresentsOutcome burden numbering (followed traces x y) (followed readings a b)
 came_both law burden numbering (RanAlike t a h) (RanAlike u b k) = RanAlike (joined t u) (read_joined a b) (trace_both law burden numbering t u a b h k)
 came_both law burden numbering (RanAlike t a h) (TrappedAlike trap line u b k) = TrappedAlike trap line (joined t u) (read_joined a b) (trap_both t u a b (trap_told t a h) k)
 came_both law burden numbering (RanAlike t a h) OverAlike = OverAlike
@@ -95,17 +95,17 @@ same_test n c w l e = by_test (nat_lt n c) refl
         by_other true k = let x = lt_of n w k in sym h ∙ below n c (omega arith)
         by_other false k = refl
 
-over_alike : (burden : Burden) (numbering : Numbering) (x : Came Trace) (a : Came Read) (b : Bool) → TellsCame burden numbering x a → TellsCame burden numbering (over_if b x) (over_if b a)
+over_alike : (burden : Burden) (numbering : Numbering) (x : Came Trace) (a : Came Read) (b : Bool) → RepresentsOutcome burden numbering x a → RepresentsOutcome burden numbering (over_if b x) (over_if b a)
 over_alike burden numbering x a true h = OverAlike
 over_alike burden numbering x a false h = h
 
-alike_if : (burden : Burden) (numbering : Numbering) (x : Came Trace) (a : Came Read) (b c : Bool) → b ≡ c → TellsCame burden numbering x a → TellsCame burden numbering (over_if b x) (over_if c a)
+alike_if : (burden : Burden) (numbering : Numbering) (x : Came Trace) (a : Came Read) (b c : Bool) → b ≡ c → RepresentsOutcome burden numbering x a → RepresentsOutcome burden numbering (over_if b x) (over_if c a)
 alike_if burden numbering x a b c e h =
-    let P : Bool → Type 0 = λ d. TellsCame burden numbering (over_if b x) (over_if d a) in
+    let P : Bool → Type 0 = λ d. RepresentsOutcome burden numbering (over_if b x) (over_if d a) in
     subst P e (over_alike burden numbering x a b h)
 
 pub came_tested : (burden : Burden) (numbering : Numbering) (n : ℕ) {x : Came Trace} {a : Came Read} → n ≤ MOST_LIMIT
-    → TellsCame burden numbering x a → TellsCame burden numbering (within traces n x) (within readings n a)
+    → RepresentsOutcome burden numbering x a → RepresentsOutcome burden numbering (within traces n x) (within readings n a)
 came_tested burden numbering n l (RanAlike t a h) = alike_if burden numbering (Completed t) (Completed a) (nat_lt n (cost t))
     (nat_lt n a.measure.work) (same_test n (cost t) a.measure.work l (work_told t a h)) (RanAlike t a h)
 came_tested burden numbering n l (TrappedAlike trap line t a h) = alike_if burden numbering (Trapped trap line t) (Trapped trap line a)
@@ -164,17 +164,17 @@ part_read true burden a = child_read burden a
 part_read false burden a = call_read a
 
 measure_inside : MeasuresReadTrees → (burden : Burden) (numbering : Numbering) (spawned : Bool) (mark : Option Mark) (t : Trace) (a : Read)
-    → burden.charge < 2 ^ 64 → TellsTrace burden numbering t a → TellsTrace burden numbering (as_event spawned mark t) (part_read spawned burden a)
+    → burden.charge < 2 ^ 64 → RepresentsTrace burden numbering t a → RepresentsTrace burden numbering (as_event spawned mark t) (part_read spawned burden a)
 measure_inside law burden numbering true mark t a b h = record { lines = h.lines; totals = h.totals; measure = measure_child law burden mark a.measure t b h.measure }
 measure_inside law burden numbering false mark t a b h = record { lines = h.lines; totals = h.totals; measure = measure_call law burden mark a.measure t h.measure }
 
-trap_inside : (burden : Burden) (spawned : Bool) (mark : Option Mark) (t : Trace) (a : Read) → TellsTrap t a → TellsTrap (as_event spawned mark t) (part_read spawned burden a)
+trap_inside : (burden : Burden) (spawned : Bool) (mark : Option Mark) (t : Trace) (a : Read) → RepresentsTrap t a → RepresentsTrap (as_event spawned mark t) (part_read spawned burden a)
 trap_inside burden true mark t a h = record { lines = h.lines; work = let w = h.work in let c = cost_inside true mark t in omega arith }
 trap_inside burden false mark t a h = record { lines = h.lines; work = let w = h.work in let c = cost_inside false mark t in omega arith }
 
 pub came_inside : MeasuresReadTrees → (burden : Burden) (numbering : Numbering) (spawned : Bool) (mark : Option Mark) {x : Came Trace}
-    {a : Came Read} → burden.charge < 2 ^ 64 → TellsCame burden numbering x a
-    → TellsCame burden numbering (seen (as_event spawned mark) x) (seen (part_read spawned burden) a)
+    {a : Came Read} → burden.charge < 2 ^ 64 → RepresentsOutcome burden numbering x a
+    → RepresentsOutcome burden numbering (seen (as_event spawned mark) x) (seen (part_read spawned burden) a)
 came_inside law burden numbering spawned mark b (RanAlike t a h) =
     RanAlike (as_event spawned mark t) (part_read spawned burden a) (measure_inside law burden numbering spawned mark t a b h)
 came_inside law burden numbering spawned mark b (TrappedAlike trap line t a h) =

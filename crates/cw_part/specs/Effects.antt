@@ -15,7 +15,7 @@ use Rattle.cw_meter.specs.declared.meter.Readings.{Readings}
 use Rattle.cw_meter.specs.Whole.{AreReadings}
 use Rattle.cw_reduce.specs.ReducerState.{ReducerState, held}
 use Rattle.cw_reduce.specs.PieceResults as views
-use Rattle.cw_code.specs.Jobs.{Standing, Effect, Ended, Joined, TrapIn, OverLimit}
+use Rattle.cw_code.specs.Jobs.{JoinFrame, Effect, Ended, Joined, TrapIn, OverLimit}
 use Rattle.cw_code.specs.Jobs as jobs
 use Rattle.cw_code.specs.Strands.{HasStopped, resumed, stopped_after, dropped}
 use Rattle.cw_jobs.specs.declared.effect.PieceOutput.{PieceOutput}
@@ -83,7 +83,7 @@ IsOutcome code burden _ _ = ⊥
 -- a strand that waits receives the effect of the continuation: it goes on with what both have shown and counted, or comes
 -- out as the part of both; a strand that had stopped comes out so too, whatever became of its continuation
 pub record EffectsFollow : Type 0 where
-  pub goes_on : (code : Code) (burden : Burden) (s : State) (count : ℕ) (frame : Standing) (t : Trace) (cost : ℕ) (a b : Read)
+  pub goes_on : (code : Code) (burden : Burden) (s : State) (count : ℕ) (frame : JoinFrame) (t : Trace) (cost : ℕ) (a b : Read)
       → HasRead code burden a s.trace count → HasRead code burden b t cost
       → HasRead code burden (read_joined a b) (resumed s frame t).trace (count + cost)
   pub stops : (code : Code) (burden : Burden) (s : State) (count : ℕ) (e : Effect) (a : Read) (c : Came Read) → HasStopped e

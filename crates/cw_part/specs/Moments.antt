@@ -8,9 +8,9 @@ use Rattle.cw_measure.specs.Outermost.{Tally}
 use Rattle.cw_sites.specs.declared.rows.Row.{Row}
 use Rattle.cw_sites.specs.declared.table.SiteTable.{SiteTable}
 use Rattle.cw_sites.specs.SiteRows as sites
-use Rattle.cw_sites.specs.Tables.{Tells}
+use Rattle.cw_sites.specs.Tables.{Tracks}
 use Rattle.cw_regions.specs.declared.table.RegionTable.{RegionTable}
-use Rattle.cw_regions.specs.Regions.{Readings, Tags, TellsRegions}
+use Rattle.cw_regions.specs.Regions.{Readings, Tags, TracksRegions}
 use Rattle.cw_regions.specs.RegionRows as regions
 
 -- the events of the outermost block, if each open part joined and ended now, the innermost first
@@ -36,7 +36,7 @@ pub record IsRowHere (now : ℕ) (row : Row) (of : SiteRow) : Type 0 where
 abbrev pub SitesAreRead : Type 0
 SitesAreRead =
     (busy : ℕ → ℕ) (os : List Open) (es : List Event) (table : SiteTable) (site : ℕ) → busy site ≡ 0
-    → Tells 0 busy os es table
+    → Tracks 0 busy os es table
     → IsRowHere table.noted (sites.row_of table.rows site) (site_row site (tree_here os es))
 
 -- and so is the work of a tag
@@ -44,6 +44,6 @@ abbrev pub RegionsAreRead : Type 0
 RegionsAreRead =
     (burden : Burden) (along : Readings burden) (tags : Tags) (busy : ℕ → ℕ) (os : List Open) (es : List Event)
     (table : RegionTable) (tag : ℕ) → tag < tags.count → busy tag ≡ 0
-    → TellsRegions burden along tags busy os es table
+    → TracksRegions burden along tags busy os es table
     → summed_here (work_in os es) (regions.work_tally (regions.row_of table.rows tag))
     ≡ (region_row burden (tags.name tag) (tree_here os es)).work

@@ -74,23 +74,23 @@ abbrev pub told : Numbering → (reducer : ℕ) → List (Name × ℤ) → Reduc
 told numbering reducer updates = told_so (numbering.how reducer) numbering.number reducer updates
 
 -- a part represents a trace: its lines, what is held of each reducer, and the measure of its events
-pub record TellsTrace (burden : Burden) (numbering : Numbering) (t : Trace) (a : Read) : Type 0 where
+pub record RepresentsTrace (burden : Burden) (numbering : Numbering) (t : Trace) (a : Read) : Type 0 where
   pub lines : a.views.lines ≡ t.lines
   pub totals : (reducer : ℕ) → held_of a.views.totals reducer ≡ told numbering reducer t.updates
   pub measure : Measures burden a.measure t.events
 
 -- a part represents a trap: the lines printed before it, and the work
-pub record TellsTrap (t : Trace) (a : Read) : Type 0 where
+pub record RepresentsTrap (t : Trace) (a : Read) : Type 0 where
   pub lines : a.views.lines ≡ t.lines
   pub work : a.measure.work ≡ min most (cost t)
 
 -- the outcome of a part represents the outcome of a run
-pub data TellsCame (burden : Burden) (numbering : Numbering) : Came Trace → Came Read → Type 0 where
-  RanAlike : (t : Trace) (a : Read) → TellsTrace burden numbering t a
-      → TellsCame burden numbering (Completed t) (Completed a)
-  TrappedAlike : (trap : Trap) (line : ℕ) (t : Trace) (a : Read) → TellsTrap t a
-      → TellsCame burden numbering (Trapped trap line t) (Trapped trap line a)
-  OverAlike : TellsCame burden numbering Over Over
+pub data RepresentsOutcome (burden : Burden) (numbering : Numbering) : Came Trace → Came Read → Type 0 where
+  RanAlike : (t : Trace) (a : Read) → RepresentsTrace burden numbering t a
+      → RepresentsOutcome burden numbering (Completed t) (Completed a)
+  TrappedAlike : (trap : Trap) (line : ℕ) (t : Trace) (a : Read) → RepresentsTrap t a
+      → RepresentsOutcome burden numbering (Trapped trap line t) (Trapped trap line a)
+  OverAlike : RepresentsOutcome burden numbering Over Over
 
 -- the cost counted before a later piece is at most the cost before the first one and what that one spent, if it ran to
 -- its end
@@ -106,7 +106,7 @@ IsCountedAfter before Memory between = Unit {0}
 -- of its own
 pub data IsJoinedOf (burden : Burden) (numbering : Numbering) (limit : ℕ) : (before : ℕ) → Run → RunPart → Type 0 where
   Alone : (before left : ℕ) (run : Run) (p : RunPart) → p.limit ≡ limit → left ≤ limit → limit ≤ before + left
-      → TellsCame burden numbering (serial left run) p.came → IsJoinedOf burden numbering limit before run p
+      → RepresentsOutcome burden numbering (serial left run) p.came → IsJoinedOf burden numbering limit before run p
   Refused : (before : ℕ) (run : Run) (p : RunPart) → p.limit ≡ limit → p.came ≡ Memory
       → IsJoinedOf burden numbering limit before run p
   Cut : (before between : ℕ) (first later : Run) (p q : RunPart) → IsCountedAfter before (serial limit first) between
@@ -127,4 +127,4 @@ abbrev pub PiecesAreTheRun : Type 0
 PiecesAreTheRun =
     (burden : Burden) (numbering : Numbering) (limit : ℕ) (run : Run) (p : RunPart) → burden.charge < 2 ^ 64
     → IsJoinedOf burden numbering limit 0 run p
-    → (p.limit ≡ limit) × ((p.came ≡ Memory) ⊎ TellsCame burden numbering (serial limit run) p.came)
+    → (p.limit ≡ limit) × ((p.came ≡ Memory) ⊎ RepresentsOutcome burden numbering (serial limit run) p.came)

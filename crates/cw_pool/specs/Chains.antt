@@ -16,9 +16,9 @@ Chain y root above (b ∷ bs) =
     (duty_job b.duty ≡ Some above) × IsDutyOf y b.duty × Works y b.post × Chain y root (its_job b.post.strand) bs
 
 -- the jobs of a post and of the posts below it form a chain; the uppermost waiting post is last in the list
-abbrev pub StandsOn : Yard → (root : Job) → Post → List Below → Type 0
-StandsOn y root p below = Works y p × Chain y root (its_job p.strand) (reverse below)
+abbrev pub FormsChain : Yard → (root : Job) → Post → List Below → Type 0
+FormsChain y root p below = Works y p × Chain y root (its_job p.strand) (reverse below)
 
 -- if a post and those below it form a chain, the new post and those below it do, for every root
 abbrev pub KeepsStanding : Yard → (p : Post) → List Below → (p' : Post) → List Below → Type 0
-KeepsStanding y p below p' below' = (root : Job) → StandsOn y root p below → StandsOn y root p' below'
+KeepsStanding y p below p' below' = (root : Job) → FormsChain y root p below → FormsChain y root p' below'

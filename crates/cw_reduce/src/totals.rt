@@ -10,7 +10,7 @@ use cw_model::syntax::Reduction;
 use cw_model::total::Total;
 
 /// Returns the total of a reducer with this reduction after one update with this value.
-pub(crate) fn one_told(how: Reduction, value: i64) -> Total
+pub(crate) fn single_total(how: Reduction, value: i64) -> Total
     ensures { held result ≡ one_held how value }
 {
     match how {

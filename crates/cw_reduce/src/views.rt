@@ -5,7 +5,7 @@ ghost use Rattle.cw_reduce.specs.ReducerState.{as_total, held};
 ghost use Rattle.cw_reduce.specs.PieceResults.{nothing_shown, shown_joined, held_of, total_of, AreJoined, SameTotals, TellsTotals, TellsValue};
 
 use crate::lines::Lines;
-use crate::totals::{joined, one_told, read_as};
+use crate::totals::{joined, single_total, read_as};
 use cw_model::monoid::Monoid;
 use cw_model::syntax::Reduction;
 use cw_model::total::Total;
@@ -50,7 +50,7 @@ impl Views {
         ensures totals { OnOk result (TellsValue self.old self.new reducer how value) }
         ensures lines { OnOk result (self.new.lines ≡ self.old.lines) }
     {
-        tell_total(&mut self.totals, reducer, one_told(how, value))?;
+        tell_total(&mut self.totals, reducer, single_total(how, value))?;
         Ok(())
     }
 

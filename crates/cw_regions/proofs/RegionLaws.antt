@@ -18,7 +18,7 @@ use Rattle.cw_measure.specs.lemmas.StrandWeights.{span_within, left_burdened_wor
 use Rattle.cw_regions.specs.declared.rows.Row.{Row}
 use Rattle.cw_regions.specs.declared.table.RegionTable.{RegionTable}
 use Rattle.cw_regions.specs.RegionRows.{row_of, zero_row, entered_at, entered, left_at, left, work_tally, span_tally, burdened_tally, summed, FitsRow, IsReadAs, JoinsRows}
-use Rattle.cw_regions.specs.Regions.{Readings, Tags, CountsTag, TellsRegions, SmallRegions, executed, RegionsKeep, JoinsRegions}
+use Rattle.cw_regions.specs.Regions.{Readings, Tags, CountsTag, TracksRegions, SmallRegions, executed, RegionsKeep, JoinsRegions}
 use Rattle.cw_regions.specs.lemmas.Regions.{row_other, row_other_left, regions_need_no_call}
 
 -- the tallies of a row after the start and the end of an execution
@@ -115,9 +115,9 @@ other_tag tags q tag false e l m n = refl
 -- an execution begins
 pub region_begins : (burden : Burden) (along : Readings burden) (tags : Tags) (busy : ℕ → ℕ) (os : List Open) (es : List Event)
     (old new : RegionTable) (tag count path heavy : ℕ) → tag < tags.count → count ≡ work_in os es → path ≡ along.path os es
-    → heavy ≡ along.burdened os es → SmallRegions burden tags busy (executed tags tag es os) [] → TellsRegions burden along tags busy os es old
+    → heavy ≡ along.burdened os es → SmallRegions burden tags busy (executed tags tag es os) [] → TracksRegions burden along tags busy os es old
     → (FitsRow (entered count path heavy (row_of old.rows tag)) → row_of new.rows tag ≡ entered count path heavy (row_of old.rows tag))
-    → ((q : ℕ) → (tag == q) ≡ false → row_of new.rows q ≡ row_of old.rows q) → TellsRegions burden along tags busy (executed tags tag es os) [] new
+    → ((q : ℕ) → (tag == q) ≡ false → row_of new.rows q ≡ row_of old.rows q) → TracksRegions burden along tags busy (executed tags tag es os) [] new
 region_begins burden along tags busy os es old new tag count path heavy known c p b small h own others = λ q less. by_tag q less (tag == q) refl
   where
     by_tag : (q : ℕ) → q < tags.count → (x : Bool) → (tag == q) ≡ x → CountsTag burden along (tags.name q) (busy q) (executed tags tag es os) [] (row_of new.rows q)
@@ -140,10 +140,10 @@ region_begins burden along tags busy os es old new tag count path heavy known c 
 pub region_ends : (burden : Burden) (along : Readings burden) (tags : Tags) (busy : ℕ → ℕ) (os : List Open) (before es : List Event)
     (old new : RegionTable) (tag count path heavy : ℕ) → tag < tags.count → count ≡ work_in (executed tags tag before os) es
     → path ≡ along.path (executed tags tag before os) es → heavy ≡ along.burdened (executed tags tag before os) es → has_spawned es ≡ false
-    → SmallRegions burden tags busy (executed tags tag before os) es → TellsRegions burden along tags busy (executed tags tag before os) es old
+    → SmallRegions burden tags busy (executed tags tag before os) es → TracksRegions burden along tags busy (executed tags tag before os) es old
     → (FitsRow (left count path heavy (row_of old.rows tag)) → row_of new.rows tag ≡ left count path heavy (row_of old.rows tag))
     → ((q : ℕ) → (tag == q) ≡ false → row_of new.rows q ≡ row_of old.rows q)
-    → TellsRegions burden along tags busy os (closed (record { spawned = false; mark = Some (Execution (tags.name tag)); outer = before }) es) new
+    → TracksRegions burden along tags busy os (closed (record { spawned = false; mark = Some (Execution (tags.name tag)); outer = before }) es) new
 region_ends burden along tags busy os before es old new tag count path heavy known c p b j small h own others = λ q less. by_tag q less (tag == q) refl
   where
     by_tag : (q : ℕ) → q < tags.count → (x : Bool) → (tag == q) ≡ x → CountsTag burden along (tags.name q) (busy q) os
@@ -162,7 +162,7 @@ region_ends burden along tags busy os before es old new tag count path heavy kno
         (other_tag tags q tag (same_name (tags.name q) (tags.name tag)) refl less known e) (h q less))
 
 -- the start of a run
-pub regions_start : (burden : Burden) (along : Readings burden) (tags : Tags) (table : RegionTable) → ((q : ℕ) → row_of table.rows q ≡ zero_row) → TellsRegions burden along tags (λ k. 0) [] [] table
+pub regions_start : (burden : Burden) (along : Readings burden) (tags : Tags) (table : RegionTable) → ((q : ℕ) → row_of table.rows q ≡ zero_row) → TracksRegions burden along tags (λ k. 0) [] [] table
 regions_start burden along tags table none = λ k less.
     let D : Row → Type 0 = λ r. CountsTag burden along (tags.name k) 0 [] [] r in
     subst D (sym (none k)) (record {
@@ -178,7 +178,7 @@ pub record ReadsRow (row : Row) (burden : Burden) (tag : Name) (t : Tree) : Type
   pub burdened_is : row.burdened ≡ (region_row burden tag t).burdened
 
 pub region_read : (burden : Burden) (along : Readings burden) (tags : Tags) (busy : ℕ → ℕ) (es : List Event) (table : RegionTable) (tag : ℕ)
-    → tag < tags.count → busy tag ≡ 0 → TellsRegions burden along tags busy [] es table → ReadsRow (row_of table.rows tag) burden (tags.name tag) (tree_of es)
+    → tag < tags.count → busy tag ≡ 0 → TracksRegions burden along tags busy [] es table → ReadsRow (row_of table.rows tag) burden (tags.name tag) (tree_of es)
 region_read burden along tags busy es table tag known idle h =
     let r = h tag known in
     let picks = is_tag (tags.name tag) in

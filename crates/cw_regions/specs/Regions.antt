@@ -36,10 +36,10 @@ pub record CountsTag (burden : Burden) (along : Readings burden) (tag : Name) (b
   pub burdened_is : Counts (burdened_span burden) along.burdened (is_tag tag) busy os es (burdened_tally r)
 
 -- a table represents a run so far, for each tag; `busy` is the number of its executions that were open around the run
-abbrev pub TellsRegions : (burden : Burden) → Readings burden → Tags → (busy : ℕ → ℕ) → List Open → List Event
+abbrev pub TracksRegions : (burden : Burden) → Readings burden → Tags → (busy : ℕ → ℕ) → List Open → List Event
     → RegionTable
     → Type 0
-TellsRegions burden along tags busy os es table =
+TracksRegions burden along tags busy os es table =
     (k : ℕ) → k < tags.count → CountsTag burden along (tags.name k) (busy k) os es (row_of table.rows k)
 
 -- the numbers of a run fit their types
@@ -55,7 +55,7 @@ executed tags tag es os = in_series (Some (Execution (tags.name tag))) es os
 -- the table of a run at its start
 abbrev pub StartsRegions : RegionTable → Type 0
 StartsRegions table =
-    (burden : Burden) (along : Readings burden) (tags : Tags) → TellsRegions burden along tags (λ k. 0) [] [] table
+    (burden : Burden) (along : Readings burden) (tags : Tags) → TracksRegions burden along tags (λ k. 0) [] [] table
 
 -- begins an execution of a tag: a table that represents a run represents the run with the execution
 abbrev pub BeginsRegion : RegionTable → RegionTable → (tag count path heavy : ℕ) → Type 0
@@ -63,8 +63,8 @@ BeginsRegion old new tag count path heavy =
     (burden : Burden) (along : Readings burden) (tags : Tags) (busy : ℕ → ℕ) (os : List Open) (es : List Event)
     → tag < tags.count
     → count ≡ work_in os es → path ≡ along.path os es → heavy ≡ along.burdened os es
-    → SmallRegions burden tags busy (executed tags tag es os) [] → TellsRegions burden along tags busy os es old
-    → TellsRegions burden along tags busy (executed tags tag es os) [] new
+    → SmallRegions burden tags busy (executed tags tag es os) [] → TracksRegions burden along tags busy os es old
+    → TracksRegions burden along tags busy (executed tags tag es os) [] new
 
 -- ends an execution of a tag whose block has joined
 abbrev pub EndsRegion : RegionTable → RegionTable → (tag count path heavy : ℕ) → Type 0
@@ -74,8 +74,8 @@ EndsRegion old new tag count path heavy =
     → count ≡ work_in (executed tags tag before os) es → path ≡ along.path (executed tags tag before os) es
     → heavy ≡ along.burdened (executed tags tag before os) es → has_spawned es ≡ false
     → SmallRegions burden tags busy (executed tags tag before os) es
-    → TellsRegions burden along tags busy (executed tags tag before os) es old
-    → TellsRegions burden along tags busy os
+    → TracksRegions burden along tags busy (executed tags tag before os) es old
+    → TracksRegions burden along tags busy os
     (closed (record { spawned = false; mark = Some (Execution (tags.name tag)); outer = before }) es) new
 
 -- the row equals the row of a tag in a tree
@@ -89,7 +89,7 @@ abbrev pub ReadsRegion : RegionTable → (tag : ℕ) → declared.RegionRow → 
 ReadsRegion table tag row =
     (burden : Burden) (along : Readings burden) (tags : Tags) (busy : ℕ → ℕ) (es : List Event) → tag < tags.count
     → busy tag ≡ 0
-    → TellsRegions burden along tags busy [] es table → IsRow row (region_row burden (tags.name tag) (tree_of es))
+    → TracksRegions burden along tags busy [] es table → IsRow row (region_row burden (tags.name tag) (tree_of es))
 
 -- a part that is not an execution of a tag: a call, a scope, a cut, an iteration or the half of a loop
 abbrev pub IsNoExecution : Option Mark → Type 0
@@ -100,14 +100,14 @@ IsNoExecution (Some (Execution tag)) = ⊥
 -- instructions, joins, and the start and end of these parts need no call of the table
 pub record RegionsNeedNoCall (burden : Burden) (along : Readings burden) (tags : Tags) (busy : ℕ → ℕ) (os : List Open)
     (table : RegionTable) : Type 0 where
-  pub work : (es : List Event) (k : ℕ) → TellsRegions burden along tags busy os es table
-      → TellsRegions burden along tags busy os (es ++ Work k ∷ []) table
-  pub join : (es : List Event) → TellsRegions burden along tags busy os es table
-      → TellsRegions burden along tags busy os (es ++ Join ∷ []) table
-  pub begins : (o : Open) → IsNoExecution o.mark → TellsRegions burden along tags busy os o.outer table
-      → TellsRegions burden along tags busy (o ∷ os) [] table
-  pub ends : (o : Open) (es : List Event) → IsNoExecution o.mark → TellsRegions burden along tags busy (o ∷ os) es table
-      → TellsRegions burden along tags busy os (closed o es) table
+  pub work : (es : List Event) (k : ℕ) → TracksRegions burden along tags busy os es table
+      → TracksRegions burden along tags busy os (es ++ Work k ∷ []) table
+  pub join : (es : List Event) → TracksRegions burden along tags busy os es table
+      → TracksRegions burden along tags busy os (es ++ Join ∷ []) table
+  pub begins : (o : Open) → IsNoExecution o.mark → TracksRegions burden along tags busy os o.outer table
+      → TracksRegions burden along tags busy (o ∷ os) [] table
+  pub ends : (o : Open) (es : List Event) → IsNoExecution o.mark → TracksRegions burden along tags busy (o ∷ os) es table
+      → TracksRegions burden along tags busy os (closed o es) table
 
 -- this holds for every table
 abbrev pub RegionsKeep : Type 0
@@ -123,5 +123,5 @@ nothing_open tag = 0
 abbrev pub JoinsRegions : RegionTable → (right : RegionTable) → RegionTable → Type 0
 JoinsRegions old right new =
     (burden : Burden) (along there : Readings burden) (tags : Tags) (busy : ℕ → ℕ) (os : List Open) (es fs : List Event)
-    → SmallRegions burden tags busy os (es ++ fs) → TellsRegions burden along tags busy os es old
-    → TellsRegions burden there tags nothing_open [] fs right → TellsRegions burden along tags busy os (es ++ fs) new
+    → SmallRegions burden tags busy os (es ++ fs) → TracksRegions burden along tags busy os es old
+    → TracksRegions burden there tags nothing_open [] fs right → TracksRegions burden along tags busy os (es ++ fs) new

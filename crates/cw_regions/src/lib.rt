@@ -14,7 +14,7 @@
 //! `count` is the number of instructions at that place, `path` the weight of the current strand's path, and
 //! `burdened` its weight with burdens, both including the instructions up to `count`. They come from a `SiteTable` of
 //! `cw_sites` or a `BurdenedPath` of `cw_measure`, which are proved to grow over a part by its span (`Readings`).
-//! Nothing else needs a call (`laws::regions_need_no_call`). `TellsRegions` states that a table represents a run so
+//! Nothing else needs a call (`laws::regions_need_no_call`). `TracksRegions` states that a table represents a run so
 //! far; its proof is the theory of outermost parts of `cw_measure`, for the marks of a tag.
 //!
 //! A piece that is executed separately inside open executions has its own table (`new`), which does not know these

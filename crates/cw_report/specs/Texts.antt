@@ -10,7 +10,7 @@ use Rattle.cw_model.specs.Sites.{CallSite}
 use Rattle.cw_model.specs.Freed.{FunctionRow}
 use Rattle.cw_model.specs.Report.{value_line, reduction_word, total_line, total_lines, csv_line, end_of_line}
 use Rattle.cw_model.specs.Report.{scale_header, scale_line, sites_header, site_kind_text, gain_header, gain_line}
-use Rattle.cw_code.specs.Code.{Code, code_view, site_view, told_sites}
+use Rattle.cw_code.specs.Code.{Code, code_view, site_view, reported_sites}
 use Rattle.cw_code.specs.declared.code.Reducer.{Reducer}
 use Rattle.cw_code.specs.declared.code.Site.{Site}
 use Rattle.cw_sites.specs.declared.table.SiteRow.{SiteRow}
@@ -128,7 +128,7 @@ site_lines sites rows = row_lines (map (λ s. s.told) (map site_view sites)) row
 
 -- the lines of the call of `main` by the run itself and of each call site of code
 abbrev pub told_rows : Code → List SiteRow → List ℕ
-told_rows code rows = row_lines (root_at code.main_line ∷ told_sites code) rows
+told_rows code rows = row_lines (root_at code.main_line ∷ reported_sites code) rows
 
 -- the sites report of a run that ended, from the rows of the run in their order
 abbrev pub sites_text : Code → Ended → List ℕ

@@ -3,7 +3,7 @@
 use crate::names::{bytes, names, rules};
 use crate::sources::{sources, updates};
 use crate::statements::{assignments, others, statements};
-use crate::told::{Habit, is_advised, told_between};
+use crate::explained::{Habit, is_advised, explained_between};
 use cw_explain::{Row, all_bytes, all_names, all_rows};
 use std::alloc::{AllocError, Global};
 use std::process::Abort;
@@ -58,7 +58,7 @@ fn add_told(
     back: &str,
 ) -> Result<(), AllocError> {
     for (habit, _wanted, _applied) in habits {
-        if let Ok(text) = told_between(alloc, front, habit, back) {
+        if let Ok(text) = explained_between(alloc, front, habit, back) {
             out.push(text)?;
         }
     }
@@ -66,7 +66,7 @@ fn add_told(
 }
 
 // The explanations of all habits.
-fn all_told(alloc: Global) -> Result<Vec<String>, AllocError> {
+fn all_explained(alloc: Global) -> Result<Vec<String>, AllocError> {
     let mut out = Vec::new(alloc);
     add_told(alloc, &mut out, FRONT, statements(), BACK)?;
     add_told(alloc, &mut out, FRONT, assignments(), BACK)?;
@@ -134,7 +134,7 @@ fn all_bytes_covered(rt: &impl Abort, told: &[String], table: &[Foreign]) {
 
 #[test]
 fn each_habit_has_an_example(rt: HostRuntime) -> Result<(), Fail> {
-    let told = all_told(rt.alloc())?;
+    let told = all_explained(rt.alloc())?;
     for table in all_rows() {
         all_rows_covered(&rt, told.as_slice(), table);
     }

@@ -1,6 +1,6 @@
 //! Programs as one writes them at first, coming from Cilk in C: each is refused, and told what to change.
 
-use crate::told::all_told;
+use crate::explained::all_explained;
 
 // Queens, with a call in a test.
 const QUEENS: &str = "\
@@ -154,5 +154,5 @@ static PROGRAMS: &[(&str, &str)] = &[
 
 #[test]
 fn first_versions_say_what_to_change(rt: HostRuntime) {
-    all_told(&rt, rt.alloc(), PROGRAMS);
+    all_explained(&rt, rt.alloc(), PROGRAMS);
 }

@@ -1,6 +1,6 @@
 //! Rows for bytes, tokens and the grammar.
 
-use crate::told::all_told;
+use crate::explained::all_explained;
 
 static TOKENS: &[(&str, &str)] = &[
     (
@@ -159,6 +159,6 @@ static GRAMMAR: &[(&str, &str)] = &[
 
 #[test]
 fn tokens_and_grammar(rt: HostRuntime) {
-    all_told(&rt, rt.alloc(), TOKENS);
-    all_told(&rt, rt.alloc(), GRAMMAR);
+    all_explained(&rt, rt.alloc(), TOKENS);
+    all_explained(&rt, rt.alloc(), GRAMMAR);
 }

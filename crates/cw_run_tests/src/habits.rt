@@ -1,6 +1,6 @@
 //! Names that are near to others, texts that are shown, and each line of programs from C.
 
-use crate::told::{all_told, is_said};
+use crate::explained::{all_explained, is_said};
 
 // A source, a part of its explanation, and the nearest wrong text, which is not in it.
 static SOURCES: &[(&str, &str, &str)] = &[
@@ -141,7 +141,7 @@ static FIB: &[(&str, &str)] = &[
 
 #[test]
 fn every_line_that_is_known(rt: HostRuntime) {
-    all_told(&rt, rt.alloc(), FIB);
+    all_explained(&rt, rt.alloc(), FIB);
 }
 
 #[test]

@@ -31,6 +31,6 @@ mod sources;
 #[cfg(test)]
 mod statements;
 #[cfg(test)]
-mod told;
+mod explained;
 #[cfg(test)]
 mod typing;

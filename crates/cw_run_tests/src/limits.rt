@@ -1,6 +1,6 @@
 //! A row for each limit, and one for each trap.
 
-use crate::told::{is_told, refused};
+use crate::explained::{is_told, refused};
 use cw_explain::explain;
 use cw_model::trap::Trap;
 use cw_text::Fault;
@@ -150,7 +150,7 @@ static OF_LOOPS: &[(Text, &str)] = &[(
 )];
 
 // Asserts that this is told of each of these texts.
-fn all_told(rt: &impl Abort, alloc: Global, rows: &[(Text, &str)]) -> Result<(), Fail> {
+fn all_explained(rt: &impl Abort, alloc: Global, rows: &[(Text, &str)]) -> Result<(), Fail> {
     for (text, wanted) in rows {
         let whole = text_of(alloc, text)?;
         let holds = is_told(alloc, whole.as_bytes(), wanted);
@@ -161,17 +161,17 @@ fn all_told(rt: &impl Abort, alloc: Global, rows: &[(Text, &str)]) -> Result<(),
 
 #[test]
 fn limits_of_text_and_tokens(rt: HostRuntime) -> Result<(), Fail> {
-    all_told(&rt, rt.alloc(), OF_TEXT)
+    all_explained(&rt, rt.alloc(), OF_TEXT)
 }
 
 #[test]
 fn limits_of_parts(rt: HostRuntime) -> Result<(), Fail> {
-    all_told(&rt, rt.alloc(), OF_PARTS)
+    all_explained(&rt, rt.alloc(), OF_PARTS)
 }
 
 #[test]
 fn the_limit_of_loops(rt: HostRuntime) -> Result<(), Fail> {
-    all_told(&rt, rt.alloc(), OF_LOOPS)
+    all_explained(&rt, rt.alloc(), OF_LOOPS)
 }
 
 // Each trap, and what is told of it in line 2.
@@ -203,7 +203,7 @@ static TRAPS: &[(Trap, &str)] = &[
 ];
 
 // Whether this is told of a trap in line 2.
-fn is_trap_told(alloc: Global, code: Trap, wanted: &str) -> bool {
+fn is_trap_printed(alloc: Global, code: Trap, wanted: &str) -> bool {
     let output = Vec::new(alloc);
     let fault = Fault::Trap {
         code,
@@ -220,7 +220,7 @@ fn is_trap_told(alloc: Global, code: Trap, wanted: &str) -> bool {
 #[test]
 fn traps(rt: HostRuntime) {
     for (code, wanted) in TRAPS {
-        let holds = is_trap_told(rt.alloc(), *code, wanted);
+        let holds = is_trap_printed(rt.alloc(), *code, wanted);
         assert!(rt; holds, "{wanted}");
     }
 }

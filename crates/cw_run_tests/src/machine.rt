@@ -8,7 +8,7 @@ mod loops;
 mod measures;
 mod requests;
 mod schedules;
-mod standing;
+mod trap_states;
 mod strands;
 
 use crate::machine::arrays::{ARRAYS, ARRAYS_OF_ONE};

@@ -1,6 +1,6 @@
 //! Bytes and names of C in line 3 of a function, as in `statements`, and what names, types and ownership reject there.
 
-use crate::told::{Habit, NONE};
+use crate::explained::{Habit, NONE};
 
 static BYTES: &[Habit] = &[
     (

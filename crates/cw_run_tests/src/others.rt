@@ -1,6 +1,6 @@
 //! Faults that are told without a line of the source, and sources that cannot be read.
 
-use crate::told::refused;
+use crate::explained::refused;
 use cw_explain::{explain, explain_unread};
 use cw_text::Fault;
 use std::alloc::Global;

@@ -1,6 +1,6 @@
 //! A row for each rule of ownership.
 
-use crate::told::all_told;
+use crate::explained::all_explained;
 
 // What a name is touched by while it is taken.
 static TAKEN: &[(&str, &str)] = &[
@@ -234,9 +234,9 @@ static SEVERAL: &[(&str, &str)] = &[
 
 #[test]
 fn rules_of_ownership(rt: HostRuntime) {
-    all_told(&rt, rt.alloc(), TAKEN);
-    all_told(&rt, rt.alloc(), TAKERS);
-    all_told(&rt, rt.alloc(), TWICE);
-    all_told(&rt, rt.alloc(), LOOPS);
-    all_told(&rt, rt.alloc(), SEVERAL);
+    all_explained(&rt, rt.alloc(), TAKEN);
+    all_explained(&rt, rt.alloc(), TAKERS);
+    all_explained(&rt, rt.alloc(), TWICE);
+    all_explained(&rt, rt.alloc(), LOOPS);
+    all_explained(&rt, rt.alloc(), SEVERAL);
 }

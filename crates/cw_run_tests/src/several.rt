@@ -1,6 +1,6 @@
 //! Sources with several errors, each reported once, in order of lines.
 
-use crate::told::{all_told, told_between};
+use crate::explained::{all_explained, explained_between};
 use std::alloc::{AllocError, Global};
 
 /// The most bytes of fifty errors and the line after them.
@@ -91,7 +91,7 @@ static SEVERAL: &[(&str, &str)] = &[
 
 #[test]
 fn each_error_is_reported(rt: HostRuntime) {
-    all_told(&rt, rt.alloc(), SEVERAL);
+    all_explained(&rt, rt.alloc(), SEVERAL);
 }
 
 // A statement so often.
@@ -108,7 +108,7 @@ fn is_short(alloc: Global, statement: &str, times: usize, wanted: &str) -> bool 
     let Ok(text) = repeated(alloc, statement, times) else {
         return false;
     };
-    match told_between(alloc, "int main() {\n", text.as_str(), "}\n") {
+    match explained_between(alloc, "int main() {\n", text.as_str(), "}\n") {
         Ok(told) => told.len() <= MOST_BYTES && told.as_str().contains(wanted),
         Err(_) => false,
     }
@@ -241,7 +241,7 @@ fn is_listed(alloc: Global, many: &Many) -> bool {
     let Ok(wanted) = listed(alloc, many) else {
         return false;
     };
-    match told_between(alloc, many.front, text.as_str(), many.back) {
+    match explained_between(alloc, many.front, text.as_str(), many.back) {
         Ok(told) => told.as_str() == wanted.as_str(),
         Err(_) => false,
     }

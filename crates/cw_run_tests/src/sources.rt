@@ -1,6 +1,6 @@
 //! Whole sources of C: what the explanation says, and the source with that put in place.
 
-use crate::told::{Habit, NONE};
+use crate::explained::{Habit, NONE};
 
 static SOURCES: &[Habit] = &[
     (

@@ -1,7 +1,7 @@
 //! Statements of C in line 3 of a function with the integer n: what the explanation says, and the statement with that put in
 //! place. `f` is int with an integer, `g` void with two, `h` void with an array, and `total` is a reducer.
 
-use crate::told::{Habit, NONE};
+use crate::explained::{Habit, NONE};
 
 static STATEMENTS: &[Habit] = &[
     (

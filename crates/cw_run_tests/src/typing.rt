@@ -1,6 +1,6 @@
 //! A row for each rule of names and types.
 
-use crate::told::all_told;
+use crate::explained::all_explained;
 
 static HEADS: &[(&str, &str)] = &[
     (
@@ -194,9 +194,9 @@ static SEVERAL: &[(&str, &str)] = &[
 
 #[test]
 fn rules_of_names_and_types(rt: HostRuntime) {
-    all_told(&rt, rt.alloc(), HEADS);
-    all_told(&rt, rt.alloc(), NAMES);
-    all_told(&rt, rt.alloc(), CALLS);
-    all_told(&rt, rt.alloc(), STATEMENTS);
-    all_told(&rt, rt.alloc(), SEVERAL);
+    all_explained(&rt, rt.alloc(), HEADS);
+    all_explained(&rt, rt.alloc(), NAMES);
+    all_explained(&rt, rt.alloc(), CALLS);
+    all_explained(&rt, rt.alloc(), STATEMENTS);
+    all_explained(&rt, rt.alloc(), SEVERAL);
 }

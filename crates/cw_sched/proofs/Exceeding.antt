@@ -14,7 +14,7 @@ use Rattle.cw_strand.specs.declared.strand.Mode.TheVariants as mode
 use Rattle.cw_strand.specs.declared.strand.Strand.{Strand}
 use Rattle.cw_strand.specs.declared.strand.Advance.TheVariants as advance
 use Rattle.cw_strand.specs.Holds.{its_end, outs, stops, has_failed, IsGoing, HasFailed}
-use Rattle.cw_strand.specs.Losing.{ComesFrom, LeavesEnd, TellsOver}
+use Rattle.cw_strand.specs.Losing.{ComesFrom, LeavesEnd, ReportsOverLimit}
 use Rattle.cw_strand.specs.Moves.{AdvancesBy, EndsAfter, EndsBy, EndsStill, IsAtLimit, IsUnended, PausesBy}
 use Rattle.cw_sched.specs.Scenes.{Posted, Stage, Goes, Made, Answered}
 use Rattle.cw_sched.specs.Posts.{IsBackIn}
@@ -35,7 +35,7 @@ going_not_memory : (m : Mode) → m ≡ mode.Going → m ≡ mode.Memory → ⊥
 going_not_memory m going memory = true≢false (sym (ap stops memory) ∙ ap stops going)
 
 -- an effect over the limit, of a strand that executed nothing more
-over_still : (e : Effect) (self : Strand) → EndsStill e self → TellsOver e → self.mode ≡ mode.Over
+over_still : (e : Effect) (self : Strand) → EndsStill e self → ReportsOverLimit e → self.mode ≡ mode.Over
 over_still (effect.Ended value shown) self h told = absurd told
 over_still (effect.Joined frame replaced shown) self h told = absurd told
 over_still (effect.Trapped trap line lines cost back) self h told = absurd told
@@ -55,7 +55,7 @@ over_paused old new going pauses over = told pauses.stands
     told (inl same) = absurd (goes_not_over new.mode (same ∙ going) over)
     told (inr at) = at.1.1
 
-pub over_ended : (e : Effect) (old : Strand) → IsGoing old → EndsAfter e old → TellsOver e → old.count ≡ its_end old
+pub over_ended : (e : Effect) (old : Strand) → IsGoing old → EndsAfter e old → ReportsOverLimit e → old.count ≡ its_end old
 over_ended (effect.Ended value shown) old going after told = absurd told
 over_ended (effect.Joined frame replaced shown) old going after told = absurd told
 over_ended (effect.Trapped trap line lines cost back) old going after told = absurd told
@@ -94,7 +94,7 @@ over_back old mid (inl back) over = absurd (goes_not_over mid.mode back.1 over)
 over_back old mid (inr stopped) over = sym stopped.1 ∙ over
 
 -- what a run answers
-answer_over : (e : Effect) (r : Result alone.Ended Fault) → IsAnswerOf e r → r ≡ Err fault.OverLimit → TellsOver e
+answer_over : (e : Effect) (r : Result alone.Ended Fault) → IsAnswerOf e r → r ≡ Err fault.OverLimit → ReportsOverLimit e
 answer_over (effect.Ended value shown) r is over = absurd (subst (λ x. IsAnswerOf (effect.Ended value shown) x → ⊥) (sym over) (λ h. cc) is)
 answer_over (effect.Joined frame replaced shown) r is over = absurd is
 answer_over (effect.Trapped trap line lines cost back) r is over = absurd (let same = sym over ∙ is.1 in cc)
@@ -106,5 +106,5 @@ answer_over (effect.GivenUp back) r is over = absurd (let same = sym over ∙ is
 pub stage_exceeds : (v : Verified) (q : Posted) (ended : Option Effect) (x : Stage) → IsBegun v q ended x → Exceeds x → ExceedsAfter ended q.strand
 stage_exceeds v q None x b over = subst (λ y. Exceeds y) b over
 stage_exceeds v q (Some e) (Goes k) b over = absurd b
-stage_exceeds v q (Some e) (Made n d) b over = subst TellsOver b.2 over
+stage_exceeds v q (Some e) (Made n d) b over = subst ReportsOverLimit b.2 over
 stage_exceeds v q (Some e) (Answered r) b over = answer_over e r b.1 over

@@ -9,7 +9,7 @@ use Rattle.cw_text.specs.declared.fault.Fault.TheVariants as fault
 use Rattle.cw_model.specs.declared.burden.Burden.{Burden}
 use Rattle.cw_runnable.specs.declared.verified.Verified.{Verified}
 use Rattle.cw_strand.specs.Holds.{has_failed, IsGoing, IsWaiting, HasFailed}
-use Rattle.cw_strand.specs.Losing.{MayLose, TakesIn, TellsFailure}
+use Rattle.cw_strand.specs.Losing.{MayLose, TakesIn, ReportsFailure}
 use Rattle.cw_sched.specs.core.Board.{pushed, newest, but_newest, oldest, of_worker}
 use Rattle.cw_sched.specs.declared.board.Cell.{Cell}
 use Rattle.cw_sched.specs.declared.event.Event.{Event}
@@ -132,7 +132,7 @@ collect_keeps v s s' w d h =
     cases s s' w d.stage board (event.Collect w) h d.is (each_remove CellHasSome s.board.cells d.place h.1) (λ lacking.
     (loses s s' w d.at.at.post d.stage board d.at.at.is d.is lacking, d.place, record { number = d.number; effect = d.effect }, d.cell, taken (d.lacks lacking)))
   where
-    not_memory : TellsFailure d.effect → ⊥
+    not_memory : ReportsFailure d.effect → ⊥
     not_memory m = true≢false (sym (memory_is d.effect m) ∙ each_at CellHasSome s.board.cells d.place (record { number = d.number; effect = d.effect }) h.1 d.cell)
 
     taken : MayLose d.at.at.post.strand d.effect → TakesIn d.at.at.post.strand d.effect

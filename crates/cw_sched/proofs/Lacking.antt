@@ -12,7 +12,7 @@ use Rattle.cw_strand.specs.declared.strand.Mode.{Mode}
 use Rattle.cw_strand.specs.declared.strand.Mode.TheVariants as mode
 use Rattle.cw_strand.specs.declared.strand.Strand.{Strand}
 use Rattle.cw_strand.specs.Holds.{stops, has_failed, IsGoing, IsWaiting, HasFailed}
-use Rattle.cw_strand.specs.Losing.{MayLack, MayStop, StandsAs, ComesFrom, LeavesEnd, TellsFailure}
+use Rattle.cw_strand.specs.Losing.{MayLack, MayStop, KeepsMode, ComesFrom, LeavesEnd, ReportsFailure}
 use Rattle.cw_sched.specs.Scenes.{Posted, Stage, Goes, Made, Answered}
 use Rattle.cw_sched.specs.Posts.{IsBackIn}
 use Rattle.cw_sched.specs.Events.{IsBegun}
@@ -48,7 +48,7 @@ after_event (effect.OverLimit back) old comes told = absurd told
 after_event (effect.Memory back) old comes told = ran_out old comes
 after_event (effect.GivenUp back) old comes told = inr (ap has_failed comes)
 
-pub after_stop : (old new : Strand) → StandsAs old new → HasFailed new → MayLack old
+pub after_stop : (old new : Strand) → KeepsMode old new → HasFailed new → MayLack old
 after_stop old new (inl going) lost = inl going.0
 after_stop old new (inr same) lost = inr (ap has_failed (sym same) ∙ lost)
 
@@ -106,7 +106,7 @@ pub fresh_lacks : (v : Verified) (p : Strand) (q : Posted) (ended : Option Effec
 fresh_lacks v p q None x going same b l = absurd (goes_not_lost q.strand.mode (same ∙ going) (stage_lacks v q None x b l))
 fresh_lacks v p q (Some e) x going comes b l = ended_is v q (Some e) x b refl
 
-pub memory_is : (e : Effect) → TellsFailure e → is_memory e ≡ true
+pub memory_is : (e : Effect) → ReportsFailure e → is_memory e ≡ true
 memory_is (effect.Ended value shown) m = absurd m
 memory_is (effect.Joined frame replaced shown) m = absurd m
 memory_is (effect.Trapped trap line lines cost back) m = absurd m

@@ -17,10 +17,10 @@ use Rattle.cw_strand.specs.Moves.{AdvancesBy, CountsIn, DoesOne, EndsAfter, Ends
 use Rattle.cw_sched.specs.declared.post.Out.{Out}
 use Rattle.cw_sched.specs.declared.post.Out.TheVariants as out
 use Rattle.cw_sched.specs.Scenes.{Posted}
-use Rattle.cw_sched.specs.Posts.{StandsRight, Comes, Steps, HasDone, HasDoneWith, DoesOneMore}
+use Rattle.cw_sched.specs.Posts.{AgreesWithJoin, Comes, Steps, HasDone, HasDoneWith, DoesOneMore}
 
 -- the flag is right where it says whether the strand does not go on
-pub stands_paused : (p : Posted) → (p.at_join ≡ true → IsAtSync p.strand) → (p.at_join ≡ false → IsGoing p.strand) → p.outs ≢ [] → length p.outs ≡ length (outs p.strand) → StandsRight p
+pub stands_paused : (p : Posted) → (p.at_join ≡ true → IsAtSync p.strand) → (p.at_join ≡ false → IsGoing p.strand) → p.outs ≢ [] → length p.outs ≡ length (outs p.strand) → AgreesWithJoin p
 stands_paused p paused goes some even = (
   (λ j. (paused j, some)),
   goes,
@@ -28,7 +28,7 @@ stands_paused p paused goes some even = (
 )
 
 -- nor is one set where it goes on
-pub stands_going : (p : Posted) → p.at_join ≡ false → IsGoing p.strand → outs p.strand ≢ [] → StandsRight p
+pub stands_going : (p : Posted) → p.at_join ≡ false → IsGoing p.strand → outs p.strand ≢ [] → AgreesWithJoin p
 stands_going p e goes some = (
   (λ j. absurd (true≢false (sym j ∙ e))),
   (λ _. goes),
@@ -36,7 +36,7 @@ stands_going p e goes some = (
 )
 
 -- with nothing out no flag is set, and it is before an instruction
-pub stands_none : (p : Posted) → p.at_join ≡ false → IsBefore p.strand → StandsRight p
+pub stands_none : (p : Posted) → p.at_join ≡ false → IsBefore p.strand → AgreesWithJoin p
 stands_none p e before = ((λ j. absurd (true≢false (sym j ∙ e))), (λ _. before.going), λ _. before)
 
 pub some_not_none : {A : Type 0} (x : A) (xs : List A) → x ∷ xs ≡ [] → ⊥
@@ -136,7 +136,7 @@ steps_to_join old new jobs jobs' n os of even flag k one j =
 
 -- it has handed a job out
 pub steps_to_spawn : (old new : Posted) (jobs jobs' : List Job) (job : Job) → new.number ≡ old.number → new.outs ≡ old.outs ++ out.Undecided (length jobs) job ∷ []
-    → its_job new.strand ≡ its_job old.strand → StandsRight new → KeptBy (step.Spawned job) old.strand new.strand → IsGoing new.strand
+    → its_job new.strand ≡ its_job old.strand → AgreesWithJoin new → KeptBy (step.Spawned job) old.strand new.strand → IsGoing new.strand
     → new.strand.count ≡ old.strand.count + 1 → jobs' ≡ jobs ++ job ∷ [] → Steps (Ok None) old new jobs jobs'
 steps_to_spawn old new jobs jobs' job n os of stands k goes one j =
     inr (record {

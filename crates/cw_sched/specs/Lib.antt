@@ -8,7 +8,7 @@ pub mod Places
 pub mod Lacking
 pub mod Exceeding
 pub mod Events
-pub mod Wants
+pub mod MemoryNeeds
 pub mod Copied
 pub mod Worlds
 pub mod lemmas

@@ -33,8 +33,8 @@ pub record Begins (number : ℕ) (job : Job) (p : Post) : Type 0 where
 
 -- it is at a join if and only if its strand does not go on, and then it has jobs out; a strand with nothing out has
 -- not come to its end
-abbrev pub StandsRight : Posted → Type 0
-StandsRight p =
+abbrev pub AgreesWithJoin : Posted → Type 0
+AgreesWithJoin p =
     (p.at_join ≡ true → IsAtSync p.strand × (p.outs ≢ []))
     × (p.at_join ≡ false → IsGoing p.strand)
     × IsUnended p.strand
@@ -46,7 +46,7 @@ pub record Stays (old new : Posted) (list : List Out) (left : List Job) : Type 0
   pub running : IsRunning new.strand
   pub outs_are : new.outs ≡ list
   pub left_are : outs new.strand ≡ left
-  pub stands : StandsRight new
+  pub stands : AgreesWithJoin new
 
 -- it goes on, or it has ended, with an effect that means its job, and nothing was out
 abbrev pub Comes : Option Effect → (old new : Posted) → (left : List Job) → Type 0

@@ -16,7 +16,7 @@ use Rattle.cw_sched.specs.declared.board.Cell.{Cell}
 use Rattle.cw_sched.specs.declared.post.Out.{Out}
 use Rattle.cw_sched.specs.declared.post.Out.TheVariants as out
 use Rattle.cw_sched.specs.Boards.{Each}
-use Rattle.cw_sched.specs.Posts.{StandsRight}
+use Rattle.cw_sched.specs.Posts.{AgreesWithJoin}
 use Rattle.cw_sched.specs.Scenes.{Posted, Stage, Goes, Made, Answered, Scene}
 
 -- this is the job of the number
@@ -41,7 +41,7 @@ pub record Works (jobs : List Job) (p : Posted) : Type 0 where
   pub lent : map (λ o. slice_get jobs (out_number o)) (reverse p.outs)
       ≡ map (λ j. Some j) (outs p.strand)
   pub own : Each (IsOwn jobs) p.outs
-  pub stands : StandsRight p
+  pub stands : AgreesWithJoin p
 
 -- AN EFFECT MEANS THE JOB OF ITS NUMBER
 pub record IsMade (jobs : List Job) (n : ℕ) (e : Effect) : Type 0 where

@@ -24,7 +24,7 @@ use Rattle.cw_sched.specs.Places.{OnePlace, RootIsFirst}
 use Rattle.cw_sched.specs.Events.{Does, DoesOr}
 use Rattle.cw_sched.specs.Table.{is_possible}
 use Rattle.cw_sched.specs.Lacking.{KeepsMemory, LacksNone, LacksBy}
-use Rattle.cw_sched.specs.Wants.{MayWant}
+use Rattle.cw_sched.specs.MemoryNeeds.{MayNeedMemory}
 use Rattle.cw_sched.specs.Copied.{IsOptionCopy}
 
 -- THE INVARIANT OF EACH WORLD: its strands, jobs and effects are right, each job is in one place, and the root is with
@@ -120,7 +120,7 @@ pub record Tries (old : World) (event : Event) (new : World) : Type 0 where
   pub answer : Result (Unit {0}) Refused
   pub happens : Happens old event answer new
   pub not_now : IsNotNow answer ↔ (is_possible (scene old) event ≡ false)
-  pub wants : IsForMemory answer → MayWant old event
+  pub wants : IsForMemory answer → MayNeedMemory old event
   pub memory : KeepsMemory event (scene old) (scene new)
 
 -- EVENTS, IN ORDER, lead from a world to another one

@@ -93,6 +93,6 @@ pub fn no_strand_of_code_that_fits_gets_stuck()
 
 /// States that after each step the jobs in a deque, by the ledger of all that was offered there, are the board's list.
 #[tactic(auto, using(crate::proofs::core::Ledgers::ledgers_are_lists))]
-pub fn a_ledger_tells_the_list_of_its_deque()
+pub fn a_ledger_lists_its_deque()
     ensures { LedgersAreLists }
 {}

@@ -12,7 +12,7 @@ ghost use Rattle.cw_sched.specs.Scenes.{jobs_of, posted};
 ghost use Rattle.cw_sched.specs.Boards.{IsFull};
 ghost use Rattle.cw_sched.specs.Exceeding.{ExceedsAfter};
 ghost use Rattle.cw_sched.specs.Lacking.{LacksAfter};
-ghost use Rattle.cw_sched.specs.Posts.{Begins, Comes, ComesBack, HasDone, HasDoneWith, HasRoom, HasStepped, IsBackIn, IsEven, Lacks, LacksOne, ListsNext, StandsRight};
+ghost use Rattle.cw_sched.specs.Posts.{Begins, Comes, ComesBack, HasDone, HasDoneWith, HasRoom, HasStepped, IsBackIn, IsEven, Lacks, LacksOne, ListsNext, AgreesWithJoin};
 
 use cw_jobs::effect::Effect;
 use cw_jobs::job::Job;
@@ -102,7 +102,7 @@ impl Post {
         ensures numbered { self.new.number ≡ self.old.number }
         ensures outs { ListsNext self.old (jobs_of jobs.old) job self.new }
         ensures jobs { jobs_of jobs.new ≡ pushed (jobs_of jobs.old) job }
-        ensures stands { StandsRight (posted self.new) }
+        ensures stands { AgreesWithJoin (posted self.new) }
     {
         let number = jobs.len();
         jobs.push_reserved(Snapshot::of(&job));

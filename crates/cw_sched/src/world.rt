@@ -20,7 +20,7 @@ ghost use Rattle.cw_sched.specs.Table as table;
 ghost use Rattle.cw_sched.specs.Table.{is_possible};
 ghost use Rattle.cw_sched.specs.Events.{board_without, but_top, with_top, HasRoomIn, HasTurned, IsBack, IsBegun};
 ghost use Rattle.cw_sched.specs.Copied.{IsOptionCopy};
-ghost use Rattle.cw_sched.specs.Wants.{IsLastPost, MayWant};
+ghost use Rattle.cw_sched.specs.MemoryNeeds.{IsLastPost, MayNeedMemory};
 
 use crate::board::{Board, Offer};
 use crate::copy::copy_of;
@@ -397,7 +397,7 @@ impl World {
         requires possible { is_possible (scene self.old) (event.Run w) ≡ true }
         ensures code { self.new.code ≡ self.old.code }
         ensures memory { IfErr result (λ e. e ≡ refused.Memory) }
-        ensures wants { OnErr result (MayWant self.old (event.Run w)) }
+        ensures wants { OnErr result (MayNeedMemory self.old (event.Run w)) }
         ensures does { Happens self.old (event.Run w) result self.new }
     {
         let mut post = take(&mut self.begun, w);
@@ -419,7 +419,7 @@ impl World {
         requires possible { is_possible (scene self.old) (event.Offer w) ≡ true }
         ensures code { self.new.code ≡ self.old.code }
         ensures memory { IfErr result (λ e. e ≡ refused.Memory) }
-        ensures wants { OnErr result (MayWant self.old (event.Offer w)) }
+        ensures wants { OnErr result (MayNeedMemory self.old (event.Offer w)) }
         ensures does { Happens self.old (event.Offer w) result self.new }
     {
         let mut post = take(&mut self.begun, w);
@@ -511,7 +511,7 @@ impl World {
         requires possible { is_possible (scene self.old) (event.Settle w) ≡ true }
         ensures code { self.new.code ≡ self.old.code }
         ensures memory { IfErr result (λ e. e ≡ refused.Memory) }
-        ensures wants { OnErr result (MayWant self.old (event.Settle w)) }
+        ensures wants { OnErr result (MayNeedMemory self.old (event.Settle w)) }
         ensures does { Happens self.old (event.Settle w) result self.new }
     {
         match self.board.room_to_settle() {
@@ -558,7 +558,7 @@ impl World {
         ensures run { KeepsRuns (scene self.old).jobs (scene self.new).jobs }
         ensures stays { KeepsAnswer (scene self.old) (scene self.new) }
         ensures not_now { IsNotNow result ↔ (is_possible (scene self.old) event ≡ false) }
-        ensures wants { IsForMemory result → MayWant self.old event }
+        ensures wants { IsForMemory result → MayNeedMemory self.old event }
         ensures keeps { KeepsMemory event (scene self.old) (scene self.new) }
         ensures does { Happens self.old event result self.new }
     {

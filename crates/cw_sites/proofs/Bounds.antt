@@ -12,7 +12,7 @@ use Rattle.cw_measure.specs.lemmas.Outermost.{outer_in_within, work_bounds, span
 use Rattle.cw_sites.specs.ChosenPaths.{Path, nowhere, plus, heavier, best, steps_of, chosen}
 use Rattle.cw_sites.specs.BlockPaths.{BlockPath, Straight, Split, now_of, extended, longest_of, child_ended, finished, after, after_all}
 use Rattle.cw_sites.specs.StrandPaths.{SeenBlock, StrandPath, longest_path, sum_of, whole}
-use Rattle.cw_sites.specs.OpenPaths.{here_in, enters, block_path, StandsOn, RestsOn, LiesUnder, Under, Shows}
+use Rattle.cw_sites.specs.OpenPaths.{here_in, enters, block_path, IsStackedOn, RestsOn, LiesUnder, Under, Shows}
 use Rattle.cw_sites.specs.SiteRows.{own_tree, own_in}
 use Rattle.cw_sites.specs.lemmas.ChosenPaths.{takes_first, takes_second}
 use Rattle.cw_sites.specs.lemmas.SiteRows.{own_leaf}
@@ -108,7 +108,7 @@ total_local site base (o ∷ os) es =
 
 -- the blocks hold the paths of a block, except the current path, and the paths of the blocks below
 stands_sum : (below : List SeenBlock → Type 0) (L : BlockPath) (ps : List SeenBlock) (start : Path) (k : ℕ)
-    → ((qs : List SeenBlock) → below qs → Within (plus (sum_of qs) start) nowhere k) → (j : ℕ) → Within (total L) start j → StandsOn below L ps
+    → ((qs : List SeenBlock) → below qs → Within (plus (sum_of qs) start) nowhere k) → (j : ℕ) → Within (total L) start j → IsStackedOn below L ps
     → Within (plus (sum_of ps) (now_of L)) nowhere (j + k)
 stands_sum below (Straight n) ps start k bound j t h = let b = bound ps h in (omega arith, omega arith)
 stands_sum below (Split b l n) [] start k bound j t h = absurd h

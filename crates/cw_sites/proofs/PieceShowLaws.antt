@@ -7,7 +7,7 @@ use Rattle.cw_sites.specs.ChosenPaths.{Path, nowhere}
 use Rattle.cw_sites.specs.BlockPaths.{BlockPath, Straight, Split, now_of, extended, child_ended, after_all, joined_on}
 use Rattle.cw_measure.specs.OpenParts.{no_joins}
 use Rattle.cw_sites.specs.StrandPaths.{SeenBlock, StrandPath, begins, ends, extends_by, forks, appends_block, appends_at, appends}
-use Rattle.cw_sites.specs.OpenPaths.{here_in, enters, block_path, StandsOn, Under, Shows, is_split}
+use Rattle.cw_sites.specs.OpenPaths.{here_in, enters, block_path, IsStackedOn, Under, Shows, is_split}
 use Rattle.cw_sites.specs.lemmas.ChosenPaths.{plus-nowhere_first}
 use Rattle.cw_sites.proofs.PieceLaws.{extended_twice, piece_joined}
 use Rattle.cw_sites.specs.lemmas.OpenPaths.{ShowsLocal, after_all-append, split-block_path, extends, begins_split, again_at, ends_places}
@@ -25,7 +25,7 @@ forked_at below true c L t s h =
 forked_at below false c L t s h = at below c L t.now t.blocks s h.now_is h.blocks_are
   where
     at : (below : List SeenBlock → Type 0) (c : Path) (L : BlockPath) (n : Path) (ps : List SeenBlock) → is_split L ≡ true → n ≡ now_of L
-        → StandsOn below L ps → ShowsLocal below (child_ended c L) (forks false c (record { now = n; blocks = ps }))
+        → IsStackedOn below L ps → ShowsLocal below (child_ended c L) (forks false c (record { now = n; blocks = ps }))
     at below c (Straight m) n ps s e k = cc
     at below c (Split b l m) n [] s e k = absurd k
     at below c (Split b l m) n (p ∷ ps) s e k =
@@ -47,7 +47,7 @@ appended_block below first L b (Some c) n t s h =
     (forked_at below first c (extended b L) (extends_by b t) (split_extended b L ∙ s) (extends below b L t h))
 
 appended_at : (below : List SeenBlock → Type 0) (first : Bool) (L M : BlockPath) (n : Path) (ps : List SeenBlock) (t : StrandPath)
-    → is_split L ≡ not first → ShowsLocal below L t → n ≡ now_of M → StandsOn is_none M ps → ShowsLocal below (joined_on L M) (appends_at first n ps t)
+    → is_split L ≡ not first → ShowsLocal below L t → n ≡ now_of M → IsStackedOn is_none M ps → ShowsLocal below (joined_on L M) (appends_at first n ps t)
 appended_at below first L (Straight m) n [] t s h e g =
     let P : Path → Type 0 = λ x. ShowsLocal below (extended m L) (extends_by x t) in subst P (sym e) (extends below m L t h)
 appended_at below first L (Straight m) n (p ∷ ps) t s h e g = cc

@@ -20,7 +20,7 @@ use Rattle.cw_sites.specs.StrandPaths.{StrandPath, whole, spawns, ends, joins}
 use Rattle.cw_sites.specs.OpenPaths.{here_in, block_path, path_in, Shows}
 use Rattle.cw_sites.specs.SiteRows.{row_of, worked, entered, left, work_tally, span_tally, CountsSite, FitsRow}
 use Rattle.cw_sites.specs.Laws.{BlocksReadChosenPaths}
-use Rattle.cw_sites.specs.Tables.{IsBoundedTable, IsTightTable, IsQuiet, Small, Tells, called, spawned, Flushed, RowBegun, RowLeft}
+use Rattle.cw_sites.specs.Tables.{IsBoundedTable, IsTightTable, IsQuiet, Small, Tracks, called, spawned, Flushed, RowBegun, RowLeft}
 use Rattle.cw_sites.proofs.ChosenPathLaws.{path_of-chosen_leaves}
 use Rattle.cw_sites.specs.lemmas.BlockPaths.{finished-after_all}
 use Rattle.cw_sites.specs.lemmas.OpenPaths.{shows_work, shows_entered, shows_spawned, shows_spawned_again, shows_joined, shows_unjoined, shows_left, shows_ended, shows_all}
@@ -132,7 +132,7 @@ both_since q base busy os es fs r t k s h =
     subst Q first (kept_since P (record { work = both_work q base busy os r t; join = both_join q base busy os r t }) es fs 0 k s zero_more)
 
 pub table_flushed : (base : ℕ) (busy : ℕ → ℕ) (os : List Open) (es fs : List Event) (old new : SiteTable) (count : ℕ) → Since old.noted count es fs
-    → Small busy os (es ++ fs) → Tells base busy os es old → Flushed old new count → Tells base busy os (es ++ fs) new
+    → Small busy os (es ++ fs) → Tracks base busy os es old → Flushed old new count → Tracks base busy os (es ++ fs) new
 table_flushed base busy os es fs old new count since small h f =
     let k = count - old.noted in
     let same : (q : ℕ) → steps_of q (here_in base os) k ≡ steps_of q old.here k = λ q. ap (λ (x : ℕ). steps_of q x k) (sym h.here_is) in
@@ -159,7 +159,7 @@ table_flushed base busy os es fs old new count since small h f =
 
 -- an invocation begins
 entered_row : (first : Bool) (base : ℕ) (busy : ℕ → ℕ) (os : List Open) (es : List Event) (old new : SiteTable) (b : Bool) (site path q : ℕ)
-    → (site == q) ≡ first → Small busy (record { spawned = b; mark = Some (Invocation site); outer = es } ∷ os) [] → Tells base busy os es old
+    → (site == q) ≡ first → Small busy (record { spawned = b; mark = Some (Invocation site); outer = es } ∷ os) [] → Tracks base busy os es old
     → ((p : ℕ) → path ≡ path_in p base (record { spawned = b; mark = Some (Invocation site); outer = es } ∷ os) []) → RowBegun old new site path
     → CountsSite q base (busy q) (record { spawned = b; mark = Some (Invocation site); outer = es } ∷ os) [] (row_of new.rows q)
 entered_row true base busy os es old new b site path q e small h p f =
@@ -176,10 +176,10 @@ entered_row false base busy os es old new b site path q e small h p f =
     subst D (sym (f.others q e)) (row_other q base (busy q) o os (row_of old.rows q) e (h.rows q))
 
 pub table_entered : (base : ℕ) (busy : ℕ → ℕ) (os : List Open) (es : List Event) (old new : SiteTable) (b : Bool) (site path : ℕ)
-    → Small busy (record { spawned = b; mark = Some (Invocation site); outer = es } ∷ os) [] → Tells base busy os es old
+    → Small busy (record { spawned = b; mark = Some (Invocation site); outer = es } ∷ os) [] → Tracks base busy os es old
     → ((p : ℕ) → path ≡ path_in p base (record { spawned = b; mark = Some (Invocation site); outer = es } ∷ os) []) → RowBegun old new site path
     → ((q : ℕ) → Shows q base (record { spawned = b; mark = Some (Invocation site); outer = es } ∷ os) [] (strand_path q new.paths)) → Laid new.paths
-    → Tells base busy (record { spawned = b; mark = Some (Invocation site); outer = es } ∷ os) [] new
+    → Tracks base busy (record { spawned = b; mark = Some (Invocation site); outer = es } ∷ os) [] new
 table_entered base busy os es old new b site path small h p f s l = record {
   laid = l;
   rows = λ q. entered_row (site == q) base busy os es old new b site path q refl small h p f;
@@ -191,7 +191,7 @@ table_entered base busy os es old new b site path small h p f s l = record {
 -- an invocation ends
 left_row : (own : Bool) (base : ℕ) (busy : ℕ → ℕ) (os : List Open) (before es : List Event) (old new : SiteTable) (b : Bool) (site outer q : ℕ)
     → (old.here == q) ≡ own → has_spawned es ≡ false → Small busy (record { spawned = b; mark = Some (Invocation site); outer = before } ∷ os) es
-    → Tells base busy (record { spawned = b; mark = Some (Invocation site); outer = before } ∷ os) es old → RowLeft old new outer
+    → Tracks base busy (record { spawned = b; mark = Some (Invocation site); outer = before } ∷ os) es old → RowLeft old new outer
     → CountsSite q base (busy q) os (closed (record { spawned = b; mark = Some (Invocation site); outer = before }) es) (row_of new.rows q)
 left_row true base busy os before es old new b site outer q e n small h f =
     let o : Open = record { spawned = b; mark = Some (Invocation site); outer = before } in
@@ -212,9 +212,9 @@ left_row false base busy os before es old new b site outer q e n small h f =
 
 pub table_left : (base : ℕ) (busy : ℕ → ℕ) (os : List Open) (before es : List Event) (old new : SiteTable) (b : Bool) (site outer : ℕ)
     → has_spawned es ≡ false → outer ≡ here_in base os → Small busy (record { spawned = b; mark = Some (Invocation site); outer = before } ∷ os) es
-    → Tells base busy (record { spawned = b; mark = Some (Invocation site); outer = before } ∷ os) es old → RowLeft old new outer
+    → Tracks base busy (record { spawned = b; mark = Some (Invocation site); outer = before } ∷ os) es old → RowLeft old new outer
     → ((q : ℕ) → Shows q base os (closed (record { spawned = b; mark = Some (Invocation site); outer = before }) es) (strand_path q new.paths))
-    → Laid new.paths → Tells base busy os (closed (record { spawned = b; mark = Some (Invocation site); outer = before }) es) new
+    → Laid new.paths → Tracks base busy os (closed (record { spawned = b; mark = Some (Invocation site); outer = before }) es) new
 table_left base busy os before es old new b site outer n at small h f s l = record {
   laid = l;
   rows = λ q. left_row (old.here == q) base busy os before es old new b site outer q refl n small h f;
@@ -225,9 +225,9 @@ table_left base busy os before es old new b site outer n at small h f s l = reco
 
 -- the block joins
 pub table_joined : (base : ℕ) (busy : ℕ → ℕ) (os : List Open) (es : List Event) (old new : SiteTable) → has_spawned es ≡ true → Small busy os es
-    → Tells base busy os es old → (Laid old.paths → Laid new.paths) → (Laid old.paths → (q : ℕ) → Fits (whole (strand_path q old.paths))
+    → Tracks base busy os es old → (Laid old.paths → Laid new.paths) → (Laid old.paths → (q : ℕ) → Fits (whole (strand_path q old.paths))
     → strand_path q new.paths ≡ joins (strand_path q old.paths)) → ((q : ℕ) → row_of new.rows q ≡ row_of old.rows q) → new.noted ≡ old.noted
-    → new.here ≡ old.here → Tells base busy os (es ++ Join ∷ []) new
+    → new.here ≡ old.here → Tracks base busy os (es ++ Join ∷ []) new
 table_joined base busy os es old new n small h l f r m k = record {
   laid = l h.laid;
   rows = λ q. let D : Row → Type 0 = λ x. CountsSite q base (busy q) os (es ++ Join ∷ []) x in subst D (sym (r q)) (row_join q base (busy q) os es (row_of old.rows q) (h.rows q));
@@ -253,8 +253,8 @@ flushed_none t count e =
 -- The public methods.
 
 pub call_begins : (base : ℕ) (busy : ℕ → ℕ) (os : List Open) (es fs : List Event) (old mid new : SiteTable) (count site : ℕ)
-    → Since old.noted count es fs → Small busy (called site (es ++ fs) os) [] → Tells base busy os es old → Flushed old mid count
-    → RowBegun mid new site (strand_path 0 mid.paths).now.weight → Tells base busy (called site (es ++ fs) os) [] new
+    → Since old.noted count es fs → Small busy (called site (es ++ fs) os) [] → Tracks base busy os es old → Flushed old mid count
+    → RowBegun mid new site (strand_path 0 mid.paths).now.weight → Tracks base busy (called site (es ++ fs) os) [] new
 call_begins base busy os es fs old mid new count site le small h f g =
     let es' = es ++ fs in
     let o : Open = record { spawned = false; mark = Some (Invocation site); outer = es' } in
@@ -270,10 +270,10 @@ shows_spawned_by true q base os es t mark e h = shows_spawned q base os es t mar
 shows_spawned_by false q base os es t mark e h = shows_spawned_again q base os es t mark e h
 
 pub spawn_begins : (base : ℕ) (busy : ℕ → ℕ) (os : List Open) (es fs : List Event) (old mid forked new : SiteTable) (count site : ℕ) (first : Bool)
-    → Since old.noted count es fs → has_spawned es ≡ not first → Small busy (spawned site (es ++ fs) os) [] → Tells base busy os es old
+    → Since old.noted count es fs → has_spawned es ≡ not first → Small busy (spawned site (es ++ fs) os) [] → Tracks base busy os es old
     → Flushed old mid count → (Laid mid.paths → Laid forked.paths) → (Laid mid.paths → (q : ℕ)
     → strand_path q forked.paths ≡ spawns first (strand_path q mid.paths)) → ((q : ℕ) → row_of forked.rows q ≡ row_of mid.rows q)
-    → forked.noted ≡ mid.noted → RowBegun forked new site 0 → Tells base busy (spawned site (es ++ fs) os) [] new
+    → forked.noted ≡ mid.noted → RowBegun forked new site 0 → Tracks base busy (spawned site (es ++ fs) os) [] new
 spawn_begins base busy os es fs old mid forked new count site first le n small h f lr r rows mark g =
     let es' = es ++ fs in
     let o : Open = record { spawned = true; mark = Some (Invocation site); outer = es' } in
@@ -296,15 +296,15 @@ spawn_begins base busy os es fs old mid forked new count site first le n small h
     }
   where
     table_rows : (base : ℕ) (busy : ℕ → ℕ) (os : List Open) (es : List Event) (mid new : SiteTable) (site : ℕ) → Small busy (spawned site es os) []
-        → Tells base busy os es mid → RowBegun mid (record { rows = new.rows; paths = mid.paths; noted = new.noted; here = new.here }) site 0 → (q : ℕ)
+        → Tracks base busy os es mid → RowBegun mid (record { rows = new.rows; paths = mid.paths; noted = new.noted; here = new.here }) site 0 → (q : ℕ)
         → CountsSite q base (busy q) (spawned site es os) [] (row_of new.rows q)
     table_rows base busy os es mid new site small m k q = entered_row (site == q) base busy os es mid
         (record { rows = new.rows; paths = mid.paths; noted = new.noted; here = new.here }) true site 0 q refl small m (λ p. refl) k
 
 pub call_ends : (base : ℕ) (busy : ℕ → ℕ) (os : List Open) (before es fs : List Event) (old mid new : SiteTable) (count site outer : ℕ)
     → Since old.noted count es fs → has_spawned es ≡ false → outer ≡ here_in base os → Small busy (called site before os) (es ++ fs)
-    → Tells base busy (called site before os) es old → Flushed old mid count → RowLeft mid new outer
-    → Tells base busy os (closed (record { spawned = false; mark = Some (Invocation site); outer = before }) (es ++ fs)) new
+    → Tracks base busy (called site before os) es old → Flushed old mid count → RowLeft mid new outer
+    → Tracks base busy os (closed (record { spawned = false; mark = Some (Invocation site); outer = before }) (es ++ fs)) new
 call_ends base busy os before es fs old mid new count site outer le n at small h f g =
     let o : Open = record { spawned = false; mark = Some (Invocation site); outer = before } in
     let es' = es ++ fs in
@@ -318,10 +318,10 @@ call_ends base busy os before es fs old mid new count site outer le n at small h
 
 pub spawn_ends : (base : ℕ) (busy : ℕ → ℕ) (os : List Open) (before es fs : List Event) (old mid closing new : SiteTable) (count site outer : ℕ)
     → Since old.noted count es fs → has_spawned es ≡ false → outer ≡ here_in base os → Small busy (spawned site before os) (es ++ fs)
-    → Tells base busy (spawned site before os) es old → Flushed old mid count → RowLeft mid closing outer → (Laid closing.paths → Laid new.paths)
+    → Tracks base busy (spawned site before os) es old → Flushed old mid count → RowLeft mid closing outer → (Laid closing.paths → Laid new.paths)
     → (Laid closing.paths → (q : ℕ) → Fits (whole (strand_path q closing.paths)) → strand_path q new.paths ≡ ends (strand_path q closing.paths))
     → ((q : ℕ) → row_of new.rows q ≡ row_of closing.rows q) → new.noted ≡ closing.noted → new.here ≡ closing.here
-    → Tells base busy os (closed (record { spawned = true; mark = Some (Invocation site); outer = before }) (es ++ fs)) new
+    → Tracks base busy os (closed (record { spawned = true; mark = Some (Invocation site); outer = before }) (es ++ fs)) new
 spawn_ends base busy os before es fs old mid closing new count site outer le n at small h f g lr r rows mark here =
     let o : Open = record { spawned = true; mark = Some (Invocation site); outer = before } in
     let es' = es ++ fs in
@@ -350,7 +350,7 @@ pub record ReadsRow (row : Row) (own : ℕ) (of : SiteRow) : Type 0 where
 
 -- the row of a site after the end of the run
 pub row_read : (site : ℕ) (busy : ℕ → ℕ) (es : List Event) (table : SiteTable) → busy site ≡ 0 → has_spawned es ≡ false → Small busy [] es
-    → Tells 0 busy [] es table → (own : ℕ) → (Laid table.paths → (strand_path site table.paths).now.own < 2 ^ 64
+    → Tracks 0 busy [] es table → (own : ℕ) → (Laid table.paths → (strand_path site table.paths).now.own < 2 ^ 64
     → own ≡ (strand_path site table.paths).now.own) → ReadsRow (row_of table.rows site) own (site_row site (tree_of es))
 row_read site busy es table idle n small h own o =
     let r = h.rows site in
@@ -372,9 +372,9 @@ with_paths t p = record { rows = t.rows; paths = p; noted = t.noted; here = t.he
 
 pub half_begins : (base : ℕ) (busy : ℕ → ℕ) (mark : Option Mark) (os : List Open) (es fs : List Event) (old mid : SiteTable) (paths : Paths)
     (count : ℕ) (first : Bool) → IsQuiet mark → Since old.noted count es fs → has_spawned es ≡ not first → Small busy os (es ++ fs)
-    → Tells base busy os es old → Flushed old mid count → (Laid mid.paths → Laid paths)
+    → Tracks base busy os es old → Flushed old mid count → (Laid mid.paths → Laid paths)
     → (Laid mid.paths → (q : ℕ) → strand_path q paths ≡ spawns first (strand_path q mid.paths))
-    → Tells base busy (in_fork mark (es ++ fs) os) [] (with_paths mid paths)
+    → Tracks base busy (in_fork mark (es ++ fs) os) [] (with_paths mid paths)
 half_begins base busy mark os es fs old mid paths count first quiet since n small h f l r =
     let es' = es ++ fs in
     let o : Open = record { spawned = true; mark = mark; outer = es' } in
@@ -390,9 +390,9 @@ half_begins base busy mark os es fs old mid paths count first quiet since n smal
 
 pub half_ends : (base : ℕ) (busy : ℕ → ℕ) (mark : Option Mark) (os : List Open) (before es fs : List Event) (old mid : SiteTable) (paths : Paths)
     (count : ℕ) → IsQuiet mark → Since old.noted count es fs → has_spawned es ≡ false → Small busy (in_fork mark before os) (es ++ fs)
-    → Tells base busy (in_fork mark before os) es old → Flushed old mid count → (Laid mid.paths → Laid paths)
+    → Tracks base busy (in_fork mark before os) es old → Flushed old mid count → (Laid mid.paths → Laid paths)
     → (Laid mid.paths → (q : ℕ) → Fits (whole (strand_path q mid.paths)) → strand_path q paths ≡ ends (strand_path q mid.paths))
-    → Tells base busy os (closed (record { spawned = true; mark = mark; outer = before }) (es ++ fs)) (with_paths mid paths)
+    → Tracks base busy os (closed (record { spawned = true; mark = mark; outer = before }) (es ++ fs)) (with_paths mid paths)
 half_ends base busy mark os before es fs old mid paths count quiet since n small h f l r =
     let es' = es ++ fs in
     let o : Open = record { spawned = true; mark = mark; outer = before } in

@@ -11,7 +11,7 @@ use Rattle.cw_sites.specs.PathBounds.{AreShort, most_steps}
 use Rattle.cw_sites.specs.StepLists.{part, seen_blocks, strand_path, Laid, LaidFrom}
 use Rattle.cw_sites.specs.StepSums.{AllBelow}
 use Rattle.cw_sites.specs.StrandPaths.{StrandPath}
-use Rattle.cw_sites.specs.Tables.{IsBoundedTable, Tells}
+use Rattle.cw_sites.specs.Tables.{IsBoundedTable, Tracks}
 use Rattle.cw_sites.specs.Trimmed.{IsTrimmed}
 
 abbrev path_of : (q : ℕ) → List Steps → (start weight : ℕ) → List ForkedBlock → StrandPath
@@ -32,7 +32,7 @@ same_laid old new t h = record {
 }
 
 pub still_told : (base : ℕ) (busy : ℕ → ℕ) (os : List Open) (es : List Event) (old : SiteTable) (paths : Paths) → IsTrimmed old.paths paths
-    → Tells base busy os es old → Tells base busy os es (record old { paths = paths })
+    → Tracks base busy os es old → Tracks base busy os es (record old { paths = paths })
 still_told base busy os es old paths t h = record {
   rows = h.rows;
   paths = λ site. subst (λ p. Shows site base os es p) (sym (same_path site old.paths paths t)) (h.paths site);

@@ -29,10 +29,10 @@ block_path site base (o ∷ os) es =
     after_all site (here_in base (o ∷ os)) (enters o.spawned (block_path site base os o.outer)) es
 
 -- the current block, or a block in which a call, a scope or a region is open: its spawned children
-abbrev pub StandsOn : (below : List SeenBlock → Type 0) → BlockPath → List SeenBlock → Type 0
-StandsOn below (Straight n) ps = below ps
-StandsOn below (Split b l n) [] = ⊥
-StandsOn below (Split b l n) (p ∷ ps) = (p.base ≡ b) × (p.longest ≡ l) × (p.rest ≡ nowhere) × below ps
+abbrev pub IsStackedOn : (below : List SeenBlock → Type 0) → BlockPath → List SeenBlock → Type 0
+IsStackedOn below (Straight n) ps = below ps
+IsStackedOn below (Split b l n) [] = ⊥
+IsStackedOn below (Split b l n) (p ∷ ps) = (p.base ≡ b) × (p.longest ≡ l) × (p.rest ≡ nowhere) × below ps
 
 -- a block whose spawned child is running
 abbrev pub RestsOn : (below : List SeenBlock → Type 0) → BlockPath → List SeenBlock → Type 0
@@ -43,7 +43,7 @@ RestsOn below (Split b l n) (p ∷ ps) = (p.base ≡ b) × (p.longest ≡ l) × 
 -- the blocks below a part: its block's child is running if the part was spawned
 abbrev pub LiesUnder : (spawned : Bool) → (below : List SeenBlock → Type 0) → BlockPath → List SeenBlock → Type 0
 LiesUnder true below L ps = RestsOn below L ps
-LiesUnder false below L ps = StandsOn below L ps
+LiesUnder false below L ps = IsStackedOn below L ps
 
 -- the blocks below all open parts
 abbrev pub Under : (site base : ℕ) → List Open → List SeenBlock → Type 0
@@ -53,7 +53,7 @@ Under site base (o ∷ os) ps = LiesUnder o.spawned (Under site base os) (block_
 -- the paths of a strand represent a run so far
 pub record Shows (site base : ℕ) (os : List Open) (es : List Event) (t : StrandPath) : Type 0 where
   pub now_is : t.now ≡ now_of (block_path site base os es)
-  pub blocks_are : StandsOn (Under site base os) (block_path site base os es) t.blocks
+  pub blocks_are : IsStackedOn (Under site base os) (block_path site base os es) t.blocks
 
 -- whether a block has spawned since its last join
 abbrev pub is_split : BlockPath → Bool

@@ -22,7 +22,7 @@ pub record Small (busy : ℕ → ℕ) (os : List Open) (es : List Event) : Type 
   pub active : (site : ℕ) → active_in (is_site site) (busy site) os < 2 ^ 64
 
 -- a table represents a run so far, for each site
-pub record Tells (base : ℕ) (busy : ℕ → ℕ) (os : List Open) (es : List Event) (table : SiteTable) : Type 0 where
+pub record Tracks (base : ℕ) (busy : ℕ → ℕ) (os : List Open) (es : List Event) (table : SiteTable) : Type 0 where
   pub rows : (site : ℕ) → CountsSite site base (busy site) os es (row_of table.rows site)
   pub paths : (site : ℕ) → Shows site base os es (strand_path site table.paths)
   pub laid : Laid table.paths
@@ -87,33 +87,33 @@ IsQuiet (Some (Execution tag)) = Unit {0}
 
 -- a part that is not an invocation begins and ends in series without a call of the table
 pub record QuietParts (base : ℕ) (busy : ℕ → ℕ) (os : List Open) (table : SiteTable) : Type 0 where
-  pub begins : (mark : Option Mark) (es : List Event) → IsQuiet mark → Tells base busy os es table
-      → Tells base busy (in_series mark es os) [] table
+  pub begins : (mark : Option Mark) (es : List Event) → IsQuiet mark → Tracks base busy os es table
+      → Tracks base busy (in_series mark es os) [] table
   pub ends : (mark : Option Mark) (outer es : List Event) → IsQuiet mark → has_spawned es ≡ false
-      → Tells base busy (in_series mark outer os) es table
-      → Tells base busy os (closed (record { spawned = false; mark = mark; outer = outer }) es) table
+      → Tracks base busy (in_series mark outer os) es table
+      → Tracks base busy os (closed (record { spawned = false; mark = mark; outer = outer }) es) table
 
 -- includes the instructions up to a count: a table that represents a run represents the run after the events
 abbrev pub Notes : SiteTable → SiteTable → (count : ℕ) → Type 0
 Notes old new count =
     (base : ℕ) (busy : ℕ → ℕ) (os : List Open) (es fs : List Event) → Since old.noted count es fs
     → Small busy os (es ++ fs)
-    → Tells base busy os es old → Tells base busy os (es ++ fs) new
+    → Tracks base busy os es old → Tracks base busy os (es ++ fs) new
 
 -- begins a plain call
 abbrev pub Enters : SiteTable → SiteTable → (count site : ℕ) → Type 0
 Enters old new count site =
     (base : ℕ) (busy : ℕ → ℕ) (os : List Open) (es fs : List Event) → Since old.noted count es fs
     → Small busy (called site (es ++ fs) os) []
-    → Tells base busy os es old → Tells base busy (called site (es ++ fs) os) [] new
+    → Tracks base busy os es old → Tracks base busy (called site (es ++ fs) os) [] new
 
 -- begins a spawned call
 abbrev pub Spawns : SiteTable → SiteTable → (count site : ℕ) → (first : Bool) → Type 0
 Spawns old new count site first =
     (base : ℕ) (busy : ℕ → ℕ) (os : List Open) (es fs : List Event) → Since old.noted count es fs
     → has_spawned es ≡ not first
-    → Small busy (spawned site (es ++ fs) os) [] → Tells base busy os es old
-    → Tells base busy (spawned site (es ++ fs) os) [] new
+    → Small busy (spawned site (es ++ fs) os) [] → Tracks base busy os es old
+    → Tracks base busy (spawned site (es ++ fs) os) [] new
 
 -- ends a plain call, whose block has joined
 abbrev pub Leaves : SiteTable → SiteTable → (count outer : ℕ) → Type 0
@@ -121,8 +121,8 @@ Leaves old new count outer =
     (base : ℕ) (busy : ℕ → ℕ) (os : List Open) (before es fs : List Event) (site : ℕ) → Since old.noted count es fs
     → has_spawned es ≡ false
     → outer ≡ here_in base os → Small busy (called site before os) (es ++ fs)
-    → Tells base busy (called site before os) es old
-    → Tells base busy os (closed (record { spawned = false; mark = Some (Invocation site); outer = before }) (es ++ fs))
+    → Tracks base busy (called site before os) es old
+    → Tracks base busy os (closed (record { spawned = false; mark = Some (Invocation site); outer = before }) (es ++ fs))
     new
 
 -- ends a spawned call, whose block has joined
@@ -131,8 +131,8 @@ EndsChild old new count outer =
     (base : ℕ) (busy : ℕ → ℕ) (os : List Open) (before es fs : List Event) (site : ℕ) → Since old.noted count es fs
     → has_spawned es ≡ false
     → outer ≡ here_in base os → Small busy (spawned site before os) (es ++ fs)
-    → Tells base busy (spawned site before os) es old
-    → Tells base busy os (closed (record { spawned = true; mark = Some (Invocation site); outer = before }) (es ++ fs))
+    → Tracks base busy (spawned site before os) es old
+    → Tracks base busy os (closed (record { spawned = true; mark = Some (Invocation site); outer = before }) (es ++ fs))
     new
 
 -- joins a block that has spawned
@@ -140,19 +140,19 @@ abbrev pub Joins : SiteTable → SiteTable → (count : ℕ) → Type 0
 Joins old new count =
     (base : ℕ) (busy : ℕ → ℕ) (os : List Open) (es fs : List Event) → Since old.noted count es fs
     → has_spawned es ≡ true
-    → Small busy os (es ++ fs) → Tells base busy os es old → Tells base busy os ((es ++ fs) ++ Join ∷ []) new
+    → Small busy os (es ++ fs) → Tracks base busy os es old → Tracks base busy os ((es ++ fs) ++ Join ∷ []) new
 
 -- a join, if the table represents the whole run so far
 abbrev pub JoinsNoted : SiteTable → SiteTable → Type 0
 JoinsNoted old new =
     (base : ℕ) (busy : ℕ → ℕ) (os : List Open) (es : List Event) → has_spawned es ≡ true → Small busy os es
-    → Tells base busy os es old → Tells base busy os (es ++ Join ∷ []) new
+    → Tracks base busy os es old → Tracks base busy os (es ++ Join ∷ []) new
 
 -- the row of a site, if no part is open and the block has joined
 abbrev pub ReadsSite : SiteTable → (site : ℕ) → declared.SiteRow → Type 0
 ReadsSite table site row =
     (busy : ℕ → ℕ) (es : List Event) → busy site ≡ 0 → has_spawned es ≡ false → Small busy [] es
-    → Tells 0 busy [] es table
+    → Tracks 0 busy [] es table
     → IsRow row (site_row site (tree_of es))
 
 -- begins a spawned part that is not a call, the half of a loop
@@ -160,8 +160,8 @@ abbrev pub SpawnsHalf : SiteTable → SiteTable → (count : ℕ) → (first : B
 SpawnsHalf old new count first =
     (base : ℕ) (busy : ℕ → ℕ) (mark : Option Mark) (os : List Open) (es fs : List Event) → IsQuiet mark
     → Since old.noted count es fs
-    → has_spawned es ≡ not first → Small busy os (es ++ fs) → Tells base busy os es old
-    → Tells base busy (in_fork mark (es ++ fs) os) [] new
+    → has_spawned es ≡ not first → Small busy os (es ++ fs) → Tracks base busy os es old
+    → Tracks base busy (in_fork mark (es ++ fs) os) [] new
 
 -- ends a spawned part that is not a call, the half of a loop
 abbrev pub EndsHalf : SiteTable → SiteTable → (count : ℕ) → Type 0
@@ -169,13 +169,13 @@ EndsHalf old new count =
     (base : ℕ) (busy : ℕ → ℕ) (mark : Option Mark) (os : List Open) (before es fs : List Event) → IsQuiet mark
     → Since old.noted count es fs
     → has_spawned es ≡ false → Small busy (in_fork mark before os) (es ++ fs)
-    → Tells base busy (in_fork mark before os) es old
-    → Tells base busy os (closed (record { spawned = true; mark = mark; outer = before }) (es ++ fs)) new
+    → Tracks base busy (in_fork mark before os) es old
+    → Tracks base busy os (closed (record { spawned = true; mark = mark; outer = before }) (es ++ fs)) new
 
 -- the weight of the current strand's path
 abbrev pub ReadsPath : SiteTable → (weight : ℕ) → Type 0
 ReadsPath table weight =
-    (site base : ℕ) (busy : ℕ → ℕ) (os : List Open) (es : List Event) → Tells base busy os es table
+    (site base : ℕ) (busy : ℕ → ℕ) (os : List Open) (es : List Event) → Tracks base busy os es table
     → weight ≡ path_in site base os es
 
 -- the steps of a table are of sites below `most`, and each path of the strand and of its open blocks has at most
@@ -208,7 +208,7 @@ nothing_open site = 0
 -- a table represents a piece that was executed separately inside the open parts and has no open part itself; it knows
 -- only the site of the innermost invocation around it
 abbrev pub TellsPiece : (base : ℕ) → List Open → List Event → SiteTable → Type 0
-TellsPiece base os fs piece = Tells (here_in base os) nothing_open [] fs piece
+TellsPiece base os fs piece = Tracks (here_in base os) nothing_open [] fs piece
 
 -- appends the piece as the next events of the current block: it has no join, or the block has spawned nothing since
 -- its last join
@@ -216,8 +216,8 @@ abbrev pub JoinsPiece : SiteTable → (piece : SiteTable) → SiteTable → (fir
 JoinsPiece old piece new first =
     (base : ℕ) (busy : ℕ → ℕ) (os : List Open) (es fs : List Event) → has_spawned es ≡ not first
     → (first || no_joins fs) ≡ true
-    → Small busy os (es ++ fs) → Tells base busy os es old → TellsPiece base os fs piece
-    → Tells base busy os (es ++ fs) new
+    → Small busy os (es ++ fs) → Tracks base busy os es old → TellsPiece base os fs piece
+    → Tracks base busy os (es ++ fs) new
 
 -- the bound is kept if the piece is bounded
 abbrev pub StaysBoundedBeside : (piece : SiteTable) → SiteTable → SiteTable → Type 0

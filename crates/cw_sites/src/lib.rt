@@ -11,7 +11,7 @@
 //! # How a run calls a `SiteTable`
 //!
 //! The run knows the number of its instructions, whether the current block has spawned since its last join, and for
-//! each invocation the site of the enclosing one. `Tells base busy opens events table` states that a table represents
+//! each invocation the site of the enclosing one. `Tracks base busy opens events table` states that a table represents
 //! a run so far: its open parts, the innermost first, and the events of the current block; `base` is the site in
 //! which the table began, and `busy` the number of invocations of each site that were open around it (0, and none,
 //! for a whole run).

@@ -1,6 +1,6 @@
 //! The memory of a table.
 
-ghost use Rattle.cw_sites.specs.Trimmed.{IsTrimmed, StaysBounded, TellsAsBefore};
+ghost use Rattle.cw_sites.specs.Trimmed.{IsTrimmed, StaysBounded, TracksAsBefore};
 
 use crate::paths::Paths;
 use crate::rows::RowsBySite;
@@ -58,7 +58,7 @@ impl RowsBySite {
 impl SiteTable {
     /// Frees the memory that the lists of its paths do not use. The table represents the same runs as before.
     pub fn trim(&mut self)
-        ensures told { TellsAsBefore self.old self.new }
+        ensures told { TracksAsBefore self.old self.new }
         ensures bounded { StaysBounded self.old self.new }
     {
         self.paths.trim();

@@ -5,7 +5,7 @@ ghost use Rattle.cw_sites.specs.PathBounds.{GrowsWithin};
 ghost use Rattle.cw_sites.specs.PathCalls.{ReadsOwn};
 ghost use Rattle.cw_sites.specs.StepLists.{HasFirstChild, HasRoom, HasRoomForBlock, IsShort, IsWithinLimit};
 ghost use Rattle.cw_sites.specs.StepSums.{sum_at, HasSteps};
-ghost use Rattle.cw_sites.specs.Tables.{Flushed, FlushesBounded, IsBoundedTable, JoinsBounded, RowBegun, RowLeft, StaysBoundedIn, Tells};
+ghost use Rattle.cw_sites.specs.Tables.{Flushed, FlushesBounded, IsBoundedTable, JoinsBounded, RowBegun, RowLeft, StaysBoundedIn, Tracks};
 ghost use Rattle.cw_sites.specs.Tables.{EndsChild, EndsHalf, Enters, Joins, JoinsNoted, Leaves, Notes};
 ghost use Rattle.cw_sites.specs.Tables.{JoinsPiece, StaysBoundedBeside};
 ghost use Rattle.cw_sites.specs.Tables.{ReadsPath, ReadsSite, Spawns, SpawnsHalf};
@@ -30,7 +30,7 @@ pub struct SiteTable {
 impl SiteTable {
     /// Returns the table of a whole run that begins in an invocation of this site. Allocates no memory.
     pub fn new(alloc: Global, here: u32) -> SiteTable
-        ensures told { Tells here (λ q. 0) [] [] result }
+        ensures told { Tracks here (λ q. 0) [] [] result }
         ensures bounded { (most : ℕ) → here < most → IsBoundedTable most result }
     {
         SiteTable {
@@ -44,7 +44,7 @@ impl SiteTable {
     /// Returns the table of a piece that is executed separately. It will take memory only for the sites that the
     /// piece meets. Allocates no memory now.
     pub fn apart(alloc: Global, here: u32) -> SiteTable
-        ensures told { Tells here (λ q. 0) [] [] result }
+        ensures told { Tracks here (λ q. 0) [] [] result }
         ensures bounded { (most : ℕ) → here < most → IsBoundedTable most result }
     {
         SiteTable {

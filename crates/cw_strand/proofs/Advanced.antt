@@ -20,7 +20,7 @@ use Rattle.cw_strand.specs.declared.strand.Spawns.{Spawns}
 use Rattle.cw_strand.specs.declared.strand.Step.{Step}
 use Rattle.cw_strand.specs.declared.strand.Step.TheVariants as step
 use Rattle.cw_strand.specs.Holds.{its_end, outs, IsAtSync, IsGoing, IsRunning}
-use Rattle.cw_strand.specs.Losing.{LeavesBy, StandsAs, WasGivenUp}
+use Rattle.cw_strand.specs.Losing.{LeavesBy, KeepsMode, WasGivenUp}
 use Rattle.cw_strand.specs.Moves.{HasCome, hands_out, HandsOutAt, ComesOr, ComesWithin, AdvancesBy, CountsBy, EndsAfter, EndsAt, EndsCall, EndsStill, IsAtLimit, IsBefore, IsStill, KeptBy, LeadsTo}
 use Rattle.cw_strand.specs.Moves.{PausesBy, RunsOn, StaysWithin, StopsFor}
 use Rattle.cw_strand.proofs.Losing.{comes_from, going_not_memory, going_not_over, over_not_going, over_not_memory}
@@ -174,7 +174,7 @@ leaves_from advance.Ran old mid new going not h = going
 leaves_from (advance.Came (step.Spawned job)) old mid new going not h = h
 leaves_from (advance.Came step.AtSync) old mid new going not h = inl (going, not_after h)
   where
-    not_after : StandsAs mid new → WasGivenUp new → ⊥
+    not_after : KeepsMode mid new → WasGivenUp new → ⊥
     not_after (inl went) = went.1
     not_after (inr same) = λ up. not (sym same ∙ up)
 leaves_from (advance.Came (step.Ended e)) old mid new going not h = comes_from e old mid (inl (going, not)) h

@@ -16,7 +16,7 @@ use Rattle.cw_jobs.specs.declared.effect.Effect.TheVariants as effect
 use Rattle.cw_jobs.specs.declared.effect.PieceOutput.{PieceOutput}
 use Rattle.cw_jobs.specs.declared.job.Job.{Job}
 use Rattle.cw_jobs.specs.Jobs.{code_of, IsJob, KeepsHomes}
-use Rattle.cw_jobs.specs.Means.{Tells, MeansIt, IsMeaningOf}
+use Rattle.cw_jobs.specs.Means.{Tracks, MeansIt, IsMeaningOf}
 use Rattle.cw_machine.specs.Arrays.{IsFit}
 use Rattle.cw_strand.specs.Giving.{GivesBack}
 
@@ -52,7 +52,7 @@ module _ (v : Verified) (is : IsFit v) (q : Parts) (j : jobs.Job) where
       subst (KeepsHomes q.rest.slices.items back) g.1 (subst (λ x. KeepsHomes q.rest.slices.items x []) g.0 m.homes)
 
   -- the cost of the effect of the definitions
-  cost_told : (e : Effect) (cost : ℕ) (d : jobs.Effect) → CostsAs e cost → Tells (code_view v.code) j q.rest e d → cost_of d ≡ cost
+  cost_told : (e : Effect) (cost : ℕ) (d : jobs.Effect) → CostsAs e cost → Tracks (code_view v.code) j q.rest e d → cost_of d ≡ cost
   cost_told (effect.Ended value shown) cost d c t = absurd c
   cost_told (effect.Memory b) cost d c t = absurd c
   cost_told (effect.OverLimit b) cost d c t = absurd c
@@ -71,7 +71,7 @@ module _ (v : Verified) (is : IsFit v) (q : Parts) (j : jobs.Job) where
   pub cost_in : (e : Effect) (cost : ℕ) → CostsAs e cost → (m : MeansIt v is q e j) → cost_of m.effect ≡ cost
   cost_in e cost c m = cost_told e cost m.effect c m.tells
 
-  over_told : (e : Effect) (d : jobs.Effect) → IsOver e → Tells (code_view v.code) j q.rest e d → d ≡ jobs.OverLimit
+  over_told : (e : Effect) (d : jobs.Effect) → IsOver e → Tracks (code_view v.code) j q.rest e d → d ≡ jobs.OverLimit
   over_told (effect.Ended value shown) d o t = absurd o
   over_told (effect.Memory b) d o t = absurd o
   over_told (effect.GivenUp b) d o t = absurd o
@@ -87,7 +87,7 @@ module _ (v : Verified) (is : IsFit v) (q : Parts) (j : jobs.Job) where
   over_in e o m = over_told e m.effect o m.tells
 
   -- a continuation does not end its call
-  ended_told : (value : _) (shown : PieceOutput) (d : jobs.Effect) → j.extent ≡ ToJoin → Tells (code_view v.code) j q.rest (effect.Ended value shown) d → ⊥
+  ended_told : (value : _) (shown : PieceOutput) (d : jobs.Effect) → j.extent ≡ ToJoin → Tracks (code_view v.code) j q.rest (effect.Ended value shown) d → ⊥
   ended_told value shown (jobs.Ended x arrays u k) e t = differ (sym t.0 ∙ e)
     where
       differ : WholeCall ≡ ToJoin → ⊥

@@ -162,21 +162,21 @@ module _ (keep : (code : Code) → CallsKeep code) (kept : RestsAreKept) (self :
       may self s.ok s.job kept jobs.Memory (up_of self s.ok s.job e none d)))))
 
   -- an effect reports the trap, or that the limit was exceeded, and returns the arrays
-  abbrev pub TellsTrap : Trap → (line : ℕ) → Effect → Type 0
-  TellsTrap trap line (effect.Trapped c l lines cost back) =
+  abbrev pub ReportsTrap : Trap → (line : ℕ) → Effect → Type 0
+  ReportsTrap trap line (effect.Trapped c l lines cost back) =
       (c ≡ trap) × (l ≡ line) × (lines.items ≡ self.run.machine.lines.items) × (cost ≡ self.count) × GivesUp self.run.machine (length self.parts.value.rest.slices.items) back.items
-  TellsTrap trap line _ = ⊥
+  ReportsTrap trap line _ = ⊥
 
-  abbrev pub TellsOver : Effect → Type 0
-  TellsOver (effect.OverLimit back) = GivesUp self.run.machine (length self.parts.value.rest.slices.items) back.items
-  TellsOver _ = ⊥
+  abbrev pub ReportsOverLimit : Effect → Type 0
+  ReportsOverLimit (effect.OverLimit back) = GivesUp self.run.machine (length self.parts.value.rest.slices.items) back.items
+  ReportsOverLimit _ = ⊥
 
   -- an effect reports that the job was given up
   abbrev pub TellsUp : Effect → Type 0
   TellsUp (effect.GivenUp back) = GivesUp self.run.machine (length self.parts.value.rest.slices.items) back.items
   TellsUp _ = ⊥
 
-  trap_it : (trap : Trap) (line : ℕ) (e : Effect) → TellsTrap trap line e → (is : IsFit (its_code self)) (j : jobs.Job)
+  trap_it : (trap : Trap) (line : ℕ) (e : Effect) → ReportsTrap trap line e → (is : IsFit (its_code self)) (j : jobs.Job)
       → IsHalted self is j (jobs.TrapIn trap line self.run.machine.lines.items self.count) → MeansIt (its_code self) is (its_parts self) e j
   trap_it trap line (effect.Ended value shown) t is j h = absurd t
   trap_it trap line (effect.Joined frame replaced shown) t is j h = absurd t
@@ -191,7 +191,7 @@ module _ (keep : (code : Code) → CallsKeep code) (kept : RestsAreKept) (self :
     homes = t.4 (its_parts self).rest.slices.items as_many (given self is j kept (jobs.TrapIn trap line self.run.machine.lines.items self.count) h);
   }
 
-  over_it : (e : Effect) → TellsOver e → (is : IsFit (its_code self)) (j : jobs.Job) → IsHalted self is j jobs.OverLimit → MeansIt (its_code self) is (its_parts self) e j
+  over_it : (e : Effect) → ReportsOverLimit e → (is : IsFit (its_code self)) (j : jobs.Job) → IsHalted self is j jobs.OverLimit → MeansIt (its_code self) is (its_parts self) e j
   over_it (effect.Ended value shown) t is j h = absurd t
   over_it (effect.Joined frame replaced shown) t is j h = absurd t
   over_it (effect.Trapped c l lines cost back) t is j h = absurd t
@@ -219,11 +219,11 @@ module _ (keep : (code : Code) → CallsKeep code) (kept : RestsAreKept) (self :
     homes = t (its_parts self).rest.slices.items as_many (given self is j kept jobs.Memory h);
   }
 
-  pub trap_means : (trap : Trap) (line : ℕ) (e : Effect) → self.mode ≡ mode.Trapped trap line → TellsTrap trap line e → IsMeaningOf (its_job self) e
+  pub trap_means : (trap : Trap) (line : ℕ) (e : Effect) → self.mode ≡ mode.Trapped trap line → ReportsTrap trap line e → IsMeaningOf (its_job self) e
   unfolding IsMeaningOf
   trap_means trap line e at t = λ is j job. ∥∥₁_map (running.holds is j job) (λ d. trap_it trap line e t is j (trap_of self is j trap line at none d))
 
-  pub over_means : (e : Effect) → self.mode ≡ mode.Over → TellsOver e → IsMeaningOf (its_job self) e
+  pub over_means : (e : Effect) → self.mode ≡ mode.Over → ReportsOverLimit e → IsMeaningOf (its_job self) e
   unfolding IsMeaningOf
   over_means e at t = λ is j job. ∥∥₁_map (running.holds is j job) (λ d. over_it e t is j (over_of self is j at none d))
 

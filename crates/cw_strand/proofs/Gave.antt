@@ -25,7 +25,7 @@ use Rattle.cw_strand.specs.declared.strand.Mode.{Mode}
 use Rattle.cw_strand.specs.declared.strand.Mode.TheVariants as mode
 use Rattle.cw_strand.specs.declared.strand.Strand.{Strand}
 use Rattle.cw_strand.specs.Holds.{its_parts, its_code, lent_parts, Ground, ok_with, Stands, HeldIn, Holds, IsRunning, IsWaiting, HasStopped, stops, is_lost}
-use Rattle.cw_strand.specs.Moves.{MayPopHome, MayReach, HasPoppedHome, HasLost}
+use Rattle.cw_strand.specs.Moves.{MayReturnNewest, MayReach, HasReturnedNewest, HasLost}
 use Rattle.cw_strand.specs.Giving.{passes_limit, IsOfRest, GivesBack}
 use Rattle.cw_strand.proofs.Course.{wants}
 use Rattle.cw_strand.proofs.RunsOn.{sound_of, IsHeldBack, waiting_of}
@@ -79,7 +79,7 @@ module _ (self : Strand) (job : Job) (others : List Job) (newest : Newest self j
           ∥∥₁_map (homes_at s.ok s.job d.ground h) (λ k. may_home self job others newest s.ok s.job d.ground h back replaced k)))
 
       -- A STRAND THAT HAS STOPPED
-      pub may_stopped : HasStopped self → MayPopHome self back replaced
+      pub may_stopped : HasStopped self → MayReturnNewest self back replaced
       may_stopped stopped = record {
         newest = newest.lent;
         older = newest.rest;
@@ -88,7 +88,7 @@ module _ (self : Strand) (job : Job) (others : List Job) (newest : Newest self j
         home = λ known. may_come (λ is j d. stands_in self job others newest is j d.ground self.mode d.strand stopped known d.held);
       }
 
-      pub stopped_runs : HasStopped self → (new : Strand) → HasPoppedHome self back replaced new → IsRunning new
+      pub stopped_runs : HasStopped self → (new : Strand) → HasReturnedNewest self back replaced new → IsRunning new
       stopped_runs stopped new home = stops_on self job others newest running stopped back replaced new (came_home self back replaced new home)
           (spare_as self new home.spares home.of running.spares) homes_at
 
@@ -102,7 +102,7 @@ module _ (self : Strand) (job : Job) (others : List Job) (newest : Newest self j
           remains = remain v (ok_with g h.waited.runs.outs) self.run.machine (under g.base h.state) h.waited.runs.shows.shows;
         }
 
-        pub may_waits : MayPopHome self back replaced
+        pub may_waits : MayReturnNewest self back replaced
         may_waits = record {
           newest = newest.lent;
           older = newest.rest;
@@ -115,7 +115,7 @@ module _ (self : Strand) (job : Job) (others : List Job) (newest : Newest self j
         known = subst (λ m. is_lost m ≡ false) (sym waiting) refl
 
         -- the strand stops because of its limit
-        module _ (keep : (code : Code) → CallsKeep code) (new : Strand) (home : HasPoppedHome self back replaced (record new { mode = self.mode })) where
+        module _ (keep : (code : Code) → CallsKeep code) (new : Strand) (home : HasReturnedNewest self back replaced (record new { mode = self.mode })) where
           left : reverse new.lent.items ≡ newest.rest
           left = home.left newest.lent newest.rest newest.are
 
@@ -161,8 +161,8 @@ module _ (self : Strand) (job : Job) (others : List Job) (newest : Newest self j
               gave_limit code (keep code) j jo h.state h.count (rests self job others newest is j g h) (waits self job others newest is j g h) m.effect (over_in v is q jo e is_over m) m.means)
 
 -- the arrays that returned, for every mode of the strand afterwards
-pub mode_back : (self : Strand) (back : List Placed) (replaced : List (Option Placed)) (popped : Strand) → HasPoppedHome self back replaced popped
-    → HasPoppedHome self back replaced (record popped { mode = self.mode })
+pub mode_back : (self : Strand) (back : List Placed) (replaced : List (Option Placed)) (popped : Strand) → HasReturnedNewest self back replaced popped
+    → HasReturnedNewest self back replaced (record popped { mode = self.mode })
 mode_back self back replaced popped home = record {
   of = home.of;
   parts = home.parts;

@@ -12,7 +12,7 @@ use Rattle.cw_code.specs.Fits.{Fits, slots_lent}
 use Rattle.cw_code.specs.Run.{State}
 use Rattle.cw_code.specs.Good.{FitSettles}
 use Rattle.cw_code.specs.Staying.{SeatsLie}
-use Rattle.cw_jobs.specs.Strands.{CallsKeepMeters, CountsEffect, TellsAll, site_at, MeansMeasured}
+use Rattle.cw_jobs.specs.Strands.{CallsKeepMeters, CountsEffect, TracksAll, site_at, MeansMeasured}
 use Rattle.cw_meter.specs.declared.detail.Detail.{Detail}
 use Rattle.cw_greedy.specs.declared.recorder.Recorder.{Recorder}
 use Rattle.cw_greedy.specs.Recording.{RecordsIn}
@@ -22,7 +22,7 @@ use Rattle.cw_meter.specs.Details.{IsSite}
 use Rattle.cw_meter.specs.Origins as origins
 use Rattle.cw_meter.specs.Meters.{Meters, Rests}
 use Rattle.cw_code.specs.Jobs as jobs
-use Rattle.cw_code.specs.Jobs.{Standing, JobMeaning}
+use Rattle.cw_code.specs.Jobs.{JoinFrame, JobMeaning}
 use Rattle.cw_code.specs.Over.{under}
 use Rattle.cw_code.specs.Strands.{Going, Waits, resumed}
 use Rattle.cw_code.specs.RestsStay.{RestsStayInside}
@@ -36,7 +36,7 @@ use Rattle.cw_jobs.specs.declared.effect.PieceOutput.{PieceOutput}
 use Rattle.cw_jobs.specs.declared.job.Job.{Job}
 use Rattle.cw_jobs.specs.Jobs.{origin_of, KeepsHomes, KeepsEmpty, KeepsFixed}
 use Rattle.cw_jobs.specs.Calls.{HoldsFrame}
-use Rattle.cw_jobs.specs.Means.{HasShown, Tells, Counts, MeansIt, IsMeaningOf}
+use Rattle.cw_jobs.specs.Means.{HasShown, Tracks, Counts, MeansIt, IsMeaningOf}
 use Rattle.cw_machine.specs.declared.run.Run.{Run}
 use Rattle.cw_machine.specs.Arrays.{IsFit}
 use Rattle.cw_machine.specs.Calls.{loans_of}
@@ -68,7 +68,7 @@ record_at a b count es r h = record {
 }
 
 -- if not all measures are counted, a meter knows no site of a continuation, and needs none
-at_site : (code : Code) (d : Detail) (a b : ℕ) (frame : Standing) (t : Trace) (cost : ℕ) (m : Meter) → IsSite d a b
+at_site : (code : Code) (d : Detail) (a b : ℕ) (frame : JoinFrame) (t : Trace) (cost : ℕ) (m : Meter) → IsSite d a b
     → CountsEffect code d a (jobs.Joined frame t cost) m → CountsEffect code d b (jobs.Joined frame t cost) m
 at_site code Values a b frame t cost m e h = λ g q.
     let A : Detail → Type 0 = λ x. Meters x g.tags (origins.Rest a) cost [] t.events m in
@@ -88,7 +88,7 @@ IsJoin _ frame replaced shown = ⊥
 
 -- the facts that the effect states about the continuation
 record Came (v : Verified) (is : IsFit v) (q : Parts) (j : jobs.Job) (back : Rest) (replaced : List (Option Placed)) (shown : PieceOutput) : Type 0 where
-  pub frame : Standing
+  pub frame : JoinFrame
   pub trace : Trace
   pub cost : ℕ
   pub means : JobMeaning (code_view v.code) j (jobs.Joined frame trace cost)
@@ -109,7 +109,7 @@ came_of v is q j (effect.GivenUp b) back replaced shown i m = absurd i
 came_of v is q j (effect.Joined f r x) back replaced shown i m =
     subst (λ z. Came v is q j back replaced z) i.2 (subst (λ z. Came v is q j back z x) i.1 (subst (λ z. Came v is q j z r.items x) i.0 (at m.effect m.means m.tells m.counts)))
   where
-    at : (d : jobs.Effect) → JobMeaning (code_view v.code) j d → Tells (code_view v.code) j q.rest (effect.Joined f r x) d
+    at : (d : jobs.Effect) → JobMeaning (code_view v.code) j d → Tracks (code_view v.code) j q.rest (effect.Joined f r x) d
         → Counts (code_view v.code) q.detail q.site (effect.Joined f r x) d → Came v is q j f r.items x
     at (jobs.Ended y arrays u k) means tells counts = absurd tells
     at (jobs.TrapIn trap line lines k) means tells counts = absurd tells
@@ -202,11 +202,11 @@ module _ (self : Strand) (job : Job) (others : List Job) (newest : Newest self j
             (subst (λ b. CountsEffect code b q.site (jobs.Joined came.frame came.trace came.cost) shown.meter) sp.is_lent.detail came.counts);
       }
 
-      tells_now : TellsAll code p.detail (origin_of p) (Going now (h.count + came.cost) rs) r.meter
+      tells_now : TracksAll code p.detail (origin_of p) (Going now (h.count + came.cost) rs) r.meter
       tells_now =
           let n = h.waited.runs.counts in
-          let was : TellsAll code p.detail (origin_of p) (Waits h.state h.count (jo ∷ rs)) self.run.meter =
-          let told = subst (λ k. TellsAll code p.detail (origin_of p) (Going h.state k []) self.run.meter) (sym n) h.waited.runs.shows.tells in
+          let was : TracksAll code p.detail (origin_of p) (Waits h.state h.count (jo ∷ rs)) self.run.meter =
+          let told = subst (λ k. TracksAll code p.detail (origin_of p) (Going h.state k []) self.run.meter) (sym n) h.waited.runs.shows.tells in
           λ g b. (told g b, h.waited.spawned) in
           let small : j.limit ≤ MOST_LIMIT = subst (λ l. l ≤ MOST_LIMIT) (sym g.job.limit) running.keeps.range in
           (meters code p.detail).giving (origin_of p) j jo h.state h.count came.cost rs came.frame came.trace self.run.meter shown.meter r.meter
@@ -228,8 +228,8 @@ module _ (self : Strand) (job : Job) (others : List Job) (newest : Newest self j
                 lends = subst (Lends v is p g.base h.waited.others sp.others) (sym left) sp.rest;
                 shows = record {
                   shows = subst (λ (x : Run). Shows v (ok_with g sp.others) x.machine (under g.base now)) (sym run_is) shows_now;
-                  tells = subst (λ (x : Run). TellsAll code p.detail (origin_of p) (Going now new.count []) x.meter) (sym run_is)
-                      (subst (λ k. TellsAll code p.detail (origin_of p) (Going now k []) r.meter) total tells_now);
+                  tells = subst (λ (x : Run). TracksAll code p.detail (origin_of p) (Going now new.count []) x.meter) (sym run_is)
+                      (subst (λ k. TracksAll code p.detail (origin_of p) (Going now k []) r.meter) total tells_now);
                 };
                 frozen = frozen self job others newest is j g h stay seats settles came.frame came.trace came.cost came.means;
               };

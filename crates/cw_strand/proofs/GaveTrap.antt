@@ -16,7 +16,7 @@ use Rattle.cw_jobs.specs.declared.effect.Effect.{Effect}
 use Rattle.cw_jobs.specs.declared.effect.Effect.TheVariants as effect
 use Rattle.cw_jobs.specs.declared.job.Job.{Job}
 use Rattle.cw_jobs.specs.Jobs.{extent_of}
-use Rattle.cw_jobs.specs.Means.{Tells, IsMeaningOf}
+use Rattle.cw_jobs.specs.Means.{Tracks, IsMeaningOf}
 use Rattle.cw_machine.specs.declared.run.Run.{Run}
 use Rattle.cw_machine.specs.Arrays.{IsFit}
 use Rattle.cw_machine.specs.Shows.{Remains}
@@ -24,7 +24,7 @@ use Rattle.cw_machine.specs.Unwinding.{ShownRemain}
 use Rattle.cw_strand.specs.declared.strand.Mode.TheVariants as mode
 use Rattle.cw_strand.specs.declared.strand.Strand.{Strand}
 use Rattle.cw_strand.specs.Holds.{its_parts, its_code, lent_parts, ok_with, HeldIn, IsRunning, IsWaiting, is_lost}
-use Rattle.cw_strand.specs.Moves.{MayPopHome, Reaches, HasPoppedHome}
+use Rattle.cw_strand.specs.Moves.{MayReturnNewest, Reaches, HasReturnedNewest}
 use Rattle.cw_strand.specs.Giving.{passes_limit, GivesBack}
 use Rattle.cw_strand.proofs.RunsOn.{waiting_of}
 use Rattle.cw_strand.proofs.Same.{Newest}
@@ -39,7 +39,7 @@ IsTrap (effect.Trapped c l ls n b) trap line lines cost back = (c ≡ trap) × (
 IsTrap _ trap line lines cost back = ⊥
 
 trap_told : (v : Verified) (is : IsFit v) (q : Parts) (j : jobs.Job) (e : Effect) (trap : Trap) (line : ℕ) (lines : List ℤ) (cost : ℕ)
-    (back : List Placed) (d : jobs.Effect) → IsTrap e trap line lines cost back → Tells (code_view v.code) j q.rest e d → d ≡ jobs.TrapIn trap line lines cost
+    (back : List Placed) (d : jobs.Effect) → IsTrap e trap line lines cost back → Tracks (code_view v.code) j q.rest e d → d ≡ jobs.TrapIn trap line lines cost
 trap_told v is q j (effect.Ended value shown) trap line lines cost back d i t = absurd i
 trap_told v is q j (effect.Joined f r s) trap line lines cost back d i t = absurd i
 trap_told v is q j (effect.OverLimit b) trap line lines cost back d i t = absurd i
@@ -73,10 +73,10 @@ module _ (self : Strand) (job : Job) (others : List Job) (newest : Newest self j
   q = lent_parts newest.lent
 
   -- the arrays may return to the strand
-  pub may_trapped : MayPopHome mid back []
+  pub may_trapped : MayReturnNewest mid back []
   may_trapped =
       let m = may_waits self job others newest running e means back [] (trap_back e trap line lines cost back told) waiting remain in
-      subst (λ z. MayPopHome z back []) (sym mid_is) (record {
+      subst (λ z. MayReturnNewest z back []) (sym mid_is) (record {
         newest = m.newest;
         older = m.older;
         are = m.are;
@@ -96,7 +96,7 @@ module _ (self : Strand) (job : Job) (others : List Job) (newest : Newest self j
         });
       })
 
-  module _ (keep : (code : Code) → CallsKeep code) (new popped : Strand) (home : HasPoppedHome mid back [] popped) (passes : passes_limit self cost ≡ false)
+  module _ (keep : (code : Code) → CallsKeep code) (new popped : Strand) (home : HasReturnedNewest mid back [] popped) (passes : passes_limit self cost ≡ false)
       (new_is : new ≡ record popped { count = self.count + cost; mode = mode.Trapped trap line }) where
     n_lent : new.lent ≡ popped.lent
     n_lent = ap (λ (z : Strand). z.lent) new_is

@@ -12,7 +12,7 @@ use Rattle.cw_code.specs.Staying.{SeatsLie, IsInside}
 use Rattle.cw_code.specs.lemmas.Lying.{outermost_is}
 use Rattle.cw_code.specs.lemmas.Slots.{not_in_first, not_in_second}
 use Rattle.cw_code.specs.Jobs as jobs
-use Rattle.cw_code.specs.Jobs.{ToJoin, Standing, Came, Arrives, Returns, Falls, Beyond, Lost, course, IsOf, Same, Passed, Short, job_start, JobMeaning, Joined}
+use Rattle.cw_code.specs.Jobs.{ToJoin, JoinFrame, Came, Arrives, Returns, Falls, Beyond, Lost, course, IsOf, Same, Passed, Short, job_start, JobMeaning, Joined}
 use Rattle.cw_code.specs.Over.{beneath, results_under, under}
 use Rattle.cw_code.specs.Strands.{Waits, rest_of, rest_at, resumed}
 use Rattle.cw_code.specs.Promises.{IsStrandOf}
@@ -41,12 +41,12 @@ use Rattle.cw_strand.proofs.Same.{Newest}
 use Rattle.cw_strand.proofs.TakenBack.{Split, split, rest_out, lends_it}
 
 -- the run of a continuation whose effect is at its join reached the join
-pub record ComesThere (code : Code) (job : jobs.Job) (frame : Standing) (t : Trace) : Type 0 where
+pub record ComesThere (code : Code) (job : jobs.Job) (frame : JoinFrame) (t : Trace) : Type 0 where
   pub budget : ℕ
   pub left : ℕ
   pub there : course code job budget ≡ Arrives frame t left
 
-came_of : (code : Code) (job : jobs.Job) (frame : Standing) (t : Trace) (cost : ℕ) (c : Came) → course code job job.limit ≡ c → IsOf c job.limit (Joined frame t cost) → ComesThere code job frame t
+came_of : (code : Code) (job : jobs.Job) (frame : JoinFrame) (t : Trace) (cost : ℕ) (c : Came) → course code job job.limit ≡ c → IsOf c job.limit (Joined frame t cost) → ComesThere code job frame t
 came_of code job frame t cost (Arrives f u left) e is = record {
   budget = job.limit;
   left = left;
@@ -63,7 +63,7 @@ came_of code job frame t cost (Falls trap line lines left) e is = cc
 came_of code job frame t cost Beyond e is = cc
 came_of code job frame t cost Lost e is = absurd is
 
-pub comes_there : (code : Code) (job : jobs.Job) (frame : Standing) (t : Trace) (cost : ℕ) → JobMeaning code job (Joined frame t cost) → ComesThere code job frame t
+pub comes_there : (code : Code) (job : jobs.Job) (frame : JoinFrame) (t : Trace) (cost : ℕ) → JobMeaning code job (Joined frame t cost) → ComesThere code job frame t
 comes_there code job frame t cost (Same is) = came_of code job frame t cost (course code job job.limit) refl is
 comes_there code job frame t cost (Passed e h) = cc
 comes_there code job frame t cost (Short e) = cc
@@ -141,7 +141,7 @@ module _ (self : Strand) (job : Job) (others : List Job) (newest : Newest self j
   none = waits.2.0.none
 
   -- the frame that it reached at the join, by the definitions
-  module _ (stay : RestsStayInside) (seats : (code : Code) (fits : Fits code) → SeatsLie code fits) (settles : FitSettles) (frame : Standing)
+  module _ (stay : RestsStayInside) (seats : (code : Code) (fits : Fits code) → SeatsLie code fits) (settles : FitSettles) (frame : JoinFrame)
       (t : Trace) (cost : ℕ) (means : JobMeaning code out (Joined frame t cost)) where
     shown : Shows v (lending (ok_with g sp.others) sp.out) self.run.machine (under g.base s)
     shown = (lends_it self job others newest is j g h).shows

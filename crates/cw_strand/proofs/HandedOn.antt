@@ -8,7 +8,7 @@ use Rattle.cw_code.specs.Code.{Code, code_view}
 use Rattle.cw_code.specs.Fits.{slots_lent}
 use Rattle.cw_code.specs.Run.{Whole, passed_by}
 use Rattle.cw_meter.specs.Details.{IsSite}
-use Rattle.cw_jobs.specs.Strands.{TellsAll, site_at}
+use Rattle.cw_jobs.specs.Strands.{TracksAll, site_at}
 use Rattle.cw_code.specs.Jobs as jobs
 use Rattle.cw_code.specs.Jobs.{has_come}
 use Rattle.cw_code.specs.Over.{beneath, under}
@@ -138,7 +138,7 @@ module _ (keep : (code : Code) → CallsKeep code) (apart : OutsLieApart) (old m
               lends = subst (Lends v is p c.ground.base (level ∷ c.levels) (o ∷ c.outs)) (sym same) lent_lends;
               shows = record {
                 shows = h.shows;
-                tells = subst (TellsAll (code_view v.code) p.detail (origin_of p) (Going next old.count [])) (sym cut.meter) c.at.1.shows.tells;
+                tells = subst (TracksAll (code_view v.code) p.detail (origin_of p) (Going next old.count [])) (sym cut.meter) c.at.1.shows.tells;
               };
               frozen = c.at.1.may.frozen;
             };

@@ -26,7 +26,7 @@ use Rattle.cw_strand.specs.declared.strand.Mode.TheVariants as mode
 use Rattle.cw_strand.specs.declared.strand.Strand.{Strand}
 use Rattle.cw_strand.specs.Levels.{Level}
 use Rattle.cw_strand.specs.Holds.{its_parts, its_code, lent_parts, Ground, ok_with, IsLent, Lends, Stands, HeldIn, Holds, AreSpare, IsRunning, stops, is_lost, HasStopped}
-use Rattle.cw_strand.specs.Moves.{HasPoppedHome, HasSpared, MayReach, Reaches}
+use Rattle.cw_strand.specs.Moves.{HasReturnedNewest, HasSpared, MayReach, Reaches}
 use Rattle.cw_strand.proofs.RunsOn.{sound_of}
 use Rattle.cw_strand.proofs.Same.{same_strand, spare_as, Newest}
 
@@ -210,12 +210,12 @@ module _ (self : Strand) (job : Job) (others : List Job) (newest : Newest self j
                 let h = stands_in is j d.ground self.mode d.strand stopped e d.held in
                 ∥∥₁_map (homes is j d.ground h) (λ k. held (λ q. stands_on is j d.ground h back replaced k new new.run.machine left (home.home newest.lent newest.rest newest.are e)))
 
-pub came_home : (self : Strand) (back : List Placed) (replaced : List (Option Placed)) (popped : Strand) → HasPoppedHome self back replaced popped → CameHome self back replaced popped
+pub came_home : (self : Strand) (back : List Placed) (replaced : List (Option Placed)) (popped : Strand) → HasReturnedNewest self back replaced popped → CameHome self back replaced popped
 came_home self back replaced popped home = record { of = home.of; parts = home.parts; count = home.count; mode = home.mode; lines = home.lines; left = home.left; home = home.home }
 
 -- the job was skipped
 pub skips : (self : Strand) (job : Job) (others : List Job) (newest : Newest self job others) → IsRunning self → HasStopped self
-    → (back : List Placed) → back ≡ rest_slices self job others newest → (popped new : Strand) → HasPoppedHome self back [] popped
+    → (back : List Placed) → back ≡ rest_slices self job others newest → (popped new : Strand) → HasReturnedNewest self back [] popped
     → HasSpared popped new → IsRunning new
 skips self job others newest running stopped back e popped new home spared =
     stops_on self job others newest running stopped back [] new (record {

@@ -10,10 +10,10 @@ use Rattle.cw_code.specs.Run.{Around, State}
 use Rattle.cw_code.specs.Fits.{Fits}
 use Rattle.cw_code.specs.Staying.{SeatsLie, IsInside}
 use Rattle.cw_code.specs.lemmas.Lying.{outermost_is}
-use Rattle.cw_meter.specs.Meters.{Meters, TellsAsBefore}
+use Rattle.cw_meter.specs.Meters.{Meters, TracksAsBefore}
 use Rattle.cw_meter.specs.Origins.{Main, Rest}
 use Rattle.cw_jobs.specs.Opens.{whole}
-use Rattle.cw_jobs.specs.Strands.{CallsKeepMeters, TellsAll}
+use Rattle.cw_jobs.specs.Strands.{CallsKeepMeters, TracksAll}
 use Rattle.cw_code.specs.Jobs as jobs
 use Rattle.cw_code.specs.Jobs.{ToJoin, has_come, standing, JobMeaning}
 use Rattle.cw_code.specs.Over.{under}
@@ -212,7 +212,7 @@ module _ (keep : (code : Code) → CallsKeep code) (self : Strand) (limit : ℕ)
           EndsJob v self.run.machine (length (its_parts self).rest.slices.items) frame replaced.items × IsShown r self.count shown
       TellsJoin r _ = ⊥
 
-      join_it : (r : Run) → TellsAsBefore self.run.meter r.meter → r.machine.lines.items ≡ self.run.machine.lines.items
+      join_it : (r : Run) → TracksAsBefore self.run.meter r.meter → r.machine.lines.items ≡ self.run.machine.lines.items
           → r.machine.totals.items ≡ self.run.machine.totals.items → (e : Effect) → TellsJoin r e → (is : IsFit (its_code self)) (j : jobs.Job)
           → CameTo self limit stop.Joined is j → MeansIt (its_code self) is (its_parts self) e j
       join_it r m l u (effect.Ended value shown) t is j c = absurd t
@@ -224,9 +224,9 @@ module _ (keep : (code : Code) → CallsKeep code) (self : Strand) (limit : ℕ)
           let at = c.at.1 in
           let ends = t.0 is j p.rest c.state (has_come_to stay seats is j c) refl in
           let e0 = c.at.0 in
-          let tells0 : TellsAll code p.detail (Rest p.site) (Going c.state c.later []) self.run.meter =
-          subst (λ n. TellsAll code p.detail (Rest p.site) (Going c.state n []) self.run.meter) e0
-          (subst (λ y. TellsAll code p.detail (begins_at y p.site) (Going c.state self.count []) self.run.meter) (joins stay seats is j c) at.shows.tells) in
+          let tells0 : TracksAll code p.detail (Rest p.site) (Going c.state c.later []) self.run.meter =
+          subst (λ n. TracksAll code p.detail (Rest p.site) (Going c.state n []) self.run.meter) e0
+          (subst (λ y. TracksAll code p.detail (begins_at y p.site) (Going c.state self.count []) self.run.meter) (joins stay seats is j c) at.shows.tells) in
           let measured = (meters code p.detail).arriving j p.site c.state c.later self.run.meter (is_of stay seats is j c) (j_come stay seats is j c) tells0 in
           record {
             effect = jobs.Joined (standing c.state) c.state.trace c.later;
@@ -243,7 +243,7 @@ module _ (keep : (code : Code) → CallsKeep code) (self : Strand) (limit : ℕ)
             homes = (ends.homes, ends.fixed);
           }
 
-      pub join_means : (r : Run) → TellsAsBefore self.run.meter r.meter → r.machine.lines.items ≡ self.run.machine.lines.items
+      pub join_means : (r : Run) → TracksAsBefore self.run.meter r.meter → r.machine.lines.items ≡ self.run.machine.lines.items
           → r.machine.totals.items ≡ self.run.machine.totals.items → (e : Effect) → TellsJoin r e → IsMeaningOf (its_job self) e
       unfolding IsMeaningOf
       join_means r m l u e t = λ is j job. ∥∥₁_map (h.comes is j job) (λ c. join_it r m l u e t is j c)

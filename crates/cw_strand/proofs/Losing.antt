@@ -12,7 +12,7 @@ use Rattle.cw_strand.specs.declared.strand.Mode.TheVariants as mode
 use Rattle.cw_strand.specs.declared.strand.Strand.{Strand}
 use Rattle.cw_strand.specs.Giving.{IsMemory}
 use Rattle.cw_strand.specs.Holds.{stops, has_failed, IsGoing}
-use Rattle.cw_strand.specs.Losing.{MayStop, WasGivenUp, StandsAs, ComesFrom, LeavesAt, GoesOn, TellsFailure}
+use Rattle.cw_strand.specs.Losing.{MayStop, WasGivenUp, KeepsMode, ComesFrom, LeavesAt, GoesOn, ReportsFailure}
 
 -- a strand that has stopped for another reason did not run out of memory
 pub lacks_not : (m : Mode) → stops m ≡ true → has_failed m ≡ false → (m ≡ mode.Going) ⊎ (has_failed m ≡ true) → ⊥
@@ -81,7 +81,7 @@ pub over_not_going : mode.Over ≡ mode.Going → ⊥
 over_not_going e = cc
 
 -- memory that was wanting is a failure
-pub memory_fails : (e : Effect) → IsMemory e → TellsFailure e
+pub memory_fails : (e : Effect) → IsMemory e → ReportsFailure e
 memory_fails (effect.Ended value shown) m = absurd m
 memory_fails (effect.Joined frame replaced shown) m = absurd m
 memory_fails (effect.Trapped trap line lines cost back) m = absurd m
@@ -89,21 +89,21 @@ memory_fails (effect.OverLimit back) m = absurd m
 memory_fails (effect.Memory back) m = tt
 memory_fails (effect.GivenUp back) m = absurd m
 
-went_before : (old mid : Strand) → StandsAs old mid → IsGoing mid → IsGoing old
+went_before : (old mid : Strand) → KeepsMode old mid → IsGoing mid → IsGoing old
 went_before old mid (inl going) g = going.0
 went_before old mid (inr same) g = sym same ∙ g
 
-stopped_before : (m : Mode) (old mid : Strand) → StandsAs old mid → MayStop m mid → MayStop m old
+stopped_before : (m : Mode) (old mid : Strand) → KeepsMode old mid → MayStop m mid → MayStop m old
 stopped_before m old mid (inl going) l = inl going.0
 stopped_before m old mid (inr same) (inl g) = inl (sym same ∙ g)
 stopped_before m old mid (inr same) (inr stopped) = inr (sym same ∙ stopped)
 
-given_up_before : (old mid : Strand) → StandsAs old mid → WasGivenUp mid → WasGivenUp old
+given_up_before : (old mid : Strand) → KeepsMode old mid → WasGivenUp mid → WasGivenUp old
 given_up_before old mid (inl going) up = absurd (going.1 up)
 given_up_before old mid (inr same) up = sym same ∙ up
 
 -- an effect, stated for the strand before
-pub comes_from : (e : Effect) (old mid : Strand) → StandsAs old mid → ComesFrom e mid → ComesFrom e old
+pub comes_from : (e : Effect) (old mid : Strand) → KeepsMode old mid → ComesFrom e mid → ComesFrom e old
 comes_from (effect.Ended value shown) old mid s c = went_before old mid s c
 comes_from (effect.Joined frame replaced shown) old mid s c = went_before old mid s c
 comes_from (effect.Trapped trap line lines cost back) old mid s c = stopped_before (mode.Trapped trap line) old mid s c

@@ -11,7 +11,7 @@ use Rattle.cw_code.specs.Run.{Readers, Around, State, Transition, On, Ends, Stop
 use Rattle.cw_code.specs.Good.{GoodState, FitSteps, FitSettles}
 use Rattle.cw_code.specs.Frozen.{IsFrozenAt, JoinsInside, FrozenStay, outermost_arrays}
 use Rattle.cw_code.specs.Staying.{outermost}
-use Rattle.cw_code.specs.Jobs.{ToJoin, joins, is_first, has_come, Standing, standing, Came, Arrives, Beyond, moved, travel}
+use Rattle.cw_code.specs.Jobs.{ToJoin, joins, is_first, has_come, JoinFrame, standing, Came, Arrives, Beyond, moved, travel}
 use Rattle.cw_code.specs.Over.{beneath, under, transition_under}
 use Rattle.cw_code.specs.lemmas.Budgets.{come_at, none_left, go_one}
 use Rattle.cw_code.specs.lemmas.JobsFit.{Upon, LiftedTransition, lifted_step}
@@ -21,7 +21,7 @@ use Rattle.cw_jobs.specs.Jobs.{own_or, KeepsHomes}
 use Rattle.cw_jobs.specs.lemmas.Homes.{own_home}
 use Rattle.cw_machine.specs.lemmas.Rounds.{round_many}
 
-frame_in : Came → Standing → Standing
+frame_in : Came → JoinFrame → JoinFrame
 frame_in (Arrives frame t left) other = frame
 frame_in _ other = other
 
@@ -59,7 +59,7 @@ module _ (code : Code) (fits : Fits code) (steps : FitSteps code fits) (settles 
       at [] e k = k
       at (x ∷ around) e k = cc
 
-  pub frozen_arrives : (n : ℕ) (s : State) (frame : Standing) (t : Trace) (left : ℕ) → IsHeld s → travel ToJoin code n s ≡ Arrives frame t left
+  pub frozen_arrives : (n : ℕ) (s : State) (frame : JoinFrame) (t : Trace) (left : ℕ) → IsHeld s → travel ToJoin code n s ≡ Arrives frame t left
       → IsFrozenAt code fits (outermost frame.place b.around) depth a
   unfolding frame_in
   frozen_arrives zero s frame t left h e = cases (has_come ToJoin code s) refl
@@ -68,7 +68,7 @@ module _ (code : Code) (fits : Fits code) (steps : FitSteps code fits) (settles 
       none k = cc
 
       cases : (c : Bool) → has_come ToJoin code s ≡ c → IsFrozenAt code fits (outermost frame.place b.around) depth a
-      cases true come = subst (λ (f : Standing). IsFrozenAt code fits (outermost f.place b.around) depth a)
+      cases true come = subst (λ (f : JoinFrame). IsFrozenAt code fits (outermost f.place b.around) depth a)
           (ap (λ c. frame_in c (standing s)) (sym (come_at ToJoin code zero s come) ∙ e)) (at_join s come h)
       cases false come = absurd (none (sym (none_left ToJoin code s come) ∙ e))
   frozen_arrives (suc n) s frame t left h e = cases (has_come ToJoin code s) refl (λ s' k e'. frozen_arrives n s' frame t left k e')
@@ -84,7 +84,7 @@ module _ (code : Code) (fits : Fits code) (steps : FitSteps code fits) (settles 
       cases : (c : Bool) → has_come ToJoin code s ≡ c
           → ((s' : State) → IsHeld s' → travel ToJoin code n s' ≡ Arrives frame t left → IsFrozenAt code fits (outermost frame.place b.around) depth a)
           → IsFrozenAt code fits (outermost frame.place b.around) depth a
-      cases true come more = subst (λ (f : Standing). IsFrozenAt code fits (outermost f.place b.around) depth a)
+      cases true come more = subst (λ (f : JoinFrame). IsFrozenAt code fits (outermost f.place b.around) depth a)
           (ap (λ c. frame_in c (standing s)) (sym (come_at ToJoin code (suc n) s come) ∙ e)) (at_join s come h)
       cases false come more = went (step code s) refl come (lifted_step code fits steps settles ToJoin (Upon b) s come h.good) more (sym (go_one ToJoin code n s come) ∙ e)
 

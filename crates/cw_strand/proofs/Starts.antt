@@ -12,7 +12,7 @@ use Rattle.cw_code.specs.Jobs.{job_start}
 use Rattle.cw_code.specs.Over.{under}
 use Rattle.cw_code.specs.Strands.{Going}
 use Rattle.cw_code.specs.Steps.{CallsKeep}
-use Rattle.cw_jobs.specs.Strands.{CallsKeepMeters, StartsFrom, TellsAll}
+use Rattle.cw_jobs.specs.Strands.{CallsKeepMeters, StartsFrom, TracksAll}
 use Rattle.cw_runnable.specs.declared.verified.Verified.{Verified}
 use Rattle.cw_jobs.specs.declared.call.Extent.{Extent}
 use Rattle.cw_jobs.specs.declared.call.Extent.TheVariants as extent
@@ -23,7 +23,7 @@ use Rattle.cw_machine.specs.declared.machine.Machine.{Machine}
 use Rattle.cw_machine.specs.Arrays.{IsFit}
 use Rattle.cw_machine.specs.Shows.{Shows, SharesFrozen}
 use Rattle.cw_machine.specs.JobRuns.{ok_of, HoldsOf, OnlyReads, IsEmptied}
-use Rattle.cw_machine.specs.Stretches.{nothing, StandsRound}
+use Rattle.cw_machine.specs.Stretches.{nothing, IsBaseState}
 use Rattle.cw_strand.specs.declared.strand.Mode.TheVariants as mode
 use Rattle.cw_strand.specs.declared.strand.Strand.{Strand}
 use Rattle.cw_strand.specs.Holds.{its_job, its_parts, its_code, Ground, ok_with, Lends, HeldIn, Holds, IsRunning}
@@ -55,7 +55,7 @@ grounded v is p j m job light h reads = at p.extent refl
         job = job;
         light = light;
         base = h.base;
-        round = subst (λ y. StandsRound (extent_of y) h.base) (sym e) (h.is_base.begins, h.is_base.blocks);
+        round = subst (λ y. IsBaseState (extent_of y) h.base) (sym e) (h.is_base.begins, h.is_base.blocks);
         params = h.is_base.good.seat.func.array_params;
         joins = λ e'. (h.is_base, refl);
       };
@@ -69,7 +69,7 @@ grounded v is p j m job light h reads = at p.extent refl
             job = job;
             light = light;
             base = nothing;
-            round = (let P : Extent → Type 0 = λ y. StandsRound (extent_of y) nothing in subst P (sym e) refl);
+            round = (let P : Extent → Type 0 = λ y. IsBaseState (extent_of y) nothing in subst P (sym e) refl);
             params = h.is_base.good.seat.func.array_params;
             joins = λ e'. absurd (differ (sym e ∙ e'));
           };
@@ -109,7 +109,7 @@ module _ (self : Strand) (keep : (code : Code) → CallsKeep code) (meters : Cal
             lends = subst (λ l. Lends v is p g.ground.base [] [] l) (sym (ap reverse none)) tt;
             shows = record {
               shows = g.shows;
-              tells = subst (λ n. TellsAll (code_view v.code) p.detail (origin_of p) (Going (job_start j) n []) self.run.meter) (sym zero)
+              tells = subst (λ n. TracksAll (code_view v.code) p.detail (origin_of p) (Going (job_start j) n []) self.run.meter) (sym zero)
                   ((meters (code_view v.code) p.detail).starting (origin_of p) j self.run.meter meter);
             };
             frozen = g.frozen;

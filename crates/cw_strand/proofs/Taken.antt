@@ -17,7 +17,7 @@ use Rattle.cw_code.specs.Code.{Code, code_view}
 use Rattle.cw_code.specs.Run.{Around, State}
 use Rattle.cw_code.specs.Good.{GoodState}
 use Rattle.cw_code.specs.Fits.{Fits}
-use Rattle.cw_code.specs.Jobs.{Extent, WholeCall, ToJoin, Standing}
+use Rattle.cw_code.specs.Jobs.{Extent, WholeCall, ToJoin, JoinFrame}
 use Rattle.cw_code.specs.Over.{trace_under, under}
 use Rattle.cw_code.specs.Strands.{resumed}
 use Rattle.cw_code.specs.lemmas.Under.{lines_under}
@@ -27,7 +27,7 @@ use Rattle.cw_jobs.specs.lemmas.Totals.{sum_append}
 use Rattle.cw_machine.specs.declared.machine.Machine.{Machine}
 use Rattle.cw_machine.specs.Arrays.{Ok}
 use Rattle.cw_machine.specs.Shows.{Shows}
-use Rattle.cw_machine.specs.Stretches.{StandsRound}
+use Rattle.cw_machine.specs.Stretches.{IsBaseState}
 use Rattle.cw_strand.specs.Giving.{AreJoined, HasTaken}
 
 all_fit : (a b : List (Name × ℤ)) → AllFit a → AllFit b → AllFit (a ++ b)
@@ -103,7 +103,7 @@ appended : {A : Type 0} (b s t : List A) → b ++ (s ++ t) ≡ (b ++ (s ++ [])) 
 appended b s t = sym (append_assoc b s t) ∙ ap (λ z. (b ++ z) ++ t) (sym (append-nil s))
 
 -- a block that continues from its join, with what the continuation has shown
-pub shows_joined : (v : Verified) (ok : Ok v) (m m' : Machine) (totals : List Total) (b s : State) (frame : Standing) (t : Trace)
+pub shows_joined : (v : Verified) (ok : Ok v) (m m' : Machine) (totals : List Total) (b s : State) (frame : JoinFrame) (t : Trace)
     → HasTaken m t.lines totals m' → Shows v ok m (under b (resumed s frame quiet)) → HoldsTotals (code_view v.code) totals t.updates
     → Shows v ok m' (under b (resumed s frame t))
 shows_joined v ok m m' totals b s frame t taken h told =
@@ -112,9 +112,9 @@ shows_joined v ok m m' totals b s frame t taken h told =
     (updates_under b s.around (joined s.trace t) ∙ appended b.trace.updates s.trace.updates t.updates ∙ ap (λ z. z ++ t.updates) (sym (updates_under b s.around (joined s.trace quiet))))
 
 -- the base of a run has shown nothing
-base_quiet : (x : Extent) (b : State) → StandsRound x b → b.trace ≡ quiet
+base_quiet : (x : Extent) (b : State) → IsBaseState x b → b.trace ≡ quiet
 base_quiet WholeCall b e = ap (λ (z : State). z.trace) e
 base_quiet ToJoin b e = e.0
 
-pub lines_shown : (v : Verified) (ok : Ok v) (m : Machine) (x : Extent) (b s : State) → StandsRound x b → Shows v ok m (under b s) → m.lines.items ≡ s.trace.lines
+pub lines_shown : (v : Verified) (ok : Ok v) (m : Machine) (x : Extent) (b s : State) → IsBaseState x b → Shows v ok m (under b s) → m.lines.items ≡ s.trace.lines
 lines_shown v ok m x b s round h = h.holds.shown ∙ lines_under b s.around s.trace ∙ ap (λ (u : Trace). u.lines ++ s.trace.lines) (base_quiet x b round)

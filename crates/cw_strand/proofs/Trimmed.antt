@@ -8,7 +8,7 @@ use Rattle.cw_code.specs.Jobs as jobs
 use Rattle.cw_code.specs.Over.{under}
 use Rattle.cw_code.specs.Strands as strands
 use Rattle.cw_code.specs.Strands.{Going, Waits, Halted}
-use Rattle.cw_meter.specs.Meters.{TellsAsBefore}
+use Rattle.cw_meter.specs.Meters.{TracksAsBefore}
 use Rattle.cw_jobs.specs.Opens.{opens_round}
 use Rattle.cw_jobs.specs.Jobs.{code_of, origin_of}
 use Rattle.cw_machine.specs.Arrays.{IsFit, RemainsIn}
@@ -27,7 +27,7 @@ trimmed self new = record self { run = new.run; spares = new.spares }
 
 module _ (self new : Strand) (trims : Trims (its_code self) self.run.machine new.run.machine) (views : new.run.machine.views.items ≡ self.run.machine.views.items)
     (blocks : new.run.machine.blocks.items ≡ self.run.machine.blocks.items) (lines : new.run.machine.lines.items ≡ self.run.machine.lines.items)
-    (told : TellsAsBefore self.run.meter new.run.meter) where
+    (told : TracksAsBefore self.run.meter new.run.meter) where
   module _ (is : IsFit (its_code self)) (j : jobs.Job) (g : Ground (its_code self) is (its_parts self) j) where
     runs : (levels : List Level) (s : State) (count : ℕ) → Runs self is j g levels s count → Runs (trimmed self new) is j g levels s count
     runs levels s count h = record {

@@ -28,7 +28,7 @@ use Rattle.cw_machine.specs.Shows.{Comes}
 use Rattle.cw_machine.specs.Rests.{with_outs}
 use Rattle.cw_machine.specs.Unwinding.{LieBelow}
 use Rattle.cw_machine.specs.JobRuns.{ok_of, IsBase, IsEmptied}
-use Rattle.cw_machine.specs.Stretches.{calls_in, StandsRound, Setting, ShowsRun}
+use Rattle.cw_machine.specs.Stretches.{calls_in, IsBaseState, Setting, ShowsRun}
 use Rattle.cw_strand.specs.declared.strand.Lent.{Lent}
 use Rattle.cw_strand.specs.declared.strand.Mode.{Mode}
 use Rattle.cw_strand.specs.declared.strand.Mode.TheVariants as mode
@@ -79,7 +79,7 @@ pub record Ground (v : Verified) (is : IsFit v) (p : Parts) (j : jobs.Job) : Typ
   pub job : IsJob v is p j
   pub light : IsLight p.detail
   pub base : State
-  pub round : StandsRound (extent_of p.extent) base
+  pub round : IsBaseState (extent_of p.extent) base
   pub params : ℕ
   pub joins : p.extent ≡ extent.ToJoin → (b : IsBase v is j p.rest base) × (params ≡ b.good.seat.func.array_params)
 

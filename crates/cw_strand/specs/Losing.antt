@@ -26,8 +26,8 @@ abbrev pub WasGivenUp : Strand → Type 0
 WasGivenUp self = self.mode ≡ mode.GivenUp
 
 -- how a strand stands has changed only if it went on, and then it was not given up
-abbrev pub StandsAs : (old new : Strand) → Type 0
-StandsAs old new = (IsGoing old × (WasGivenUp new → ⊥)) ⊎ (new.mode ≡ old.mode)
+abbrev pub KeepsMode : (old new : Strand) → Type 0
+KeepsMode old new = (IsGoing old × (WasGivenUp new → ⊥)) ⊎ (new.mode ≡ old.mode)
 
 -- A STRAND THAT STOOD SO HAS THIS EFFECT: its call has ended, or it is at its join, only if it went on; it says that it was
 -- given up only if it was; and of one that had stopped it says what it had stopped for
@@ -42,13 +42,13 @@ ComesFrom (effect.GivenUp back) self = WasGivenUp self
 -- SO IT STANDS AFTER AN EVENT: it goes on where it handed a job out; else it has changed only if it went on
 abbrev pub Leaves : Step → (old new : Strand) → Type 0
 Leaves (step.Spawned job) old new = IsGoing new
-Leaves step.AtSync old new = StandsAs old new
+Leaves step.AtSync old new = KeepsMode old new
 Leaves (step.Ended e) old new = ComesFrom e old
 
 abbrev pub LeavesAt : Event → (old new : Strand) → Type 0
 LeavesAt (event.Spawned job) old new = IsGoing new
 LeavesAt event.Ran old new = IsGoing old × IsGoing new
-LeavesAt _ old new = StandsAs old new
+LeavesAt _ old new = KeepsMode old new
 
 -- after one instruction, which only one that goes on does, or an event
 abbrev pub LeavesBy : Advance → (old new : Strand) → Type 0
@@ -73,15 +73,15 @@ TakesIn self (effect.Trapped trap line lines cost back) = IsWaiting self × (pas
 TakesIn self _ = ⊥
 
 -- memory was wanting in a rest, or it was given up
-abbrev pub TellsFailure : Effect → Type 0
-TellsFailure (effect.Memory back) = Unit {0}
-TellsFailure (effect.GivenUp back) = Unit {0}
-TellsFailure _ = ⊥
+abbrev pub ReportsFailure : Effect → Type 0
+ReportsFailure (effect.Memory back) = Unit {0}
+ReportsFailure (effect.GivenUp back) = Unit {0}
+ReportsFailure _ = ⊥
 
 -- AN EFFECT MAY LOSE THE STRAND THAT IT IS GIVEN TO: memory was wanting in the strand, or in the rest, or one of them was
 -- given up; or what the rest has shown is taken in
 abbrev pub MayLose : Strand → Effect → Type 0
-MayLose self e = HasFailed self ⊎ TellsFailure e ⊎ TakesIn self e
+MayLose self e = HasFailed self ⊎ ReportsFailure e ⊎ TakesIn self e
 
 -- what an effect counts of a rest that is taken in
 abbrev pub cost_in : Effect → ℕ
@@ -94,12 +94,12 @@ abbrev pub CountsGiven : Effect → (old new : Strand) → Type 0
 CountsGiven e old new = (new.count ≡ old.count) ⊎ (TakesIn old e × (new.count ≡ old.count + cost_in e))
 
 -- an effect states that its job exceeded the limit
-abbrev pub TellsOver : Effect → Type 0
-TellsOver (effect.OverLimit back) = Unit {0}
-TellsOver _ = ⊥
+abbrev pub ReportsOverLimit : Effect → Type 0
+ReportsOverLimit (effect.OverLimit back) = Unit {0}
+ReportsOverLimit _ = ⊥
 
 -- A STRAND EXCEEDS ITS LIMIT BY AN EFFECT that it receives only if it waits, and the rest exceeded the limit or both
 -- together do; otherwise it had exceeded the limit before
 abbrev pub MayExceed : Strand → Effect → Type 0
 MayExceed self e =
-    (self.mode ≡ mode.Over) ⊎ (IsWaiting self × (TellsOver e ⊎ (passes_limit self (cost_in e) ≡ true)))
+    (self.mode ≡ mode.Over) ⊎ (IsWaiting self × (ReportsOverLimit e ⊎ (passes_limit self (cost_in e) ≡ true)))

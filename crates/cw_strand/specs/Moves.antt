@@ -29,7 +29,7 @@ use Rattle.cw_machine.specs.Calls.{listed, loans_of}
 use Rattle.cw_machine.specs.Shows.{StaysBut}
 use Rattle.cw_machine.specs.Hands.{HandsOut}
 use Rattle.cw_machine.specs.JobRuns.{BeginsJob, IsEmptied}
-use Rattle.cw_machine.specs.Unwinding.{ComesHome, MayComeHome}
+use Rattle.cw_machine.specs.Unwinding.{HasReturnedSlices, MayReturnSlices}
 use Rattle.cw_machine.specs.Stretches.{StopsAt}
 use Rattle.cw_strand.specs.declared.strand.Advance.{Advance}
 use Rattle.cw_strand.specs.declared.strand.Advance.TheVariants as advance
@@ -296,12 +296,12 @@ home_of None = record { lender = record { first = 0; slots = 0 }; lent = None; t
 -- slices may come home to where a job comes back to, in a machine of such code
 abbrev pub MayReach : Machine → Verified → Home → List Placed → List (Option Placed) → Type 0
 MayReach m v h back replaced =
-    MayComeHome m h.lender.first h.lender.slots (slots_lent (loans_of v h.lent)) back replaced
+    MayReturnSlices m h.lender.first h.lender.slots (slots_lent (loans_of v h.lent)) back replaced
 
 -- and they did
 abbrev pub Reaches : Machine → Verified → Home → List Placed → List (Option Placed) → Machine → Type 0
 Reaches m v h back replaced m' =
-    ComesHome m h.lender.first h.lender.slots (slots_lent (loans_of v h.lent)) back replaced m'
+    HasReturnedSlices m h.lender.first h.lender.slots (slots_lent (loans_of v h.lent)) back replaced m'
 
 -- a run that did nothing: it is at the join, or at its limit
 abbrev pub IsStill : Stop → Type 0
@@ -325,7 +325,7 @@ pub record StopsFor (stopped : Stop) (limit most : ℕ) (new : Strand) : Type 0 
   pub memory : new.mode ≡ mode.Memory → IsStill stopped → ⊥
 
 -- slices may come home to the newest job out, of a machine of which anything is known
-pub record MayPopHome (self : Strand) (back : List Placed) (replaced : List (Option Placed)) : Type 0 where
+pub record MayReturnNewest (self : Strand) (back : List Placed) (replaced : List (Option Placed)) : Type 0 where
   pub newest : Lent
   pub older : List Lent
   pub are : reverse self.lent.items ≡ newest ∷ older
@@ -333,7 +333,7 @@ pub record MayPopHome (self : Strand) (back : List Placed) (replaced : List (Opt
   pub home : is_lost self.mode ≡ false → ∥ MayReach self.run.machine (its_code self) newest.home back replaced ∥₁
 
 -- they did, and the job is out no more; all else is as it was, but for the blocks of the machine
-pub record HasPoppedHome (old : Strand) (back : List Placed) (replaced : List (Option Placed)) (new : Strand) : Type 0
+pub record HasReturnedNewest (old : Strand) (back : List Placed) (replaced : List (Option Placed)) (new : Strand) : Type 0
   where
     pub of : new.of ≡ old.of
     pub parts : new.parts ≡ old.parts

@@ -14,7 +14,7 @@ use cw_code::crew_laws::{calls_on_a_strand_keep_its_job, rests_stay_in_their_fun
 use cw_code::laws::runs_stay_in_their_functions;
 use cw_jobs::call::Rest;
 use cw_jobs::effect::{Effect, PieceOutput};
-use cw_jobs::laws::calls_keep_what_meters_tell;
+use cw_jobs::laws::calls_keep_meter_records;
 use cw_machine::laws::machines_that_stop_remain;
 use cw_machine::machine::Machine;
 use cw_machine::run::Run;
@@ -113,7 +113,7 @@ impl Strand {
         ensures counts { EndsStill result self.old }
     {
         calls_on_a_strand_keep_its_job();
-        calls_keep_what_meters_tell();
+        calls_keep_meter_records();
         rests_stay_in_their_functions();
         runs_stay_in_their_functions();
         let alloc = *self.lent.allocator();

@@ -16,7 +16,7 @@ use cw_code::crew_laws::{calls_on_a_strand_keep_its_job, rests_stay_in_their_fun
 use cw_code::laws::{results_may_go_back, runs_stay_in_their_functions};
 use cw_jobs::call::Rest;
 use cw_jobs::effect::{Effect, PieceOutput};
-use cw_jobs::laws::calls_keep_what_meters_tell;
+use cw_jobs::laws::calls_keep_meter_records;
 use cw_jobs::totals::joined;
 use cw_machine::laws::machines_that_stop_remain;
 use cw_machine::machine::Machine;
@@ -160,7 +160,7 @@ impl Strand {
         ensures counts { CountsGiven (effect.Joined frame replaced shown) self.old self.new }
     {
         calls_on_a_strand_keep_its_job();
-        calls_keep_what_meters_tell();
+        calls_keep_meter_records();
         machines_that_stop_remain();
         results_may_go_back();
         rests_stay_in_their_functions();
@@ -169,7 +169,7 @@ impl Strand {
         let mut replaced = replaced;
         let cost = shown.cost;
         if self.passes(cost) {
-            self.pop_home(&mut frame.slices, &mut replaced);
+            self.return_newest(&mut frame.slices, &mut replaced);
             self.mode = Mode::Over;
             return;
         }
@@ -217,13 +217,13 @@ impl Strand {
         let mut back = back;
         let mut none = Vec::new(*self.lent.allocator());
         if self.passes(cost) {
-            self.pop_home(&mut back, &mut none);
+            self.return_newest(&mut back, &mut none);
             self.mode = Mode::Over;
             return;
         }
         match take_lines(&mut self.run.machine, lines) {
             Ok(()) => {
-                self.pop_home(&mut back, &mut none);
+                self.return_newest(&mut back, &mut none);
                 self.count += cost;
                 self.mode = Mode::Trapped(trap, line);
             }
@@ -246,7 +246,7 @@ impl Strand {
         machines_that_stop_remain();
         let mut back = back;
         let mut none = Vec::new(*self.lent.allocator());
-        self.pop_home(&mut back, &mut none);
+        self.return_newest(&mut back, &mut none);
         self.mode = Mode::Over;
     }
 
@@ -321,7 +321,7 @@ impl Strand {
             Some((slices, replaced)) => {
                 let mut slices = slices;
                 let mut replaced = replaced;
-                self.pop_home(&mut slices, &mut replaced);
+                self.return_newest(&mut slices, &mut replaced);
             }
             None => self.lose(),
         }

@@ -9,7 +9,7 @@ use crate::strand::{Mode, Strand};
 use cw_code::crew_laws::calls_on_a_strand_keep_its_job;
 use cw_jobs::call::{Extent, Parts};
 use cw_jobs::job::Job;
-use cw_jobs::laws::calls_keep_what_meters_tell;
+use cw_jobs::laws::calls_keep_meter_records;
 use cw_machine::machine::Machine;
 use cw_machine::run::Run;
 use cw_meter::{Detail, Meter};
@@ -54,7 +54,7 @@ impl Strand {
     pub fn start(alloc: Global, job: Job) -> Result<Strand, Job>
         ensures { MatchResult result (λ s. Begins job s) (λ back. back ≡ job) }
     {
-        calls_keep_what_meters_tell();
+        calls_keep_meter_records();
         calls_on_a_strand_keep_its_job();
         let of = Snapshot::of(&job);
         let Job { parts } = job;

@@ -6,7 +6,7 @@ ghost use Rattle.cw_strand.specs.Holds as holds;
 ghost use Rattle.cw_strand.specs.Holds.{outs, HasStopped, IsAtSync, IsGoing, IsRunning, IsWaiting};
 ghost use Rattle.cw_strand.specs.declared.strand.Mode.TheVariants as mode;
 ghost use Rattle.cw_strand.specs.Moves as moves;
-ghost use Rattle.cw_strand.specs.Moves.{HasLost, HasPoppedHome, MayPopHome};
+ghost use Rattle.cw_strand.specs.Moves.{HasLost, HasReturnedNewest, MayReturnNewest};
 
 use crate::lending::loans_named;
 use crate::strand::{Home, Lent, Mode, Strand};
@@ -34,7 +34,7 @@ pub(crate) fn home_of(lent: Option<Lent>) -> Home
 }
 
 // Returns slices to a call of a machine, unless nothing is known of the machine any more.
-fn bring_home(
+fn return_to_lender(
     machine: &mut Machine,
     code: &Verified,
     home: Home,
@@ -52,7 +52,7 @@ fn bring_home(
     if is_lost {
         return;
     }
-    machine.come_home(home.lender, loans_named(code, home.lent), slices, replaced);
+    machine.return_slices(home.lender, loans_named(code, home.lent), slices, replaced);
 }
 
 impl Strand {
@@ -110,14 +110,14 @@ impl Strand {
     }
 
     // Removes the newest job out and returns its arrays to their slots.
-    pub(crate) fn pop_home(&mut self, slices: &mut Vec<Slice>, replaced: &mut Vec<Option<Slice>>)
-        requires { MayPopHome self.old slices.old.items replaced.old.items }
-        ensures { HasPoppedHome self.old slices.old.items replaced.old.items self.new }
+    pub(crate) fn return_newest(&mut self, slices: &mut Vec<Slice>, replaced: &mut Vec<Option<Slice>>)
+        requires { MayReturnNewest self.old slices.old.items replaced.old.items }
+        ensures { HasReturnedNewest self.old slices.old.items replaced.old.items self.new }
     {
         let is_lost = self.is_lost();
         let home = home_of(self.lent.pop());
         let machine = &mut self.run.machine;
-        bring_home(machine, &self.parts.code, home, slices, replaced, is_lost);
+        return_to_lender(machine, &self.parts.code, home, slices, replaced, is_lost);
     }
 
     // Removes the newest job out after memory ran out, so that nothing is known of its arrays.
@@ -145,7 +145,7 @@ impl Strand {
         let Job { parts } = job;
         let mut parts = parts;
         let mut none = Vec::new(*self.lent.allocator());
-        self.pop_home(&mut parts.rest.slices, &mut none);
+        self.return_newest(&mut parts.rest.slices, &mut none);
         self.spare(parts);
     }
 

@@ -1,4 +1,4 @@
 -- Lemmas on recorded reasons; the proofs of the crates above cite them.
 pub mod Kept
 pub mod Order
-pub mod Telling
+pub mod RecordingReasons

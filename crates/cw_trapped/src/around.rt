@@ -3,7 +3,7 @@
 use crate::values::site_at;
 use cw_code::code::{Code, Site};
 use cw_explain::Word;
-use cw_machine::standing::Round;
+use cw_machine::trap_state::Round;
 use cw_model::syntax::CallKind;
 use std::alloc::{AllocError, Global};
 use std::fmt;

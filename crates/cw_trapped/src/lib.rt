@@ -2,7 +2,7 @@
 #![tactic(auto)]
 
 mod around;
-mod telling;
+mod trap_text;
 mod values;
 
-pub use telling::{Trapping, add_trap};
+pub use trap_text::{Trapping, add_trap};

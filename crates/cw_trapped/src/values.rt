@@ -2,7 +2,7 @@
 
 use cw_code::code::{Code, Site, UnaryOperator};
 use cw_explain::Word;
-use cw_machine::standing::Had;
+use cw_machine::trap_state::TrapOperands;
 use cw_model::limits::{MOST_DEPTH, MOST_ELEMENTS, MOST_TURNS};
 use cw_model::syntax::Operator;
 use std::fmt;
@@ -45,31 +45,31 @@ fn unary_sign(operator: UnaryOperator) -> &'static str {
 #[derive(Clone, Copy)]
 pub struct Values<'a> {
     pub code: &'a Code,
-    pub had: Had,
+    pub trap_operands: TrapOperands,
 }
 
 impl fmt::Display for Values<'_> {
     fn fmt<W: fmt::Write>(&self, f: &mut fmt::Formatter<W>) -> fmt::Result {
-        match self.had {
-            Had::Nothing => write!(f, "it has no operands"),
-            Had::One(operator, x) => {
+        match self.trap_operands {
+            TrapOperands::Nothing => write!(f, "it has no operands"),
+            TrapOperands::One(operator, x) => {
                 let sign = unary_sign(operator);
                 write!(f, "the operand of {sign} is {x}")
             }
-            Had::Two(operator, x, y) => {
+            TrapOperands::Two(operator, x, y) => {
                 let sign = sign(operator);
                 write!(f, "the operands of {sign} are {x} and {y}")
             }
-            Had::Index(i, len) => write!(f, "the index is {i}, and the array's length is {len}"),
-            Had::Cut(i, len) => { write!(f, "the array is cut at {i}, and its length is {len}") }
-            Had::Length(n) => {
+            TrapOperands::Index(i, len) => write!(f, "the index is {i}, and the array's length is {len}"),
+            TrapOperands::Cut(i, len) => { write!(f, "the array is cut at {i}, and its length is {len}") }
+            TrapOperands::Length(n) => {
                 write!(
                     f,
                     "the length that is asked for is {n}; it may be 0 to {MOST_ELEMENTS}"
                 )
             }
-            Had::Range(low, high, least) => write_range(f, low, high, least),
-            Had::Call(depth, site) => write_call(f, depth, site_at(self.code, site)),
+            TrapOperands::Range(low, high, least) => write_range(f, low, high, least),
+            TrapOperands::Call(depth, site) => write_call(f, depth, site_at(self.code, site)),
         }
     }
 }

@@ -26,7 +26,7 @@ use Rattle.cw_tree.specs.lemmas.Few.{heads_small, small_head}
 use Rattle.cw_tree.specs.lemmas.Reducers.{is_named}
 use Rattle.cw_tree.specs.lemmas.Names.{among_more, front_among}
 use Rattle.cw_model.specs.declared.syntax.NameKind.TheVariants as name_kind
-use Rattle.cw_model.specs.Syntax.{wants_array}
+use Rattle.cw_model.specs.Syntax.{is_array_param}
 use Rattle.cw_model.specs.declared.syntax.NameKind.{NameKind}
 use Rattle.cw_model.specs.Syntax.{is_array_kind}
 use Rattle.cw_model.specs.lemmas.Fits.{fits_kind, fit_kinds, writable_array, writable_arrays, arguments_fit}
@@ -121,49 +121,49 @@ int_param : (x : Name) (ps : List Param) → is_int (known_of ps) x ≡ true →
 int_param x [] h = cc
 int_param x (p ∷ ps) h = first (is_int (known_of ps) x) refl (int_param x ps)
   where
-    more : is_among x (map (λ (q : Param). q.name) (filter (λ (q : Param). not (wants_array q)) ps)) ≡ true → (s : Bool)
-        → (if s then true else is_among x (map (λ (q : Param). q.name) (filter (λ (q : Param). not (wants_array q)) ps))) ≡ true
+    more : is_among x (map (λ (q : Param). q.name) (filter (λ (q : Param). not (is_array_param q)) ps)) ≡ true → (s : Bool)
+        → (if s then true else is_among x (map (λ (q : Param). q.name) (filter (λ (q : Param). not (is_array_param q)) ps))) ≡ true
     more e true = refl
     more e false = e
 
-    old : is_among x (map (λ (q : Param). q.name) (filter (λ (q : Param). not (wants_array q)) ps)) ≡ true → (c : Bool) →
-        is_among x (map (λ (q : Param). q.name) (if not c then p ∷ filter (λ (q : Param). not (wants_array q)) ps else filter (λ (q : Param). not (wants_array q)) ps)) ≡ true
+    old : is_among x (map (λ (q : Param). q.name) (filter (λ (q : Param). not (is_array_param q)) ps)) ≡ true → (c : Bool) →
+        is_among x (map (λ (q : Param). q.name) (if not c then p ∷ filter (λ (q : Param). not (is_array_param q)) ps else filter (λ (q : Param). not (is_array_param q)) ps)) ≡ true
     old e true = e
     old e false = more e (same_name x p.name)
 
     new : same_name x p.name ≡ true → (c : Bool) → not c ≡ true →
-        is_among x (map (λ (q : Param). q.name) (if not c then p ∷ filter (λ (q : Param). not (wants_array q)) ps else filter (λ (q : Param). not (wants_array q)) ps)) ≡ true
+        is_among x (map (λ (q : Param). q.name) (if not c then p ∷ filter (λ (q : Param). not (is_array_param q)) ps else filter (λ (q : Param). not (is_array_param q)) ps)) ≡ true
     new e true k = cc
-    new e false k = ap (λ s. if s then true else is_among x (map (λ (q : Param). q.name) (filter (λ (q : Param). not (wants_array q)) ps))) e
+    new e false k = ap (λ s. if s then true else is_among x (map (λ (q : Param). q.name) (filter (λ (q : Param). not (is_array_param q)) ps))) e
 
     first : (b : Bool) → is_int (known_of ps) x ≡ b → (is_int (known_of ps) x ≡ true → is_among x (spec.locals_of ps).ints ≡ true) →
         is_among x (spec.locals_of (p ∷ ps)).ints ≡ true
-    first true e before = old (before e) (wants_array p)
-    first false e before = let last = last_known x (λ k. not (is_array_kind k)) (known_of ps) p.name p.kind h e in new last.0 (wants_array p) last.1
+    first true e before = old (before e) (is_array_param p)
+    first false e before = let last = last_known x (λ k. not (is_array_kind k)) (known_of ps) p.name p.kind h e in new last.0 (is_array_param p) last.1
 
 array_param : (x : Name) (ps : List Param) → is_array (known_of ps) x ≡ true → is_among x (spec.locals_of ps).arrays ≡ true
 array_param x [] h = cc
 array_param x (p ∷ ps) h = first (is_array (known_of ps) x) refl (array_param x ps)
   where
-    more : is_among x (map (λ (q : Param). q.name) (filter (λ (q : Param). wants_array q) ps)) ≡ true → (s : Bool)
-        → (if s then true else is_among x (map (λ (q : Param). q.name) (filter (λ (q : Param). wants_array q) ps))) ≡ true
+    more : is_among x (map (λ (q : Param). q.name) (filter (λ (q : Param). is_array_param q) ps)) ≡ true → (s : Bool)
+        → (if s then true else is_among x (map (λ (q : Param). q.name) (filter (λ (q : Param). is_array_param q) ps))) ≡ true
     more e true = refl
     more e false = e
 
-    old : is_among x (map (λ (q : Param). q.name) (filter (λ (q : Param). wants_array q) ps)) ≡ true → (c : Bool) →
-        is_among x (map (λ (q : Param). q.name) (if c then p ∷ filter (λ (q : Param). wants_array q) ps else filter (λ (q : Param). wants_array q) ps)) ≡ true
+    old : is_among x (map (λ (q : Param). q.name) (filter (λ (q : Param). is_array_param q) ps)) ≡ true → (c : Bool) →
+        is_among x (map (λ (q : Param). q.name) (if c then p ∷ filter (λ (q : Param). is_array_param q) ps else filter (λ (q : Param). is_array_param q) ps)) ≡ true
     old e true = more e (same_name x p.name)
     old e false = e
 
     new : same_name x p.name ≡ true → (c : Bool) → c ≡ true →
-        is_among x (map (λ (q : Param). q.name) (if c then p ∷ filter (λ (q : Param). wants_array q) ps else filter (λ (q : Param). wants_array q) ps)) ≡ true
-    new e true k = ap (λ s. if s then true else is_among x (map (λ (q : Param). q.name) (filter (λ (q : Param). wants_array q) ps))) e
+        is_among x (map (λ (q : Param). q.name) (if c then p ∷ filter (λ (q : Param). is_array_param q) ps else filter (λ (q : Param). is_array_param q) ps)) ≡ true
+    new e true k = ap (λ s. if s then true else is_among x (map (λ (q : Param). q.name) (filter (λ (q : Param). is_array_param q) ps))) e
     new e false k = cc
 
     first : (b : Bool) → is_array (known_of ps) x ≡ b → (is_array (known_of ps) x ≡ true → is_among x (spec.locals_of ps).arrays ≡ true) →
         is_among x (spec.locals_of (p ∷ ps)).arrays ≡ true
-    first true e before = old (before e) (wants_array p)
-    first false e before = let last = last_known x is_array_kind (known_of ps) p.name p.kind h e in new last.0 (wants_array p) last.1
+    first true e before = old (before e) (is_array_param p)
+    first false e before = let last = last_known x is_array_kind (known_of ps) p.name p.kind h e in new last.0 (is_array_param p) last.1
 
 agree_params : (ps : List Param) → Agree (known_of ps) (spec.locals_of ps)
 agree_params ps = record { ints = λ x h. int_param x ps h; arrays = λ x h. array_param x ps h }
@@ -225,8 +225,8 @@ fit_arguments : (n : Counts) (known : Known) (l : spec.Locals) → Agree known l
 fit_arguments n known l a r qs ps [] h = refl
 fit_arguments n known l a r qs [] (e ∷ es) h = cc
 fit_arguments n known l a r qs (p ∷ ps) (e ∷ es) h =
-    both (fit_argument n known l a r qs (wants_array p) e (first_true (fits_kind known (wants_array p) e) (fit_kinds known ps es) h))
-    (fit_arguments n known l a r (drop 1 qs) ps es (second_true (fits_kind known (wants_array p) e) (fit_kinds known ps es) h))
+    both (fit_argument n known l a r qs (is_array_param p) e (first_true (fits_kind known (is_array_param p) e) (fit_kinds known ps es) h))
+    (fit_arguments n known l a r (drop 1 qs) ps es (second_true (fits_kind known (is_array_param p) e) (fit_kinds known ps es) h))
 
 fit_target : (n : Counts) (known : Known) (l : spec.Locals) → Agree known l → Room n l → (g : model.Function) (target : Option Name) →
     is_target known g target ≡ true → fits_target n (option_map (spec.use_of l.ints) target) ≡ true

@@ -13,7 +13,7 @@ use Rattle.std.specs.List.{list_any}
 use Rattle.cw_model.specs.declared.syntax.CallKind.{CallKind}
 use Rattle.cw_model.specs.declared.syntax.Operator.{Operator}
 use Rattle.cw_model.specs.declared.syntax.Reduction.{Reduction}
-use Rattle.cw_model.specs.Syntax.{Name, Param, Reducer, wants_array, reads_array}
+use Rattle.cw_model.specs.Syntax.{Name, Param, Reducer, is_array_param, reads_array}
 use Rattle.cw_model.specs.Syntax as model
 use Rattle.cw_model.specs.Names.{same_name, is_among}
 use Rattle.cw_model.specs.Answers.{main_name}
@@ -359,8 +359,8 @@ abbrev mutual
 -- the parameters as locals
 abbrev pub locals_of : List Param → Locals
 locals_of ps = record {
-  ints = map (λ p. p.name) (filter (λ p. not (wants_array p)) ps);
-  arrays = map (λ p. p.name) (filter (λ p. wants_array p) ps);
+  ints = map (λ p. p.name) (filter (λ p. not (is_array_param p)) ps);
+  arrays = map (λ p. p.name) (filter (λ p. is_array_param p) ps);
 }
 
 -- a function with a resolved body; its numbers of slots suffice for the locals that are known at the same time

@@ -8,6 +8,6 @@ pub mod Pushed
 pub mod Heading
 pub mod Misuse
 pub mod Repeating
-pub mod Telling
+pub mod RecordingLines
 pub mod Among
 pub mod Refusing

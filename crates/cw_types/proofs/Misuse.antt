@@ -5,7 +5,7 @@ use Rattle.cw_model.specs.declared.syntax.NameKind.{NameKind}
 use Rattle.cw_model.specs.declared.syntax.NameKind.TheVariants as name_kind
 use Rattle.cw_model.specs.Syntax.{Expr, Variable, Function, Name, Program, is_array_kind}
 use Rattle.cw_model.specs.Typing.{Known, called, is_argument, is_known}
-use Rattle.cw_types.specs.Names.{may_stand}
+use Rattle.cw_types.specs.Names.{accepts_kind}
 use Rattle.cw_tree.specs.declared.syntax.Param.{Param as CodeParam}
 use Rattle.cw_types.specs.Parts.{IsBrokenCall, IsBrokenList}
 use Rattle.cw_tree.specs.declared.syntax.Expr.{Expr as CodeExpr}
@@ -69,7 +69,7 @@ used_alone name_kind.Array a h = refl
 used_alone name_kind.Const a h = refl
 
 pub argument_named : (known : Known) (kind : NameKind) (a : Name) → is_array_kind kind ≡ true →
-    is_argument known kind (Variable a) ≡ is_known a (may_stand kind) known
+    is_argument known kind (Variable a) ≡ is_known a (accepts_kind kind) known
 argument_named known name_kind.Integer a h = cc
 argument_named known name_kind.Array a h = refl
 argument_named known name_kind.Const a h = refl

@@ -14,7 +14,7 @@ use Rattle.cw_model.specs.Typing.{is_known}
 use Rattle.cw_model.specs.lemmas.Names.{turned}
 use Rattle.cw_types.specs.declared.known.Entry.{Entry}
 use Rattle.cw_types.specs.declared.known.Local.{Local}
-use Rattle.cw_types.specs.Names.{IsUnknown, known_as, known_names, may_stand}
+use Rattle.cw_types.specs.Names.{IsUnknown, known_as, known_names, accepts_kind}
 use Rattle.cw_types.specs.Scope.{Declared, kind_and_line, kinds, newest, oldest}
 use Rattle.cw_types.specs.Shadows.{known_from, local_of, with_entry, ShadowsRight, AreNewest}
 
@@ -61,8 +61,8 @@ newest_so x (d ∷ ds) = first (same_name x d.name) (newest_so x ds)
 -- the kind that the lookup of a name found
 pub found_kinds : (x : Name) (ds : List Declared) (found : Option Local) → found ≡ local_of x ds →
     MatchOption found (IsUnknown x (kinds ds)) (λ l. known_as x l.kind (kinds ds))
-found_kinds x ds None h = λ wanted. unknown_so x (may_stand wanted) ds h
-found_kinds x ds (Some l) h = λ wanted. known_so x (may_stand wanted) ds l h
+found_kinds x ds None h = λ wanted. unknown_so x (accepts_kind wanted) ds h
+found_kinds x ds (Some l) h = λ wanted. known_so x (accepts_kind wanted) ds l h
 
 pub found_newest : (x : Name) (ds : List Declared) (found : Option Local) → found ≡ local_of x ds →
     MatchOption found (newest x ds ≡ None) (λ l. option_map kind_and_line (newest x ds) ≡ Some (l.kind, l.line))

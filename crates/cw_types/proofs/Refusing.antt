@@ -13,15 +13,15 @@ use Rattle.cw_text.specs.lemmas.Kept.{first-lowest, first-map, there-map, there-
 use Rattle.cw_types.specs.Faults.{IsPassedAt, IsWithin, refused_lines, where_none}
 use Rattle.cw_types.specs.Limits.{IsPassedByParts}
 use Rattle.cw_types.specs.Named.{functions_named, reducers_named}
-use Rattle.cw_types.specs.Telling.{IsOf, line_told}
-use Rattle.cw_types.specs.ReasonMeaning.{IsNoMain, IsRepeatedIn, IsTold, OfNames, OfProgram}
+use Rattle.cw_types.specs.RecordingLines.{IsOf, recorded_line}
+use Rattle.cw_types.specs.ReasonMeaning.{IsNoMain, IsRepeatedIn, BreaksRule, OfNames, OfProgram}
 use Rattle.cw_types.specs.declared.reason.IllTyped.{IllTyped}
 use Rattle.cw_types.specs.declared.reason.TooLarge.{TooLarge}
-use Rattle.cw_types.specs.declared.told.LeastReason.{LeastReason}
+use Rattle.cw_types.specs.declared.least_reason.LeastReason.{LeastReason}
 use Rattle.cw_types.proofs.Repeating.{behind, in_front}
 
 -- the recorded limit is exceeded in the least line
-pub limit_told : (program : Program) (told : LeastReason TooLarge) → line_told told ≡ lowest None (limit_faults program) →
+pub limit_told : (program : Program) (told : LeastReason TooLarge) → recorded_line told ≡ lowest None (limit_faults program) →
     IsOf (IsPassedByParts program) told → MatchOption told.first (IsWithin program) (IsPassedAt program)
 limit_told program told lines holds = by_case told.first lines holds
   where
@@ -72,12 +72,12 @@ pub all_within : (program : Program) → IsWithin program → refused_lines prog
 all_within program h = ap (λ limits. where_none limits (type_faults program)) h
 
 -- there is no function main
-pub no_main_true : (program : Program) (found : Option IllTyped) → IfSome found (IsNoMain program) → IfSome found (IsTold program 1)
+pub no_main_true : (program : Program) (found : Option IllTyped) → IfSome found (IsNoMain program) → IfSome found (BreaksRule program 1)
 no_main_true program None h = h
 no_main_true program (Some r) h = OfProgram refl h
 
 -- repeated names among functions only or among reducers only
-pub of_functions : (program : Program) (line : ℕ) (r : IllTyped) → IsRepeatedIn (functions_named program.functions) line r → IsTold program line r
+pub of_functions : (program : Program) (line : ℕ) (r : IllTyped) → IsRepeatedIn (functions_named program.functions) line r → BreaksRule program line r
 of_functions program line r h =
     OfNames (record {
       word = h.word;
@@ -86,7 +86,7 @@ of_functions program line r h =
       both = in_front (functions_named program.functions) (reducers_named program.reducers) (h.word.now, h.other) (h.word.now, line) h.both;
     })
 
-pub of_reducers : (program : Program) (line : ℕ) (r : IllTyped) → IsRepeatedIn (reducers_named program.reducers) line r → IsTold program line r
+pub of_reducers : (program : Program) (line : ℕ) (r : IllTyped) → IsRepeatedIn (reducers_named program.reducers) line r → BreaksRule program line r
 of_reducers program line r h =
     OfNames (record {
       word = h.word;

@@ -13,9 +13,9 @@ pub mod Found
 pub mod Named
 pub mod Reasons
 pub mod Parts
-pub mod Standing
+pub mod StmtContext
 pub mod ReasonMeaning
-pub mod Telling
+pub mod RecordingLines
 pub mod Noted
 pub mod Limits
 pub mod Within

@@ -6,18 +6,18 @@ use Rattle.cw_model.specs.Syntax.{Name, Param, Function, is_array_kind, is_writt
 use Rattle.cw_model.specs.Typing.{Known, is_known}
 
 -- the kinds that fit a required kind: an integer, an array that may be written, or any array
-abbrev pub may_stand : NameKind → (NameKind → Bool)
-may_stand Integer = λ kind. not (is_array_kind kind)
-may_stand Array = is_written_kind
-may_stand Const = is_array_kind
+abbrev pub accepts_kind : NameKind → (NameKind → Bool)
+accepts_kind Integer = λ kind. not (is_array_kind kind)
+accepts_kind Array = is_written_kind
+accepts_kind Const = is_array_kind
 
 -- the name is neither a known integer nor a known array
 abbrev pub IsUnknown : Name → Known → Type 0
-IsUnknown x known = (wanted : NameKind) → is_known x (may_stand wanted) known ≡ false
+IsUnknown x known = (wanted : NameKind) → is_known x (accepts_kind wanted) known ≡ false
 
 -- the newest name of this spelling has this kind, and so it fits where this kind fits
 abbrev pub known_as : Name → NameKind → Known → Type 0
-known_as x kind known = (wanted : NameKind) → is_known x (may_stand wanted) known ≡ may_stand wanted kind
+known_as x kind known = (wanted : NameKind) → is_known x (accepts_kind wanted) known ≡ accepts_kind wanted kind
 
 -- the names without their kinds
 abbrev pub known_names : Known → List Name

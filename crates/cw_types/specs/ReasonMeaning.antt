@@ -10,7 +10,7 @@ use Rattle.cw_types.specs.Named.{functions_named, reducers_named}
 use Rattle.cw_types.specs.Names.{function_names, param_names}
 use Rattle.cw_types.specs.Reasons.{IsBroken, IsNotNewIn, named_array}
 use Rattle.cw_types.specs.Scope.{Declared}
-use Rattle.cw_types.specs.Standing.{Standing, standing_of}
+use Rattle.cw_types.specs.StmtContext.{StmtContext, statements_of}
 use Rattle.cw_types.specs.declared.reason.IllTyped.{IllTyped}
 use Rattle.cw_types.specs.declared.reason.IllTyped.TheVariants as reason
 
@@ -88,29 +88,29 @@ BeginsAt line End = ⊥
 BeginsAt line (Then first s b) = first ≡ line
 
 -- a statement follows, in this line, a statement that surely returns
-abbrev pub IsNeverReached : Standing → IllTyped → Type 0
+abbrev pub IsNeverReached : StmtContext → IllTyped → Type 0
 IsNeverReached s (reason.NeverReached line) = (surely_returns s.stmt ≡ true) × BeginsAt line s.behind
 IsNeverReached s _ = ⊥
 
 -- a statement breaks a rule in its context, or the statements after it are never reached
-pub data IsWrongAt (program : Program) (s : Standing) (r : IllTyped) : Type 0 where
+pub data IsWrongAt (program : Program) (s : StmtContext) (r : IllTyped) : Type 0 where
   Breaks : IsBroken program s.returns s.locals s.stmt r → IsWrongAt program s r
   Ends : IsNeverReached s r → IsWrongAt program s r
 
 -- one of these statements, in this line, breaks a rule
-pub record IsToldAmong (program : Program) (line : ℕ) (statements : List Standing) (r : IllTyped) : Type 0 where
-  pub statement : Standing
+pub record BreaksRuleAmong (program : Program) (line : ℕ) (statements : List StmtContext) (r : IllTyped) : Type 0 where
+  pub statement : StmtContext
   pub there : Contains statements statement
   pub at_line : statement.line ≡ line
   pub wrong : IsWrongAt program statement r
 
 -- the head of a function or one of its statements, in this line, breaks a rule
-pub data IsToldOf (program : Program) (line : ℕ) (f : Function) (r : IllTyped) : Type 0 where
-  OfHead : f.line ≡ line → IsWrongFunction program f r → IsToldOf program line f r
-  OfStatement : IsToldAmong program line (standing_of f) r → IsToldOf program line f r
+pub data BreaksRuleIn (program : Program) (line : ℕ) (f : Function) (r : IllTyped) : Type 0 where
+  OfHead : f.line ≡ line → IsWrongFunction program f r → BreaksRuleIn program line f r
+  OfStatement : BreaksRuleAmong program line (statements_of f) r → BreaksRuleIn program line f r
 
 -- the line breaks a rule of names and types for this reason
-pub data IsTold (program : Program) (line : ℕ) (r : IllTyped) : Type 0 where
-  OfProgram : line ≡ 1 → IsNoMain program r → IsTold program line r
-  OfNames : IsRepeated program line r → IsTold program line r
-  OfFunction : (f : Function) → Contains program.functions f → IsToldOf program line f r → IsTold program line r
+pub data BreaksRule (program : Program) (line : ℕ) (r : IllTyped) : Type 0 where
+  OfProgram : line ≡ 1 → IsNoMain program r → BreaksRule program line r
+  OfNames : IsRepeated program line r → BreaksRule program line r
+  OfFunction : (f : Function) → Contains program.functions f → BreaksRuleIn program line f r → BreaksRule program line r

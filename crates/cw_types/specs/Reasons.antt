@@ -8,7 +8,7 @@ use Rattle.cw_model.specs.declared.syntax.NameKind.TheVariants.{Integer, Array, 
 use Rattle.cw_model.specs.Answers.{main_name}
 use Rattle.cw_model.specs.Names.{same_name}
 use Rattle.cw_model.specs.Syntax.{Name, Expr, Variable, Stmt, Declare, DeclareArray, Reduce, Call, For, Cut, Return}
-use Rattle.cw_model.specs.Syntax.{Param, Function, Program, is_array_kind, wants_array}
+use Rattle.cw_model.specs.Syntax.{Param, Function, Program, is_array_kind, is_array_param}
 use Rattle.cw_model.specs.Typing.{Returns, Nowhere, WithInt, Alone, called, is_array, is_int, is_reducer}
 use Rattle.cw_model.specs.Typing.{reducer_called}
 use Rattle.cw_types.specs.Names.{IsUnknown}
@@ -89,7 +89,7 @@ IsNoReducer program how s _ = ⊥
 
 -- the name of a parameter, and whether it is an array
 abbrev pub named_array : Param → Name × Bool
-named_array p = (p.name, wants_array p)
+named_array p = (p.name, is_array_param p)
 
 -- the expression is only a name
 abbrev pub is_name : Expr → Bool

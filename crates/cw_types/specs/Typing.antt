@@ -7,7 +7,7 @@ use Rattle.cw_model.specs.declared.syntax.NameKind.TheVariants as name_kind
 use Rattle.cw_model.specs.Names.{same_name}
 use Rattle.cw_model.specs.Syntax.{Param, Function, Program, Stmt, Declare, DeclareArray, Assign, AssignElement}
 use Rattle.cw_model.specs.Syntax.{Reduce, Call, Start, Begin, Sync, If, IfElse, While, For, Scope, Cut, Region, Print}
-use Rattle.cw_model.specs.Syntax.{Return, wants_array}
+use Rattle.cw_model.specs.Syntax.{Return, is_array_param}
 use Rattle.cw_model.specs.Typing.{Known, Returns, Nowhere, is_fine, is_new, is_int, is_writable, is_reducer, is_call}
 use Rattle.cw_model.specs.Typing.{called, is_head_of_loop, is_cut, may_return, block_returns, faults_in_block}
 use Rattle.cw_tree.specs.declared.syntax.Call.{Call as Made}
@@ -79,7 +79,7 @@ returns_well f = not f.gives_int || block_returns f.body
 
 -- main returns an integer and takes integers
 abbrev pub is_right_main : Function → Bool
-is_right_main f = not (same_name f.name main_name) || (f.gives_int && not (list_any (λ p. wants_array p) f.params))
+is_right_main f = not (same_name f.name main_name) || (f.gives_int && not (list_any (λ p. is_array_param p) f.params))
 
 -- the later of two lines
 abbrev pub later_line : ℕ → ℕ → ℕ

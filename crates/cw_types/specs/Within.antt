@@ -6,15 +6,15 @@ use Rattle.cw_model.specs.Typing.{faults_of, faults_in_block}
 use Rattle.cw_tree.specs.declared.syntax.Function.{Function}
 use Rattle.cw_tree.specs.declared.syntax.Line.{Line}
 use Rattle.cw_tree.specs.SyntaxView.{program_of, function_of, stmt_of, block_of}
-use Rattle.cw_text.specs.RecordedReasons.{Notes, Tells}
+use Rattle.cw_text.specs.RecordedReasons.{Notes, AddsOnly}
 use Rattle.cw_text.specs.declared.reasons.Reasons.{Reasons}
 use Rattle.cw_types.specs.declared.globals.Globals.{Globals}
 use Rattle.cw_types.specs.declared.reason.IllTyped.{IllTyped}
 use Rattle.cw_types.specs.declared.rules.Returns.{Returns}
 use Rattle.cw_types.specs.Returned.{returns_of}
 use Rattle.cw_types.specs.Scope.{Declared, kinds}
-use Rattle.cw_types.specs.Standing.{Standing, standing_at, standing_in, standing_inside}
-use Rattle.cw_types.specs.ReasonMeaning.{IsNeverReached, IsToldAmong, IsToldOf}
+use Rattle.cw_types.specs.StmtContext.{StmtContext, statement_at, statements_in, statements_inside}
+use Rattle.cw_types.specs.ReasonMeaning.{IsNeverReached, BreaksRuleAmong, BreaksRuleIn}
 use Rattle.cw_types.specs.Typing.{faults_inside}
 
 -- the program that the code holds
@@ -50,26 +50,26 @@ abbrev pub NotesInner : {R E : Type 0} → Globals → Returns → List Declared
 NotesInner globals returns known line before after r = Notes (inner_faults globals returns known line) before after r
 
 -- the reason is correct for one of these statements, in its line
-abbrev pub IsAmong : Globals → List Standing → (ℕ → IllTyped → Type 0)
-IsAmong globals statements = λ line r. IsToldAmong (program_in globals) line statements r
+abbrev pub IsAmong : Globals → List StmtContext → (ℕ → IllTyped → Type 0)
+IsAmong globals statements = λ line r. BreaksRuleAmong (program_in globals) line statements r
 
 -- the reason is correct for this function, in one of its lines
 abbrev pub IsToldIn : Globals → Function → (ℕ → IllTyped → Type 0)
-IsToldIn globals f = λ line r. IsToldOf (program_in globals) line (function_of f) r
+IsToldIn globals f = λ line r. BreaksRuleIn (program_in globals) line (function_of f) r
 
 -- each new reason is correct for one of these statements
-abbrev pub TellsAmong : Globals → List Standing → (before after : Reasons IllTyped) → Type 0
-TellsAmong globals statements before after = Tells (IsAmong globals statements) before after
+abbrev pub AddsAmong : Globals → List StmtContext → (before after : Reasons IllTyped) → Type 0
+AddsAmong globals statements before after = AddsOnly (IsAmong globals statements) before after
 
 -- the statements of a block, including all inner statements
-abbrev pub all_in : Returns → List Declared → List Line → List Standing
-all_in returns known lines = standing_in (returns_of returns) known (block_of lines)
+abbrev pub all_in : Returns → List Declared → List Line → List StmtContext
+all_in returns known lines = statements_in (returns_of returns) known (block_of lines)
 
 -- the inner statements of the statement of a line
-abbrev pub all_inside : Returns → List Declared → Line → List Standing
-all_inside returns known line = standing_inside (returns_of returns) known line.line (stmt_of line.stmt)
+abbrev pub all_inside : Returns → List Declared → Line → List StmtContext
+all_inside returns known line = statements_inside (returns_of returns) known line.line (stmt_of line.stmt)
 
 -- the statements after a line are never reached, in every context
 abbrev pub NeverReached : Line → List Line → IllTyped → Type 0
 NeverReached line behind r =
-    (returns : rule.Returns) → (known : List Declared) → IsNeverReached (standing_at returns known line behind) r
+    (returns : rule.Returns) → (known : List Declared) → IsNeverReached (statement_at returns known line behind) r

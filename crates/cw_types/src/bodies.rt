@@ -4,7 +4,7 @@ ghost use Rattle.std.specs.Prelude.{◌≡◌, not, ◌||◌, IfSome, OnOk, is_s
 ghost use Rattle.cw_model.specs.Typing.{surely_returns, ends_block};
 ghost use Rattle.cw_tree.specs.SyntaxView.{stmt_of, block_of};
 ghost use Rattle.cw_types.specs.Scope.{after_stmt};
-ghost use Rattle.cw_types.specs.Within.{NeverReached, NotesBlock, NotesInner, TellsAmong, all_in, all_inside};
+ghost use Rattle.cw_types.specs.Within.{NeverReached, NotesBlock, NotesInner, AddsAmong, all_in, all_inside};
 
 use crate::globals::Globals;
 use crate::known::Known;
@@ -31,7 +31,7 @@ pub fn block<'a>(
 ) -> Result<(), AllocError>
     ensures lines { NotesBlock globals.now returns known.old lines.now told.old told.new result }
     ensures told { OnOk result
-        (TellsAmong globals.now (all_in returns known.old lines.now) told.old told.new) }
+        (AddsAmong globals.now (all_in returns known.old lines.now) told.old told.new) }
     ensures known { OnOk result (known.new ≡ known.old) }
 {
     let before = known.len();
@@ -57,7 +57,7 @@ fn inside<'a>(
 ) -> Result<(), AllocError>
     ensures lines { NotesInner globals.now returns known.old line.now told.old told.new result }
     ensures told { OnOk result
-        (TellsAmong globals.now (all_inside returns known.old line.now) told.old told.new) }
+        (AddsAmong globals.now (all_inside returns known.old line.now) told.old told.new) }
     ensures known { OnOk result (known.new ≡ known.old) }
 {
     match &line.stmt {

@@ -11,7 +11,7 @@ ghost use Rattle.cw_text.specs.Rising.{kept};
 ghost use Rattle.cw_text.specs.RecordedReasons.{AreLeast, AreOf, itself, lines_at, no_place};
 ghost use Rattle.cw_types.specs.Faults.{IsIllTyped, IsPassedAt, IsTypedOf, IsWithin, refused_lines};
 ghost use Rattle.cw_types.specs.Names.{function_names};
-ghost use Rattle.cw_types.specs.ReasonMeaning.{IsNoMain, IsTold};
+ghost use Rattle.cw_types.specs.ReasonMeaning.{IsNoMain, BreaksRule};
 ghost use Rattle.cw_types.specs.Within.{program_in};
 
 use crate::functions::functions_faults;
@@ -74,7 +74,7 @@ pub fn too_large(alloc: Global, ast: &Ast) -> Result<Option<At<TooLarge<'_>>>, A
 /// Returns an error if memory runs out.
 pub fn ill_typed(alloc: Global, ast: &Ast) -> Result<Reasons<IllTyped<'_>>, AllocError>
     ensures lines { IfOk result (AreLeast (refused_lines (program_of ast.now))) }
-    ensures holds { IfOk result (AreOf (IsTold (program_of ast.now))) }
+    ensures holds { IfOk result (AreOf (BreaksRule (program_of ast.now))) }
 {
     match too_large(alloc, ast)? {
         Some(_) => Ok(Reasons::new()),
@@ -102,7 +102,7 @@ fn faults<'a>(alloc: Global, ast: &'a Ast) -> Result<Reasons<IllTyped<'a>>, Allo
     requires { limit_faults (program_of ast.now) ≡ [] }
     ensures lines { IfOk result (λ told.
         lines_at told.places ≡ kept itself no_place (type_faults (program_of ast.now))) }
-    ensures holds { IfOk result (AreOf (IsTold (program_of ast.now))) }
+    ensures holds { IfOk result (AreOf (BreaksRule (program_of ast.now))) }
 {
     let globals = Globals::new(alloc, ast)?;
     let mut told = Reasons::new();

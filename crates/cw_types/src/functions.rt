@@ -9,8 +9,8 @@ ghost use Rattle.cw_tree.specs.SyntaxView.{function_of, param_of, program_of};
 ghost use Rattle.cw_types.specs.Names.{param_names};
 ghost use Rattle.cw_types.specs.Returned as returned;
 ghost use Rattle.cw_types.specs.Scope.{with_params};
-ghost use Rattle.cw_text.specs.RecordedReasons.{Notes, Tells};
-ghost use Rattle.cw_types.specs.ReasonMeaning.{IsTold, IsWrongFunction, IsWrongMain, IsWrongParams, are_arrays};
+ghost use Rattle.cw_text.specs.RecordedReasons.{Notes, AddsOnly};
+ghost use Rattle.cw_types.specs.ReasonMeaning.{BreaksRule, IsWrongFunction, IsWrongMain, IsWrongParams, are_arrays};
 ghost use Rattle.cw_types.specs.Typing.{are_new, is_right_main, returns_well};
 ghost use Rattle.cw_types.specs.Within.{IsToldIn, faults_in_function, faults_of_all, program_in};
 
@@ -34,7 +34,7 @@ pub fn functions_faults<'a>(
     told: &mut Reasons<IllTyped<'a>>,
 ) -> Result<(), AllocError>
     ensures lines { Notes (faults_of_all (program_in globals.now)) told.old told.new result }
-    ensures told { OnOk result (Tells (IsTold (program_in globals.now)) told.old told.new) }
+    ensures told { OnOk result (AddsOnly (BreaksRule (program_in globals.now)) told.old told.new) }
 {
     for function in globals.ast.functions.as_slice() {
         function_faults(alloc, globals, function, told)?;
@@ -51,7 +51,7 @@ fn function_faults<'a>(
 ) -> Result<(), AllocError>
     ensures lines { Notes (faults_in_function globals.now function.now) told.old told.new result }
     ensures told { OnOk result
-        (Tells (IsToldIn globals.now function.now) told.old told.new) }
+        (AddsOnly (IsToldIn globals.now function.now) told.old told.new) }
 {
     told.note(of_head(globals, function), function.line);
     let mut known = known_in(alloc, function)?;
@@ -163,7 +163,7 @@ fn of_main(function: &Function) -> Option<IllTyped<'_>>
 // Returns the first of these parameters that is an array.
 fn first_array(params: &[Param]) -> Option<&Name>
     ensures decides { is_some result
-        ≡ list_any (λ p. model.wants_array p) (map param_of params.now) }
+        ≡ list_any (λ p. model.is_array_param p) (map param_of params.now) }
     ensures holds { IfSome result (λ name.
         Contains (are_arrays (map param_of params.now)) (name.now, true)) }
 {

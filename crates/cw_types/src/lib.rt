@@ -21,7 +21,7 @@ mod rules;
 mod statements;
 mod table;
 mod tags;
-mod told;
+mod least_reason;
 
 pub use checking::{check, ill_typed, too_large};
 pub use reason::{IllTyped, Other, TooLarge};

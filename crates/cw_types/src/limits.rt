@@ -11,12 +11,12 @@ ghost use Rattle.cw_types.specs.Limits.{IsPassedByRegions, declared_past};
 ghost use Rattle.cw_types.specs.Noted.{TakesTag};
 ghost use Rattle.cw_types.specs.Noted.{functions_past, reducers_past, long_tag, tags_past};
 ghost use Rattle.cw_types.specs.Regions.{regions_of};
-ghost use Rattle.cw_types.specs.Telling.{IsOf, Noted, Tells, line_told};
+ghost use Rattle.cw_types.specs.RecordingLines.{IsOf, Noted, AddsOnly, recorded_line};
 
 use crate::known::Known;
 use crate::reason::TooLarge;
 use crate::regions::{Marked, regions};
-use crate::told::LeastReason;
+use crate::least_reason::LeastReason;
 use cw_model::limits::{
     MOST_DECLARED, MOST_FUNCTIONS, MOST_PARAMETERS, MOST_REDUCERS, MOST_TAG_BYTES, MOST_TAGS,
 };
@@ -37,7 +37,7 @@ use std::alloc::{AllocError, Global};
 /// Returns an error if memory runs out.
 pub fn limits<'a>(alloc: Global, ast: &'a Ast) -> Result<LeastReason<TooLarge<'a>>, AllocError>
     ensures lines { IfOk result (λ told.
-        line_told told ≡ lowest None (limit_faults (program_of ast.now))) }
+        recorded_line told ≡ lowest None (limit_faults (program_of ast.now))) }
     ensures holds { IfOk result (λ told. IsOf (IsPassedByParts (program_of ast.now)) told) }
 {
     let mut told = LeastReason::new();
@@ -77,7 +77,7 @@ fn reducers_beyond(reducers: &[Reducer]) -> LeastLine
 // Records the lines at which a function exceeds a limit.
 fn functions_limits<'a>(functions: &'a [Function], told: &mut LeastReason<TooLarge<'a>>)
     ensures lines { Noted (flat_map limits_of (map function_of functions.now)) told.old told.new }
-    ensures told { Tells (IsPassedByOne (map function_of functions.now)) told.old told.new }
+    ensures told { AddsOnly (IsPassedByOne (map function_of functions.now)) told.old told.new }
 {
     for function in functions {
         function_limits(function, told);
@@ -87,7 +87,7 @@ fn functions_limits<'a>(functions: &'a [Function], told: &mut LeastReason<TooLar
 // Records the lines at which this function exceeds a limit.
 fn function_limits<'a>(function: &'a Function, told: &mut LeastReason<TooLarge<'a>>)
     ensures lines { Noted (limits_of (function_of function.now)) told.old told.new }
-    ensures told { Tells (IsPassedByFunction (function_of function.now)) told.old told.new }
+    ensures told { AddsOnly (IsPassedByFunction (function_of function.now)) told.old told.new }
 {
     told.note(many_params(function), function.line);
     told.note_least(
@@ -180,7 +180,7 @@ fn statement_beyond(room: usize, line: u32, stmt: &Stmt, least: &mut LeastLine) 
 // Records the lines of regions whose tags are too long.
 fn long_tags<'a>(regions: &[Marked<'a>], told: &mut LeastReason<TooLarge<'a>>)
     ensures lines { Noted (flat_map long_tag (regions_of regions.now)) told.old told.new }
-    ensures told { Tells (IsPassedByRegions (regions_of regions.now)) told.old told.new }
+    ensures told { AddsOnly (IsPassedByRegions (regions_of regions.now)) told.old told.new }
 {
     for region in regions {
         told.note(long_tag(*region), region.line);

@@ -7,7 +7,7 @@ ghost use Rattle.cw_model.specs.Typing.{repeated};
 ghost use Rattle.cw_types.specs.Named.{listed_functions, listed_reducers, shared_lines, lines_shared_by};
 ghost use Rattle.cw_types.specs.Names.{known_names};
 ghost use Rattle.cw_types.specs.Scope.{kinds};
-ghost use Rattle.cw_text.specs.RecordedReasons.{Noted, Notes, Tells};
+ghost use Rattle.cw_text.specs.RecordedReasons.{Noted, Notes, AddsOnly};
 ghost use Rattle.cw_types.specs.ReasonMeaning.{IsRepeatedIn, IsRepeatedOf, IsRepeating};
 ghost use Rattle.cw_types.specs.Typing.{earlier_line, later_line};
 
@@ -30,7 +30,7 @@ pub fn repeated_functions<'a>(
 ) -> Result<(), AllocError>
     ensures lines { Notes (repeated (listed_functions functions.now) []) told.old told.new result }
     ensures told { OnOk result
-        (Tells (IsRepeatedIn (listed_functions functions.now)) told.old told.new) }
+        (AddsOnly (IsRepeatedIn (listed_functions functions.now)) told.old told.new) }
 {
     let mut earlier = Known::new(alloc);
     for function in functions {
@@ -52,7 +52,7 @@ pub fn repeated_reducers<'a>(
 ) -> Result<(), AllocError>
     ensures lines { Notes (repeated (listed_reducers reducers.now) []) told.old told.new result }
     ensures told { OnOk result
-        (Tells (IsRepeatedIn (listed_reducers reducers.now)) told.old told.new) }
+        (AddsOnly (IsRepeatedIn (listed_reducers reducers.now)) told.old told.new) }
 {
     let mut earlier = Known::new(alloc);
     for reducer in reducers {
@@ -78,7 +78,7 @@ pub fn shared_names<'a>(
     told: &mut Reasons<IllTyped<'a>>,
 )
     ensures lines { Noted (shared_lines functions.now reducers.now) told.old told.new }
-    ensures told { Tells
+    ensures told { AddsOnly
         (IsRepeatedIn (listed_functions functions.now ++ listed_reducers reducers.now))
         told.old told.new }
 {
@@ -96,7 +96,7 @@ fn shared_name<'a>(
     ensures lines { Noted (lines_shared_by functions.now reducer.now) told.old told.new }
     ensures told { (reducers : List (Name × ℕ)) →
         Contains reducers (reducer.now.name, reducer.now.line) →
-        Tells (IsRepeatedIn (listed_functions functions.now ++ reducers)) told.old told.new }
+        AddsOnly (IsRepeatedIn (listed_functions functions.now ++ reducers)) told.old told.new }
 {
     for function in functions {
         told.note(

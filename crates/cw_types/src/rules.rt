@@ -15,7 +15,7 @@ ghost use Rattle.std.specs.Prelude.{
   option_map,
 };
 ghost use Rattle.std.specs.List.{list_all};
-ghost use Rattle.cw_types.specs.Names.{IsUnknown, may_stand};
+ghost use Rattle.cw_types.specs.Names.{IsUnknown, accepts_kind};
 ghost use Rattle.cw_types.specs.Scope.{Declared, kinds};
 ghost use Rattle.cw_types.specs.Reasons.{
   IsBroken,
@@ -99,7 +99,7 @@ fn of_use<'a>(
     wanted: NameKind,
 ) -> Option<IllTyped<'a>>
     ensures decides { is_some result
-        ≡ not (rule.is_known name.now (may_stand wanted) (kinds known.now)) }
+        ≡ not (rule.is_known name.now (accepts_kind wanted) (kinds known.now)) }
     ensures holds { IfSome result
         (IsMisuse (program_of globals.now.ast.now) known.now (name.now, wanted)) }
 {
@@ -265,7 +265,7 @@ fn of_name_and<'a>(
     e: &'a Expr,
 ) -> Option<IllTyped<'a>>
     ensures decides { is_some result
-        ≡ not (rule.is_known x.now (may_stand wanted) (kinds known.now)
+        ≡ not (rule.is_known x.now (accepts_kind wanted) (kinds known.now)
         && rule.is_fine (kinds known.now) (expr_of e.now)) }
     ensures holds { IfSome result (IsMisuseIn (program_of globals.now.ast.now) known.now
         ((x.now, wanted) ∷ uses_in (expr_of e.now))) }

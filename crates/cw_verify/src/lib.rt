@@ -16,6 +16,6 @@ mod resolve;
 mod round;
 mod row;
 mod search;
-mod stands;
+mod validate;
 pub mod verify;
 mod work;

@@ -10,7 +10,7 @@ use Rattle.cw_code.specs.Jobs.{Extent, has_come, standing, Came, Arrives, Return
 use Rattle.cw_code.specs.Jobs.{travel, Job, course, Effect, Ended, Joined, TrapIn, OverLimit, Memory, IsOf}
 use Rattle.cw_code.specs.Jobs.{JobMeaning, Same, Passed, Short}
 use Rattle.cw_code.specs.Strands.{cost_of}
-use Rattle.cw_code.specs.Promises.{Takes, StandsFor}
+use Rattle.cw_code.specs.Promises.{Takes, RepresentsRun}
 
 pub takes_none : (cost : ℕ) (run later : ℕ → Came) → cost ≡ 0 → ((n : ℕ) → run n ≡ later n) → Takes cost run later
 takes_none cost run later e same = record {
@@ -148,7 +148,7 @@ module _ (code : Code) (job : Job) where
   back_again : (cost limit : ℕ) → cost ≤ limit → cost ≡ limit - (limit - cost)
   back_again cost limit le = omega (arith, le)
 
-  pub stands_meaning : (e : Effect) → job.before + cost_of e ≤ job.limit → StandsFor code job e → JobMeaning code job e
+  pub stands_meaning : (e : Effect) → job.before + cost_of e ≤ job.limit → RepresentsRun code job e → JobMeaning code job e
   stands_meaning (Ended v arrays t cost) le h =
       let fits : cost ≤ job.limit = omega (arith, le) in
       Same (subst (λ c. IsOf c job.limit (Ended v arrays t cost))

@@ -14,7 +14,7 @@ use Rattle.cw_code.specs.Good.{slots_in, Seat, Good, IsGiven, AllResume, GoodSta
 use Rattle.cw_code.specs.Good.{FitSettles}
 use Rattle.cw_code.specs.lemmas.Slots.{settled_append}
 use Rattle.cw_code.specs.lemmas.Runs.{stuck_on}
-use Rattle.cw_code.specs.Jobs.{Extent, WholeCall, ToJoin, joins, is_first, has_come, Standing, standing}
+use Rattle.cw_code.specs.Jobs.{Extent, WholeCall, ToJoin, joins, is_first, has_come, JoinFrame, standing}
 use Rattle.cw_code.specs.Jobs.{Arrives, Returns, Falls, Beyond, Lost, moved, travel, Job, job_start}
 use Rattle.cw_code.specs.Strands.{spawn_job, resumed}
 use Rattle.cw_code.specs.Over.{beneath, results_under, arrived_under, under, transition_under}
@@ -164,7 +164,7 @@ module _ (code : Code) (fits : Fits code) (steps_well : FitSteps code fits) (set
           refl g.others
 
   -- the state that a run reaches at the join, placed over its base
-  pub record Arrived (b : State) (frame : Standing) : Type 0 where
+  pub record Arrived (b : State) (frame : JoinFrame) : Type 0 where
     pub seat : Seat code fits frame.place
     pub slots : Slots ℤ
     pub arrays : Slots (List ℤ)
@@ -184,7 +184,7 @@ module _ (code : Code) (fits : Fits code) (steps_well : FitSteps code fits) (set
     pub same_arrays : frame.arrays ≡ settled returned arrays
     pub others : AllResume code fits seat.func b.around
 
-  pub arrived : (b : State) (n : ℕ) (s : State) (frame : Standing) (t : Trace) (left : ℕ)
+  pub arrived : (b : State) (n : ℕ) (s : State) (frame : JoinFrame) (t : Trace) (left : ℕ)
       → GoodState code fits (under b s) → travel ToJoin code n s ≡ Arrives frame t left → Arrived b frame
   arrived b zero s frame t left good e = cases (has_come ToJoin code s) refl
     where
@@ -274,7 +274,7 @@ module _ (code : Code) (fits : Fits code) (steps_well : FitSteps code fits) (set
           went (step code s) (lifted_step ToJoin (Upon b) s h good) more (sym (go_one ToJoin code n s h) ∙ e)
 
   -- pending results over a state go back into their slots, some of them first
-  gone_back : (f : Func) (shape : Shape) (b : State) (frame : Standing) (slots : Slots ℤ) (arrays : Slots (List ℤ))
+  gone_back : (f : Func) (shape : Shape) (b : State) (frame : JoinFrame) (slots : Slots ℤ) (arrays : Slots (List ℤ))
       (first second others : Results ℤ) (first' second' others' : Results (List ℤ))
       → frame.slots ≡ settled first slots → frame.arrays ≡ settled first' arrays
       → Good f shape (record b {
@@ -316,7 +316,7 @@ module _ (code : Code) (fits : Fits code) (steps_well : FitSteps code fits) (set
       (settled_append first' second' arrays ∙ ap (settled second') (sym same')) one)
 
   -- give preserves good states
-  pub gives_fit : (x : Extent) (base : Base x) (s : State) (frame : Standing) (t : Trace)
+  pub gives_fit : (x : Extent) (base : Base x) (s : State) (frame : JoinFrame) (t : Trace)
       → GoodState code fits (lifted base s) → Arrived (lifted base s) frame
       → GoodState code fits (lifted base (resumed s frame t))
   gives_fit x Alone s frame t good a =

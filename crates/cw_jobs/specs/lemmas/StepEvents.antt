@@ -43,18 +43,18 @@ module _ (P : List Open → List Event → Type 0) (from : Origin) where
   BlockBegins code Scope os es = P (meters.begun false None es os) []
   BlockBegins code (Region k) os es = (tag : Name) → slice_get code.tags k ≡ Some tag → P (meters.begun false (Some (Execution tag)) es os) []
 
-  abbrev pub Tells : Code → Instr → List Open → List Event → Type 0
-  Tells code (instr.Call kind c) os es = P (meters.begun (is_spawned kind) (Some (Invocation c.site)) es os) []
-  Tells code (instr.Recur kind c) os es = P (meters.begun (is_spawned kind) None es os) []
-  Tells code (instr.Start c line) os es = P (meters.begun false None es os) []
-  Tells code (instr.Cut h line) os es = P (meters.begun false None es os) []
-  Tells code instr.EndCut os es = BlockEnds os es
-  Tells code instr.Sync os es = P os (meters.synced es)
-  Tells code (instr.Open kind) os es = BlockBegins code kind os es
-  Tells code instr.Close os es = BlockEnds os es
-  Tells code instr.ReturnValue os es = CallEnds os es
-  Tells code instr.Return os es = CallEnds os es
-  Tells code _ os es = P os (meters.ticked es)
+  abbrev pub Tracks : Code → Instr → List Open → List Event → Type 0
+  Tracks code (instr.Call kind c) os es = P (meters.begun (is_spawned kind) (Some (Invocation c.site)) es os) []
+  Tracks code (instr.Recur kind c) os es = P (meters.begun (is_spawned kind) None es os) []
+  Tracks code (instr.Start c line) os es = P (meters.begun false None es os) []
+  Tracks code (instr.Cut h line) os es = P (meters.begun false None es os) []
+  Tracks code instr.EndCut os es = BlockEnds os es
+  Tracks code instr.Sync os es = P os (meters.synced es)
+  Tracks code (instr.Open kind) os es = BlockBegins code kind os es
+  Tracks code instr.Close os es = BlockEnds os es
+  Tracks code instr.ReturnValue os es = CallEnds os es
+  Tracks code instr.Return os es = CallEnds os es
+  Tracks code _ os es = P os (meters.ticked es)
 
   -- a block ends
   resumed : (s : State) (o : Opened) (around : List Around) → s.around ≡ Block o ∷ around → (arrays : Slots (List ℤ))
@@ -76,7 +76,7 @@ module _ (P : List Open → List Event → Type 0) (from : Origin) where
       at_end (Rest site) h = tt
 
   -- an instruction that continues in its block begins and ends nothing
-  ticks : (code : Code) (i : Instr) (os : List Open) (es : List Event) → IsLocal i → Tells code i os es → P os (meters.ticked es)
+  ticks : (code : Code) (i : Instr) (os : List Open) (es : List Event) → IsLocal i → Tracks code i os es → P os (meters.ticked es)
   ticks code (instr.Call kind c) os es here h = absurd here
   ticks code (instr.Recur kind c) os es here h = absurd here
   ticks code (instr.Start c line) os es here h = absurd here
@@ -91,12 +91,12 @@ module _ (P : List Open → List Event → Type 0) (from : Origin) where
   ticks code instr.Return os es here h = absurd here
   ticks code _ os es here h = h
 
-  abbrev TellsOf : Code → State → Option Instr → Type 0
-  TellsOf code s None = Unit {0}
-  TellsOf code s (Some i) = Tells code i (opens_round from s.around) s.trace.events
+  abbrev TracksNext : Code → State → Option Instr → Type 0
+  TracksNext code s None = Unit {0}
+  TracksNext code s (Some i) = Tracks code i (opens_round from s.around) s.trace.events
 
-  told_of : (code : Code) (s : State) (o : Option Instr) → TellsOf code s o → After P from (act code s o)
-  told_of code s o = acts_both code s s.results s.arrived s.around s.trace (λ o w w'. TellsOf code s o → After P from w) (record {
+  told_of : (code : Code) (s : State) (o : Option Instr) → TracksNext code s o → After P from (act code s o)
+  told_of code s o = acts_both code s s.results s.arrived s.around s.trace (λ o w w'. TracksNext code s o → After P from w) (record {
     stuck = λ o h. tt;
     stops = λ o trap line h. tt;
     local = λ i place operands slots lines updates here next few h. ticks code i (opens_round from s.around) s.trace.events here h;
@@ -118,5 +118,5 @@ module _ (P : List Open → List Event → Type 0) (from : Origin) where
   }) o
 
   -- each instruction
-  pub told : (code : Code) (s : State) (i : Instr) → Tells code i (opens_round from s.around) s.trace.events → After P from (act code s (Some i))
+  pub told : (code : Code) (s : State) (i : Instr) → Tracks code i (opens_round from s.around) s.trace.events → After P from (act code s (Some i))
   told code s i h = told_of code s (Some i) h

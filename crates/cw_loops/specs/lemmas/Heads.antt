@@ -6,7 +6,7 @@ use Rattle.std.proofs.lemmas.Bool.{and_parts, or_parts}
 use Rattle.cw_facts.specs.Tests.{not_true, never, either_right}
 use Rattle.cw_model.specs.declared.syntax.NameKind.{NameKind}
 use Rattle.cw_model.specs.Lines.{unless}
-use Rattle.cw_model.specs.Syntax.{Name, Param, Function, Program, is_array_kind, wants_array}
+use Rattle.cw_model.specs.Syntax.{Name, Param, Function, Program, is_array_kind, is_array_param}
 use Rattle.cw_model.specs.Names.{same_name, is_among, differ}
 use Rattle.cw_model.specs.Answers.{main_name}
 use Rattle.cw_model.specs.Typing.{Known, is_known, is_int, is_array, globals, block_returns, known_of, is_head}
@@ -21,7 +21,7 @@ kind_among : (x : Name) (ps : List Param) →
     is_among x (names_of ps) ≡ (is_among x (integers_of ps) || is_among x (arrays_of ps))
 kind_among x [] = refl
 kind_among x (p ∷ ps) =
-    go (wants_array p) (same_name x p.name) refl (is_among x (integers_of ps)) refl (kind_among x ps)
+    go (is_array_param p) (same_name x p.name) refl (is_among x (integers_of ps)) refl (kind_among x ps)
   where
     go : (k s : Bool) → same_name x p.name ≡ s → (i : Bool) → is_among x (integers_of ps) ≡ i →
         is_among x (names_of ps) ≡ (is_among x (integers_of ps) || is_among x (arrays_of ps)) →
@@ -85,7 +85,7 @@ int_kind [] h x = refl
 int_kind (p ∷ ps) h x =
     let d = others_differ p ps h in
     newest (λ kind. not (is_array_kind kind)) p ps x d.0
-    ∙ go (same_name x p.name) refl (wants_array p) (int_kind ps d.1 x)
+    ∙ go (same_name x p.name) refl (is_array_param p) (int_kind ps d.1 x)
     (λ e. (no_kind x ps (ap (λ z. is_among z (names_of ps)) (same_are x p.name e) ∙ d.0)).0)
   where
     go : (s : Bool) → same_name x p.name ≡ s → (k : Bool) → is_int (known_of ps) x ≡ is_among x (integers_of ps) →
@@ -102,7 +102,7 @@ pub array_kind : (ps : List Param) → differ (names_of ps) ≡ true → (x : Na
 array_kind [] h x = refl
 array_kind (p ∷ ps) h x =
     let d = others_differ p ps h in
-    newest is_array_kind p ps x d.0 ∙ go (same_name x p.name) refl (wants_array p) (array_kind ps d.1 x)
+    newest is_array_kind p ps x d.0 ∙ go (same_name x p.name) refl (is_array_param p) (array_kind ps d.1 x)
     (λ e. (no_kind x ps (ap (λ z. is_among z (names_of ps)) (same_are x p.name e) ∙ d.0)).1)
   where
     go : (s : Bool) → same_name x p.name ≡ s → (k : Bool) → is_array (known_of ps) x ≡ is_among x (arrays_of ps) →
@@ -123,12 +123,12 @@ parameters_known ps h x =
 -- the rules that the head of a function keeps
 pub record HeadOf (f : Function) : Type 0 where
   pub params : differ (names_of f.params) ≡ true
-  pub main : (not (same_name f.name main_name) || (f.gives_int && not (list_any (λ p. wants_array p) f.params))) ≡ true
+  pub main : (not (same_name f.name main_name) || (f.gives_int && not (list_any (λ p. is_array_param p) f.params))) ≡ true
 
 pub head_of : (program : Program) (f : Function) → faults_of program f ≡ [] → HeadOf f
 head_of program f h =
     let a =
-    and_parts _ (not (same_name f.name main_name) || (f.gives_int && not (list_any (λ p. wants_array p) f.params)))
+    and_parts _ (not (same_name f.name main_name) || (f.gives_int && not (list_any (λ p. is_array_param p) f.params)))
     (kept (is_head program f) f.line (left_none _ _ h)) in
     let b = and_parts _ (not f.gives_int || block_returns f.body) a.0 in
     let c =

@@ -12,7 +12,7 @@ use Rattle.cw_model.specs.declared.syntax.NameKind.TheVariants as name_kind
 use Rattle.cw_model.specs.Syntax.{Name, Expr, Number, Variable, Element, Length, Negative, Not, Binary, Stmt, Declare}
 use Rattle.cw_model.specs.Syntax.{DeclareArray, Assign, AssignElement, Reduce, Call, Start, Begin, Sync, If, IfElse}
 use Rattle.cw_model.specs.Syntax.{While, For, Scope, Cut, Region, Print, Return, Block, End, Then, Param, Function}
-use Rattle.cw_model.specs.Syntax.{Program, is_array_kind, is_written_kind, is_const_kind, wants_array}
+use Rattle.cw_model.specs.Syntax.{Program, is_array_kind, is_written_kind, is_const_kind, is_array_param}
 use Rattle.cw_model.specs.Names.{same_name, is_among, differ}
 use Rattle.cw_model.specs.Meaning.{function_named}
 use Rattle.cw_model.specs.Answers.{main_name}
@@ -101,7 +101,7 @@ AllInner around xs = (x : Name) → is_among x xs ≡ true → is_outer around x
 abbrev pub arrays_passed : List Param → List Expr → List Name
 arrays_passed [] es = []
 arrays_passed (p ∷ ps) [] = []
-arrays_passed (p ∷ ps) (e ∷ es) = (if wants_array p then names_in e else []) ++ arrays_passed ps es
+arrays_passed (p ∷ ps) (e ∷ es) = (if is_array_param p then names_in e else []) ++ arrays_passed ps es
 
 either_inner : (around : Around) (x : Name) (xs ys : List Name) → (is_among x xs ≡ true → is_outer around x ≡ false) →
     (is_among x ys ≡ true → is_outer around x ≡ false) → is_among x (xs ++ ys) ≡ true → is_outer around x ≡ false
@@ -205,12 +205,12 @@ module _ (around : Around) (known : Known) (declared : List Name) where
   arguments_seen (p ∷ ps) [] source fine inner' x o = absurd cc
   arguments_seen (p ∷ ps) (e ∷ es) source fine inner' x o =
       let s = and_parts (is_source_expr e) (list_all is_source_expr es) source in
-      let f = and_parts (fits_kind known (wants_array p) e) (fit_kinds known ps es) fine in
+      let f = and_parts (fits_kind known (is_array_param p) e) (fit_kinds known ps es) fine in
       go (side x (read_by e) (read_by_all es) o)
-      (argument_seen (wants_array p) e s.0 f.0
-      (λ v q. inner' v (among_left v (if wants_array p then names_in e else []) (arrays_passed ps es) q)) x)
+      (argument_seen (is_array_param p) e s.0 f.0
+      (λ v q. inner' v (among_left v (if is_array_param p then names_in e else []) (arrays_passed ps es) q)) x)
       (arguments_seen ps es s.1 f.1
-      (λ v q. inner' v (among_right v (if wants_array p then names_in e else []) (arrays_passed ps es) q)) x)
+      (λ v q. inner' v (among_right v (if is_array_param p then names_in e else []) (arrays_passed ps es) q)) x)
     where
       go : Side x (read_by e) (read_by_all es) → (is_among x (read_by e) ≡ true → Seen around known declared x) →
           (is_among x (read_by_all es) ≡ true → Seen around known declared x) → Seen around known declared x

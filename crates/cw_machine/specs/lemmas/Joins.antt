@@ -9,7 +9,7 @@ use Rattle.cw_code.specs.Run.{Slots, Results, Around, Caller, Block, State, is_f
 use Rattle.cw_code.specs.Good.{IsNotAmong, slots_in, ints_round, all_of}
 use Rattle.cw_code.specs.lemmas.Slots.{not_in_first, not_in_second}
 use Rattle.cw_code.specs.lemmas.Runs.{joined_quiet}
-use Rattle.cw_code.specs.Jobs.{Standing}
+use Rattle.cw_code.specs.Jobs.{JoinFrame}
 use Rattle.cw_code.specs.Over.{trace_under, under}
 use Rattle.cw_code.specs.Strands.{resumed}
 use Rattle.cw_machine.specs.Shows.{cell, Comes}
@@ -41,7 +41,7 @@ abbrev pub waits_under : (b s : State) → Waits (under b s)
 waits_under b s = waits_at b s s.around
 
 -- a run that continues after a join continues on top of its base state, with what its call reads
-pub went_under : (b s : State) (frame : Standing) → frame.readers ≡ s.readers
+pub went_under : (b s : State) (frame : JoinFrame) → frame.readers ≡ s.readers
     → went_on (under b s) frame (waits_under b s) ≡ under b (resumed s frame quiet)
 went_under b s frame reads = at s.around ∙ ap (λ r. record (under b (resumed s frame quiet)) { readers = r }) (sym reads)
   where

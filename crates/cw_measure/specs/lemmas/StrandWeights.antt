@@ -11,8 +11,8 @@ use Rattle.cw_measure.specs.OpenParts.{has_spawned_from, has_spawned, work_in}
 use Rattle.cw_measure.specs.Outermost.{Meters}
 use Rattle.cw_measure.specs.BlockWeights.{BlockWeight, Straight, Split, now_of, gone_on, top_of, after, after_all}
 use Rattle.cw_measure.specs.BlockWeights.{enters, block_weight, weight_in, burdened_work, charge_if, burdened_work_in}
-use Rattle.cw_measure.specs.StrandWeights.{StrandWeight, reversed, strand_weight, noted_at, StandsOn, Under}
-use Rattle.cw_measure.specs.StrandWeights.{ShowsWeight, TellsLate, TellsWeight, SeriesNeedNoCall}
+use Rattle.cw_measure.specs.StrandWeights.{StrandWeight, reversed, strand_weight, noted_at, IsStackedOn, Under}
+use Rattle.cw_measure.specs.StrandWeights.{ShowsWeight, TracksLate, TracksWeight, SeriesNeedNoCall}
 use Rattle.cw_measure.specs.lemmas.BlockWeights.{top-after_all, child_charge}
 use Rattle.cw_measure.specs.lemmas.OpenParts.{work_adds, sum_begun, left_work}
 
@@ -98,7 +98,7 @@ work_meters = record {
 -- a strand represents a block, with the block as a variable
 pub record ShowsBlock (below : List BurdenedBlock → Type 0) (L : BlockWeight) (v : StrandWeight) : Type 0 where
   pub now_is : v.now ≡ now_of L
-  pub blocks_are : StandsOn below L v.blocks
+  pub blocks_are : IsStackedOn below L v.blocks
 
 pub by_block : (burden : Burden) (os : List Open) (es : List Event) (L : BlockWeight) (v : StrandWeight)
     → block_weight burden os es ≡ L → ShowsBlock (Under burden os) L v → ShowsWeight burden os es v
@@ -107,7 +107,7 @@ by_block burden os es L v e h =
     let s = subst P (sym e) h in record { now_is = s.now_is; blocks_are = s.blocks_are }
 
 pub stands_gone_on : (below : List BurdenedBlock → Type 0) (k : ℕ) (L : BlockWeight) (bs : List BurdenedBlock)
-    → StandsOn below L bs → StandsOn below (gone_on k L) bs
+    → IsStackedOn below L bs → IsStackedOn below (gone_on k L) bs
 stands_gone_on below k (Straight n) bs h = h
 stands_gone_on below k (Split l n) [] h = absurd h
 stands_gone_on below k (Split l n) (b ∷ bs) h = h
@@ -118,7 +118,7 @@ now_gone_on k (Split l n) = refl
 
 -- the blocks below a block that has not spawned
 pub stands_straight : (below : List BurdenedBlock → Type 0) (L : BlockWeight) (bs : List BurdenedBlock)
-    → is_split L ≡ false → StandsOn below L bs → below bs
+    → is_split L ≡ false → IsStackedOn below L bs → below bs
 stands_straight below (Straight n) bs e h = h
 stands_straight below (Split l n) bs e h = cc
 
@@ -131,7 +131,7 @@ in_series_ends burden mark outer os es v e h =
     let L = block_weight burden os outer in
     let k = burdened_span burden t in
     let below =
-    stands_straight (StandsOn (Under burden os) L) (block_weight burden (o ∷ os) es) v.blocks
+    stands_straight (IsStackedOn (Under burden os) L) (block_weight burden (o ∷ os) es) v.blocks
     (split-block burden (o ∷ os) es ∙ e) h.blocks_are in
     let same : burdened_span burden (tree_of es) ≡ k = sym (span_marked burden mark (tree_of es)) in
     by_block burden os (closed o es) (gone_on k L) v (block_more burden os outer (Series t))
@@ -235,7 +235,7 @@ series_need_no_call burden path = record {
 
 -- a path that represents a run is also a late path
 pub told_late : (burden : Burden) (os : List Open) (es : List Event) (path : BurdenedPath)
-    → TellsWeight burden os es path → TellsLate burden os es path
+    → TracksWeight burden os es path → TracksLate burden os es path
 told_late burden os es path h =
     let n = h.noted_is in
     let e : path.weight ≡ path.weight + (work_in os es - path.noted) = omega arith in
@@ -245,23 +245,23 @@ told_late burden os es path h =
 
 -- a part in series begins and ends without a call
 pub late_begun : (burden : Burden) (mark : Option Mark) (os : List Open) (es : List Event) (path : BurdenedPath)
-    → TellsLate burden os es path → TellsLate burden (in_series mark es os) [] path
+    → TracksLate burden os es path → TracksLate burden (in_series mark es os) [] path
 late_begun burden mark os es path h =
     let e = sum_begun work work_adds (record { spawned = false; mark = mark; outer = es }) os in
     let l = h.late in
-    let P : ℕ → Type 0 = λ n. TellsWeight burden (in_series mark es os) [] (noted_at n path) in
+    let P : ℕ → Type 0 = λ n. TracksWeight burden (in_series mark es os) [] (noted_at n path) in
     record {
       late = omega arith;
       tells = subst P (sym e) ((series_need_no_call burden (noted_at (work_in os es) path)).begins mark os es h.tells);
     }
 
 pub late_ended : (burden : Burden) (o : Open) (os : List Open) (es : List Event) (path : BurdenedPath)
-    → o.spawned ≡ false → has_spawned es ≡ false → TellsLate burden (o ∷ os) es path
-    → TellsLate burden os (closed o es) path
+    → o.spawned ≡ false → has_spawned es ≡ false → TracksLate burden (o ∷ os) es path
+    → TracksLate burden os (closed o es) path
 late_ended burden o os es path b n h =
     let e = left_work o os es in
     let l = h.late in
-    let P : ℕ → Type 0 = λ k. TellsWeight burden os (closed o es) (noted_at k path) in
+    let P : ℕ → Type 0 = λ k. TracksWeight burden os (closed o es) (noted_at k path) in
     record {
       late = omega arith;
       tells = subst P (sym e) ((series_need_no_call burden (noted_at (work_in (o ∷ os) es) path)).ends o os es b n

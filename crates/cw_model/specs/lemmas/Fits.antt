@@ -6,7 +6,7 @@ use Rattle.std.proofs.lemmas.Bool.{and_parts}
 use Rattle.cw_model.specs.declared.syntax.NameKind.{NameKind}
 use Rattle.cw_model.specs.declared.syntax.NameKind.TheVariants as name_kind
 use Rattle.cw_model.specs.Syntax.{Name, Expr, Number, Variable, Element, Length, Negative, Not, Binary, Param}
-use Rattle.cw_model.specs.Syntax.{is_array_kind, is_written_kind, wants_array}
+use Rattle.cw_model.specs.Syntax.{is_array_kind, is_written_kind, is_array_param}
 use Rattle.cw_model.specs.Names.{same_name}
 use Rattle.cw_model.specs.Typing.{Known, is_fine, is_array, is_writable, is_argument, are_arguments}
 
@@ -19,7 +19,7 @@ fits_kind known true _ = false
 -- there is one fitting argument for each parameter, apart from whether arrays are writable
 abbrev pub fit_kinds : Known → List Param → List Expr → Bool
 fit_kinds known [] [] = true
-fit_kinds known (p ∷ ps) (e ∷ es) = fits_kind known (wants_array p) e && fit_kinds known ps es
+fit_kinds known (p ∷ ps) (e ∷ es) = fits_kind known (is_array_param p) e && fit_kinds known ps es
 fit_kinds known _ _ = false
 
 -- a writable name is an array

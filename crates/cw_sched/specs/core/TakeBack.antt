@@ -2,7 +2,7 @@
 use Rattle.std.specs.Prelude.{◌≡◌, ℕ, ◌+◌, ◌≤◌, false, List, []}
 use Rattle.cw_code.specs.Code.{Code}
 use Rattle.cw_code.specs.Run.{State}
-use Rattle.cw_code.specs.Jobs.{Extent, ToJoin, has_come, Standing, Arrives, travel, Job, course}
+use Rattle.cw_code.specs.Jobs.{Extent, ToJoin, has_come, JoinFrame, Arrives, travel, Job, course}
 use Rattle.cw_model.specs.Outcome.{Trace}
 use Rattle.cw_code.specs.Over.{under}
 use Rattle.cw_code.specs.Strands.{Going, Waits, Halted, rest_at, resumed, stopped_after}
@@ -41,6 +41,6 @@ RunsAlike =
 -- join as given, with as much left
 abbrev pub JoinsAlike : Type 0
 JoinsAlike =
-    (code : Code) (y : Extent) (s : State) (limit before n left : ℕ) (frame : Standing) (t : Trace) → s.operands ≡ []
+    (code : Code) (y : Extent) (s : State) (limit before n left : ℕ) (frame : JoinFrame) (t : Trace) → s.operands ≡ []
     → course code (rest_at s limit before) n ≡ Arrives frame t left
     → travel y code n s ≡ travel y code left (resumed s frame t)

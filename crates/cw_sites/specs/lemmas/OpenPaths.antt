@@ -7,7 +7,7 @@ use Rattle.cw_sites.specs.ChosenPaths.{Path, nowhere, plus, best, steps_of, chos
 use Rattle.cw_sites.specs.BlockPaths.{BlockPath, Straight, Split, now_of, extended, longest_of, child_ended, finished}
 use Rattle.cw_sites.specs.BlockPaths.{joins as joined, after, after_all}
 use Rattle.cw_sites.specs.StrandPaths.{SeenBlock, StrandPath, begins, again, chooses, ends_at, ends, joins}
-use Rattle.cw_sites.specs.OpenPaths.{inside, here_in, enters, block_path, StandsOn, RestsOn, Under, Shows, is_split}
+use Rattle.cw_sites.specs.OpenPaths.{inside, here_in, enters, block_path, IsStackedOn, RestsOn, Under, Shows, is_split}
 use Rattle.cw_sites.specs.lemmas.ChosenPaths.{plus-nowhere_first, plus-nowhere_last}
 use Rattle.cw_sites.specs.lemmas.BlockPaths.{finished-after_all}
 
@@ -60,10 +60,10 @@ split-block_path site base (o ∷ os) es =
 -- the paths of a strand represent a block, with the block as a variable
 pub record ShowsLocal (below : List SeenBlock → Type 0) (L : BlockPath) (t : StrandPath) : Type 0 where
   pub now_is : t.now ≡ now_of L
-  pub blocks_are : StandsOn below L t.blocks
+  pub blocks_are : IsStackedOn below L t.blocks
 
 stands_extended : (below : List SeenBlock → Type 0) (p : Path) (L : BlockPath) (ps : List SeenBlock)
-    → StandsOn below L ps → StandsOn below (extended p L) ps
+    → IsStackedOn below L ps → IsStackedOn below (extended p L) ps
 stands_extended below p (Straight n) ps h = h
 stands_extended below p (Split b l n) [] h = absurd h
 stands_extended below p (Split b l n) (q ∷ ps) h = h
@@ -116,7 +116,7 @@ shows_spawned site base os es t mark e h = record {
 }
 
 pub again_at : (below : List SeenBlock → Type 0) (L : BlockPath) (n : Path) (ps : List SeenBlock) → is_split L ≡ true
-    → n ≡ now_of L → StandsOn below L ps → RestsOn below L (again (record { now = n; blocks = ps })).blocks
+    → n ≡ now_of L → IsStackedOn below L ps → RestsOn below L (again (record { now = n; blocks = ps })).blocks
 again_at below (Straight m) n ps e f h = cc
 again_at below (Split b l m) n [] e f h = absurd h
 again_at below (Split b l m) n (p ∷ ps) e f h = (h.0, h.1, f, h.3)
@@ -133,7 +133,7 @@ shows_spawned_again site base os es t mark e h = record {
 
 -- a join
 joins_at : (below : List SeenBlock → Type 0) (L : BlockPath) (n : Path) (ps : List SeenBlock) → is_split L ≡ true
-    → n ≡ now_of L → StandsOn below L ps → ShowsLocal below (joined L) (joins (record { now = n; blocks = ps }))
+    → n ≡ now_of L → IsStackedOn below L ps → ShowsLocal below (joined L) (joins (record { now = n; blocks = ps }))
 joins_at below (Straight m) n ps e f h = cc
 joins_at below (Split b l m) n [] e f h = absurd h
 joins_at below (Split b l m) n (p ∷ ps) e f h =
@@ -190,7 +190,7 @@ ended_path site base o os es before e f =
     ∙ ap (λ (p : Path). Straight (plus before p)) (sym (chosen_inside site (here_in base os) o.mark (tree_of es)))
 
 left_at : (below : List SeenBlock → Type 0) (L : BlockPath) (c : Path) (t : StrandPath)
-    → ShowsLocal (StandsOn below L) (Straight (plus (now_of L) c)) t → ShowsLocal below (extended c L) t
+    → ShowsLocal (IsStackedOn below L) (Straight (plus (now_of L) c)) t → ShowsLocal below (extended c L) t
 left_at below L c t h =
     record { now_is = h.now_is ∙ sym (now_extended c L); blocks_are = stands_extended below c L t.blocks h.blocks_are }
 
@@ -203,7 +203,7 @@ shows_left site base mark outer os es t e h =
     let o : Open = record { spawned = false; mark = mark; outer = outer } in
     let c = chosen site (here_in base os) (marked mark (tree_of es)) in
     let L = block_path site base os outer in
-    let P : BlockPath → Type 0 = λ K. ShowsLocal (StandsOn (Under site base os) L) K t in
+    let P : BlockPath → Type 0 = λ K. ShowsLocal (IsStackedOn (Under site base os) L) K t in
     let k =
     subst P (ended_path site base o os es (now_of L) refl e)
     (record { now_is = h.now_is; blocks_are = h.blocks_are }) in

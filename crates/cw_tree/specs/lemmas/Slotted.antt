@@ -6,7 +6,7 @@ use Rattle.cw_model.specs.Syntax as model
 use Rattle.cw_model.specs.Syntax.{Name, Param}
 use Rattle.cw_tree.specs.Declares.{declares_in, declares_in_block}
 use Rattle.cw_tree.specs.Resolved as spec
-use Rattle.cw_model.specs.Syntax.{wants_array}
+use Rattle.cw_model.specs.Syntax.{is_array_param}
 
 ints_after : (l : spec.Locals) (s : model.Stmt) → length (spec.locals_after l s).ints ≤ length l.ints + declares_in s
 ints_after l (model.Declare x e) = let one = length_push l.ints x in omega (arith, one)
@@ -131,12 +131,12 @@ mutual
 -- each parameter is an integer or an array
 pub params_count : (ps : List Param) → length (spec.locals_of ps).ints + length (spec.locals_of ps).arrays ≡ length ps
 params_count [] = refl
-params_count (p ∷ ps) = first (wants_array p) (params_count ps)
+params_count (p ∷ ps) = first (is_array_param p) (params_count ps)
   where
     first : (b : Bool) → length (spec.locals_of ps).ints + length (spec.locals_of ps).arrays ≡ length ps →
         length
-        (map (λ p. p.name) (if not b then p ∷ filter (λ p. not (wants_array p)) ps else filter (λ p. not (wants_array p)) ps))
-        + length (map (λ p. p.name) (if b then p ∷ filter (λ p. wants_array p) ps else filter (λ p. wants_array p) ps))
+        (map (λ p. p.name) (if not b then p ∷ filter (λ p. not (is_array_param p)) ps else filter (λ p. not (is_array_param p)) ps))
+        + length (map (λ p. p.name) (if b then p ∷ filter (λ p. is_array_param p) ps else filter (λ p. is_array_param p) ps))
         ≡ suc (length ps)
     first true h = omega (arith, h)
     first false h = omega (arith, h)

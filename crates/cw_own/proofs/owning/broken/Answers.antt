@@ -3,7 +3,7 @@ use Rattle.std.specs.List.{list_all}
 use Rattle.cw_tree.specs.ResolvedView.{resolved_of, function_of}
 use Rattle.cw_own.specs.Bounds.{small_function}
 use Rattle.cw_own.specs.Reasons.{function_reasons, line_in}
-use Rattle.cw_own.specs.Views.{AreNoted, places_told}
+use Rattle.cw_own.specs.Views.{AreNoted, recorded_reasons}
 use Rattle.cw_text.specs.Rising.{kept}
 use Rattle.cw_own.proofs.Fitting.{tree_small}
 use Rattle.cw_own.proofs.Refusing.{all_right, first_right}
@@ -19,7 +19,7 @@ returns-clause-first c =
     let tree = c.args.typed.now.tree in
     let noted : AreNoted tree c.note_functions.new.told.reasons =
     c.in_ok-note_functions.ensures
-    ∙ ap (λ fs. kept line_in (places_told c.new-told.result) (flat_map function_reasons (map function_of fs))) c.deref.ensures.value
+    ∙ ap (λ fs. kept line_in (recorded_reasons c.new-told.result) (flat_map function_reasons (map function_of fs))) c.deref.ensures.value
     ∙ ap (λ o. kept line_in o (flat_map function_reasons (map function_of tree.functions.items))) c.new-told.ensures in
     first_right tree c.args.typed.now.resolved c.args.typed.now.typed c.note_functions.new.told.reasons noted
 
@@ -28,5 +28,5 @@ returns-clause-all c =
     let tree = c.args.typed.now.tree in
     all_right tree c.note_functions.new.told.reasons
     (c.in_ok-note_functions.ensures
-    ∙ ap (λ fs. kept line_in (places_told c.new-told.result) (flat_map function_reasons (map function_of fs))) c.deref.ensures.value
+    ∙ ap (λ fs. kept line_in (recorded_reasons c.new-told.result) (flat_map function_reasons (map function_of fs))) c.deref.ensures.value
     ∙ ap (λ o. kept line_in o (flat_map function_reasons (map function_of tree.functions.items))) c.new-told.ensures)

@@ -7,7 +7,7 @@ use Rattle.cw_tree.specs.ResolvedView.{function_of}
 use Rattle.cw_own.specs.Bounds.{small_function}
 use Rattle.cw_own.specs.Reasons.{function_reasons, line_in}
 use Rattle.cw_text.specs.Rising.{kept}
-use Rattle.cw_own.specs.Views.{places_told}
+use Rattle.cw_own.specs.Views.{recorded_reasons}
 use Rattle.cw_own.proofs.Small.{kept_append}
 use Rattle.cw_own.proofs.owning.note_functions.Goals as goal
 
@@ -27,7 +27,7 @@ loop-function-preserved c =
       small = second_true (small_function f) (list_all small_function rest) (ap (list_all small_function) (sym split) ∙ c.loop-function.invariant.small);
       same =
           ap (λ o. kept line_in o (flat_map function_reasons rest)) c.in_ok-note_function.ensures
-          ∙ sym (kept_append (places_told c.loop-function.told) (function_reasons f) (flat_map function_reasons rest))
-          ∙ ap (λ (fs : List spec.Function). kept line_in (places_told c.loop-function.told) (flat_map function_reasons fs)) (sym split)
+          ∙ sym (kept_append (recorded_reasons c.loop-function.told) (function_reasons f) (flat_map function_reasons rest))
+          ∙ ap (λ (fs : List spec.Function). kept line_in (recorded_reasons c.loop-function.told) (flat_map function_reasons fs)) (sym split)
           ∙ c.loop-function.invariant.same;
     }

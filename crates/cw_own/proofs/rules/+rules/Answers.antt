@@ -11,7 +11,7 @@ use Rattle.cw_own.specs.Taken.{held_of, taken_of, taken_after, taken_after_all, 
 use Rattle.cw_own.specs.Rules.{seen_by}
 use Rattle.cw_own.specs.Reasons.{block_reasons, reasons_at, reasons_in, reasons_within, why, line_in}
 use Rattle.cw_text.specs.Rising.{kept}
-use Rattle.cw_own.specs.Views.{places_told, turn_of}
+use Rattle.cw_own.specs.Views.{recorded_reasons, turn_of}
 use Rattle.cw_own.proofs.Small.{appended, kept_append}
 use Rattle.cw_own.proofs.Branches.{if_else_is, line_is}
 use Rattle.cw_own.proofs.Turns.{drop_both, rest_is, left_is}
@@ -32,7 +32,7 @@ note_all-loop-line-preserved t c =
     let known = row_of c.loop-line.known in
     let taken = taken_of c.loop-line.taken in
     let around = option_map turn_of c.args.around.now in
-    let first_so_far = places_told c.loop-line.told in
+    let first_so_far = recorded_reasons c.loop-line.told in
     let first : drop c.loop-line.line-index c.args.lines.now ≡ line ∷ rest = grind (arith, common_steps) in
     let split : block_of (drop c.loop-line.line-index c.args.lines.now) ≡ spec.Then line.line s (block_of rest) = ap block_of first ∙ line_is line rest in
     let next : row_of c.know.new.known ≡ known_after known s = c.know.ensures in
@@ -41,7 +41,7 @@ note_all-loop-line-preserved t c =
     let here = reasons_at line.line (why around (seen_by known taken s) s) in
     let inside = reasons_within around known (seen_by known taken s) line.line s in
     let more = reasons_in around (known_after known s) (taken_after known s taken) (block_of rest) in
-    let noted : places_told c.note_within.new.told ≡ kept line_in (kept line_in first_so_far here) inside =
+    let noted : recorded_reasons c.note_within.new.told ≡ kept line_in (kept line_in first_so_far here) inside =
     c.note_within.ensures.lines
     ∙ ap (λ o. kept line_in o (reasons_within around known (taken_of c.see.new.taken) line.line s)) (c.note.ensures ∙ ap (λ r. kept line_in first_so_far (reasons_at line.line r)) c.of_stmt.ensures)
     ∙ ap (λ t. kept line_in (kept line_in first_so_far (reasons_at line.line (why around t s))) (reasons_within around known t line.line s)) seen in
@@ -54,8 +54,8 @@ note_all-loop-line-preserved t c =
           ∙ ap (λ b. taken_after_all known b taken) (sym split)
           ∙ c.loop-line.invariant.taken;
       lines =
-          ap (λ k. kept line_in (places_told c.note_within.new.told) (reasons_in around k (taken_of c.note_within.new.taken) (block_of rest))) next
-          ∙ ap (λ t. kept line_in (places_told c.note_within.new.told) (reasons_in around (known_after known s) t (block_of rest))) after
+          ap (λ k. kept line_in (recorded_reasons c.note_within.new.told) (reasons_in around k (taken_of c.note_within.new.taken) (block_of rest))) next
+          ∙ ap (λ t. kept line_in (recorded_reasons c.note_within.new.told) (reasons_in around (known_after known s) t (block_of rest))) after
           ∙ ap (λ o. kept line_in o more) (noted ∙ sym (kept_append first_so_far here inside))
           ∙ sym (kept_append first_so_far (here ++ inside) more)
           ∙ ap (λ b. kept line_in first_so_far (reasons_in around known taken b)) (sym split)
@@ -121,11 +121,11 @@ note_either-returns-in-IfElse-clause-lines t c =
     let taken = taken_of c.args.taken.now in
     let b = block_of c.in-IfElse.block.items in
     let d = block_of c.in-IfElse.other.value.items in
-    let first = places_told c.args.told.now in
+    let first = recorded_reasons c.args.told.now in
     let e : stmt_of c.args.stmt.now ≡ spec.IfElse (expr_of c.in-IfElse.field-0) b d = ap stmt_of c.in-IfElse.is ∙ if_else_is c.in-IfElse.field-0 c.in-IfElse.block c.in-IfElse.other in
     let here : c.deref-in-IfElse-2.result.now ≡ c.in-IfElse.other.value.items = c.deref-in-IfElse-2.ensures.value ∙ ap (λ v. v.items) c.deref-in-IfElse.ensures in
     c.note_block-in-IfElse.ensures.lines
-    ∙ ap (λ ls. kept line_in (places_told c.note_block.new.told) (block_reasons around known taken Leaves (block_of ls))) here
+    ∙ ap (λ ls. kept line_in (recorded_reasons c.note_block.new.told) (block_reasons around known taken Leaves (block_of ls))) here
     ∙ ap (λ o. kept line_in o (block_reasons around known taken Leaves d)) (c.note_block.ensures.lines ∙ ap (λ ls. kept line_in first (block_reasons around known taken Leaves (block_of ls))) c.deref.ensures.value)
     ∙ sym (kept_append first (block_reasons around known taken Leaves b) (block_reasons around known taken Leaves d))
     ∙ sym (ap (λ s. kept line_in first (reasons_within around known taken 0 s)) e)

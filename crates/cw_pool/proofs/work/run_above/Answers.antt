@@ -1,5 +1,5 @@
 use Rattle.std.proofs.Common.{refl}
-use Rattle.cw_pool.specs.Chains.{StandsOn}
+use Rattle.cw_pool.specs.Chains.{FormsChain}
 use Rattle.cw_pool.proofs.Chained.{same_chain, same_of}
 use Rattle.cw_pool.proofs.work.run_above.Goals as goal
 
@@ -13,7 +13,7 @@ returns-then-held-gt-BUDGET-clause-stands g c root stands =
 pub returns-clause-stands : goal.returns-clause-stands
 returns-clause-stands g c root stands =
     let y = c.args.yard.now in
-    let kept : StandsOn y root c.weigh-held.new.post c.args.below.now.items = (
+    let kept : FormsChain y root c.weigh-held.new.post c.args.below.now.items = (
       c.weigh-held.ensures.works y stands.0,
       same_chain y root _ _ c.args.below.now.items c.args.below.now.items (same_of c.weigh-held.new.post.strand c.args.post.now.strand c.weigh-held.ensures.of) refl stands.1,
     ) in

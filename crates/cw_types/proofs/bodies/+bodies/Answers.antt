@@ -11,14 +11,14 @@ use Rattle.cw_tree.specs.declared.syntax.Stmt.{the_lemmas as stmt_lemmas}
 use Rattle.cw_tree.specs.SyntaxView.{program_of, block_of, stmt_of, expr_of}
 use Rattle.cw_types.specs.Returned.{returns_of}
 use Rattle.cw_types.specs.Scope.{Declared, after_stmt, kinds, oldest}
-use Rattle.cw_types.specs.Standing.{Standing, in_cut, in_loop, standing_in, standing_inside}
+use Rattle.cw_types.specs.StmtContext.{StmtContext, in_cut, in_loop, statements_in, statements_inside}
 use Rattle.cw_text.specs.RecordedReasons.{itself, lines_at}
 use Rattle.cw_types.specs.Typing.{keeps_rules, faults_inside}
-use Rattle.cw_types.specs.Within.{IsAmong, NeverReached, TellsAmong}
+use Rattle.cw_types.specs.Within.{IsAmong, NeverReached, AddsAmong}
 use Rattle.cw_text.specs.lemmas.Kept.{kept-append}
 use Rattle.cw_types.proofs.Among.{among_more, broken_among, denied, ended_among, ended_there}
 use Rattle.cw_types.proofs.Noting.{by_parts, noted}
-use Rattle.cw_text.specs.lemmas.Telling.{and_then, found_true}
+use Rattle.cw_text.specs.lemmas.RecordingReasons.{and_then, found_true}
 use Rattle.cw_types.proofs.Walking.{kinds_after, longer_after, oldest_after}
 use Rattle.cw_types.proofs.bodies.+bodies.Goals as goal
 
@@ -48,12 +48,12 @@ block-loop-i-preserved t c =
     c.note.ensures.lines ∙ ap (λ b. kept itself p (unless b line)) (denied (is_some c.of_stmt.result) keeps c.of_stmt.ensures.decides) in
     let last : lines_at c.note-in-loop-i.new.self.places ≡ kept itself (lines_at c.inside.new.told.places) (unless stands line) =
     c.note-in-loop-i.ensures.lines ∙ ap (λ b. kept itself (lines_at c.inside.new.told.places) (unless b line)) (denied (is_some c.never_reached.result) stands ended) in
-    let here : Standing = record { line = line; returns = R; locals = k; stmt = s; behind = rest } in
-    let inner = standing_inside R k line s in
-    let further = standing_in R (after_stmt line s k) rest in
-    let whole = standing_in R c.args.known.now (block_of ls) in
-    let within : (st : Standing) → Contains (here ∷ (inner ++ further)) st → Contains whole st =
-    λ st h. c.loop-i.invariant.there st (subst (λ (b : model.Block). Contains (standing_in R k b) st) (sym split) h) in
+    let here : StmtContext = record { line = line; returns = R; locals = k; stmt = s; behind = rest } in
+    let inner = statements_inside R k line s in
+    let further = statements_in R (after_stmt line s k) rest in
+    let whole = statements_in R c.args.known.now (block_of ls) in
+    let within : (st : StmtContext) → Contains (here ∷ (inner ++ further)) st → Contains whole st =
+    λ st h. c.loop-i.invariant.there st (subst (λ (b : model.Block). Contains (statements_in R k b) st) (sym split) h) in
     let there = within here (Contains-append_left (here ∷ []) (inner ++ further) here (0, omega arith, refl)) in
     record {
       same =
@@ -78,7 +78,7 @@ block-loop-i-preserved t c =
           (subst (λ (ds : List Line). IfSome c.never_reached.result (NeverReached at ds)) all c.never_reached.ensures.holds)))
           c.note-in-loop-i.ensures.told)));
       there = λ st h. within st (Contains-append_right (here ∷ []) (inner ++ further) st (Contains-append_right inner further st
-          (subst (λ (ds : List Declared). Contains (standing_in R ds rest) st) declared h)));
+          (subst (λ (ds : List Declared). Contains (statements_in R ds rest) st) declared h)));
       count = c.loop-i.invariant.count;
       enough = subst (λ (ds : List Declared). c.len-before.result ≤ length ds) (sym declared) (longer_after line s k c.len-before.result c.loop-i.invariant.enough);
       kept = ap (oldest c.len-before.result) declared ∙ oldest_after line s k c.len-before.result c.loop-i.invariant.enough ∙ c.loop-i.invariant.kept;
@@ -108,14 +108,14 @@ inside-returns-in_ok-block-in-IfElse-2-clause-told t c =
     let line = c.args.line.now.line in
     let b = c.in-IfElse.b.items in
     let d = c.in-IfElse.c.items in
-    let first = standing_in R k (block_of b) in
-    let second = standing_in R k (block_of d) in
+    let first = statements_in R k (block_of b) in
+    let second = statements_in R k (block_of d) in
     let seen : stmt_of c.args.line.now.stmt ≡ model.IfElse (expr_of c.in-IfElse.field-0) (block_of b) (block_of d) = grind (arith, common_steps, stmt_lemmas) in
-    let one = subst (λ (ls : List Line). TellsAmong G (standing_in R k (block_of ls)) c.args.told.now c.block.new.told) c.deref.ensures.value c.in_ok-block-in-IfElse.ensures.told in
-    let other = subst (λ (ls : List Line). TellsAmong G (standing_in R k (block_of ls)) c.block.new.told c.block-in-IfElse.new.told) c.deref-in-IfElse.ensures.value
-    (subst (λ (ds : List Declared). TellsAmong G (standing_in R ds (block_of c.deref-in-IfElse.result.now)) c.block.new.told c.block-in-IfElse.new.told) c.in_ok-block-in-IfElse.ensures.known
+    let one = subst (λ (ls : List Line). AddsAmong G (statements_in R k (block_of ls)) c.args.told.now c.block.new.told) c.deref.ensures.value c.in_ok-block-in-IfElse.ensures.told in
+    let other = subst (λ (ls : List Line). AddsAmong G (statements_in R k (block_of ls)) c.block.new.told c.block-in-IfElse.new.told) c.deref-in-IfElse.ensures.value
+    (subst (λ (ds : List Declared). AddsAmong G (statements_in R ds (block_of c.deref-in-IfElse.result.now)) c.block.new.told c.block-in-IfElse.new.told) c.in_ok-block-in-IfElse.ensures.known
     c.in_ok-block-in-IfElse-2.ensures.told) in
-    subst (λ (s : model.Stmt). TellsAmong G (standing_inside R k line s) c.args.told.now c.block-in-IfElse.new.told) (sym seen)
+    subst (λ (s : model.Stmt). AddsAmong G (statements_inside R k line s) c.args.told.now c.block-in-IfElse.new.told) (sym seen)
     (and_then (IsAmong G (first ++ second)) c.args.told.now c.block.new.told c.block-in-IfElse.new.told
     (among_more G first (first ++ second) c.args.told.now c.block.new.told (Contains-append_left first second) one)
     (among_more G second (first ++ second) c.block.new.told c.block-in-IfElse.new.told (Contains-append_right first second) other))
@@ -128,11 +128,11 @@ inside-returns-in_ok-block-in-For-clause-told t c =
     let line = c.args.line.now.line in
     let x = c.in-For.head.value.variable in
     let b = block_of c.in-For.b.items in
-    let seen : standing_inside R k line (stmt_of c.args.line.now.stmt) ≡ standing_in Nowhere (in_loop line x k) b = grind (arith, common_steps, stmt_lemmas) in
+    let seen : statements_inside R k line (stmt_of c.args.line.now.stmt) ≡ statements_in Nowhere (in_loop line x k) b = grind (arith, common_steps, stmt_lemmas) in
     let known : c.declare.new.self ≡ in_loop line x k = grind (arith, common_steps) in
-    subst (λ (ss : List Standing). TellsAmong G ss c.args.told.now c.block-in-For.new.told) (sym seen)
-    (subst (λ (ds : List Declared). TellsAmong G (standing_in Nowhere ds b) c.args.told.now c.block-in-For.new.told) known
-    (subst (λ (ls : List Line). TellsAmong G (standing_in Nowhere c.declare.new.self (block_of ls)) c.args.told.now c.block-in-For.new.told) c.deref-in-For-2.ensures.value
+    subst (λ (ss : List StmtContext). AddsAmong G ss c.args.told.now c.block-in-For.new.told) (sym seen)
+    (subst (λ (ds : List Declared). AddsAmong G (statements_in Nowhere ds b) c.args.told.now c.block-in-For.new.told) known
+    (subst (λ (ls : List Line). AddsAmong G (statements_in Nowhere c.declare.new.self (block_of ls)) c.args.told.now c.block-in-For.new.told) c.deref-in-For-2.ensures.value
     c.in_ok-block-in-For.ensures.told))
 
 pub inside-returns-in_ok-block-in-Cut-clause-told : goal.inside-returns-in_ok-block-in-Cut-clause-told
@@ -144,9 +144,9 @@ inside-returns-in_ok-block-in-Cut-clause-told t c =
     let l = c.in-Cut.cut.value.left in
     let r = c.in-Cut.cut.value.right in
     let b = block_of c.in-Cut.b.items in
-    let seen : standing_inside R k line (stmt_of c.args.line.now.stmt) ≡ standing_in Nowhere (in_cut line l r k) b = grind (arith, common_steps, stmt_lemmas) in
+    let seen : statements_inside R k line (stmt_of c.args.line.now.stmt) ≡ statements_in Nowhere (in_cut line l r k) b = grind (arith, common_steps, stmt_lemmas) in
     let known : c.declare-in-Cut-2.new.self ≡ in_cut line l r k = grind (arith, common_steps) in
-    subst (λ (ss : List Standing). TellsAmong G ss c.args.told.now c.block-in-Cut.new.told) (sym seen)
-    (subst (λ (ds : List Declared). TellsAmong G (standing_in Nowhere ds b) c.args.told.now c.block-in-Cut.new.told) known
-    (subst (λ (ls : List Line). TellsAmong G (standing_in Nowhere c.declare-in-Cut-2.new.self (block_of ls)) c.args.told.now c.block-in-Cut.new.told) c.deref-in-Cut-3.ensures.value
+    subst (λ (ss : List StmtContext). AddsAmong G ss c.args.told.now c.block-in-Cut.new.told) (sym seen)
+    (subst (λ (ds : List Declared). AddsAmong G (statements_in Nowhere ds b) c.args.told.now c.block-in-Cut.new.told) known
+    (subst (λ (ls : List Line). AddsAmong G (statements_in Nowhere c.declare-in-Cut-2.new.self (block_of ls)) c.args.told.now c.block-in-Cut.new.told) c.deref-in-Cut-3.ensures.value
     c.in_ok-block-in-Cut.ensures.told))

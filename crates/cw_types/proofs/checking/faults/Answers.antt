@@ -12,13 +12,13 @@ use Rattle.cw_tree.specs.declared.syntax.Reducer.{Reducer as CodeReducer}
 use Rattle.cw_tree.specs.SyntaxView.{program_of, function_of, reducer_of}
 use Rattle.cw_types.specs.Named.{functions_named, reducers_named}
 use Rattle.cw_types.specs.Names.{function_names}
-use Rattle.cw_text.specs.RecordedReasons.{Tells, itself, lines_at, no_place}
-use Rattle.cw_types.specs.ReasonMeaning.{IsNoMain, IsRepeatedIn, IsTold, OfNames}
+use Rattle.cw_text.specs.RecordedReasons.{AddsOnly, itself, lines_at, no_place}
+use Rattle.cw_types.specs.ReasonMeaning.{IsNoMain, IsRepeatedIn, BreaksRule, OfNames}
 use Rattle.cw_types.specs.Within.{faults_of_all}
 use Rattle.cw_tree.specs.lemmas.Few.{functions_few, reducers_few}
 use Rattle.cw_types.proofs.Among.{denied}
 use Rattle.cw_types.proofs.Refusing.{no_main_true, of_functions, of_reducers}
-use Rattle.cw_text.specs.lemmas.Telling.{all_true, and_then, found_true, weaken}
+use Rattle.cw_text.specs.lemmas.RecordingReasons.{all_true, and_then, found_true, weaken}
 use Rattle.cw_types.proofs.checking.faults.Goals as goal
 
 pub new-requires-clause-few_functions : goal.new-requires-clause-few_functions
@@ -66,13 +66,13 @@ returns-clause-holds c =
     let fs = functions_named P.functions in
     let rs = reducers_named P.reducers in
     let same : program_of c.in_ok-globals.globals.ast.now ≡ P = ap program_of c.in_ok-globals.ensures in
-    let Such = IsTold P in
+    let Such = BreaksRule P in
     let start = c.new-told.result in
-    let first = subst (λ (gs : List CodeFunction). Tells (IsRepeatedIn (functions_named (map function_of gs))) c.note.new.self c.repeated_functions.new.told) c.deref.ensures.value c.in_ok-repeated_functions.ensures.told in
-    let second = subst (λ (gs : List CodeReducer). Tells (IsRepeatedIn (reducers_named (map reducer_of gs))) c.repeated_functions.new.told c.repeated_reducers.new.told) c.deref-2.ensures.value c.in_ok-repeated_reducers.ensures.told in
-    let third = subst (λ (gs : List CodeFunction). Tells (IsRepeatedIn (functions_named (map function_of gs) ++ reducers_named (map reducer_of c.deref-4.result.now))) c.repeated_reducers.new.told c.shared_names.new.told) c.deref-3.ensures.value c.shared_names.ensures.told in
-    let both = subst (λ (gs : List CodeReducer). Tells (IsRepeatedIn (fs ++ reducers_named (map reducer_of gs))) c.repeated_reducers.new.told c.shared_names.new.told) c.deref-4.ensures.value third in
-    let rest = subst (λ (p : Program). Tells (IsTold p) c.shared_names.new.told c.functions_faults.new.told) same c.in_ok-functions_faults.ensures.told in
+    let first = subst (λ (gs : List CodeFunction). AddsOnly (IsRepeatedIn (functions_named (map function_of gs))) c.note.new.self c.repeated_functions.new.told) c.deref.ensures.value c.in_ok-repeated_functions.ensures.told in
+    let second = subst (λ (gs : List CodeReducer). AddsOnly (IsRepeatedIn (reducers_named (map reducer_of gs))) c.repeated_functions.new.told c.repeated_reducers.new.told) c.deref-2.ensures.value c.in_ok-repeated_reducers.ensures.told in
+    let third = subst (λ (gs : List CodeFunction). AddsOnly (IsRepeatedIn (functions_named (map function_of gs) ++ reducers_named (map reducer_of c.deref-4.result.now))) c.repeated_reducers.new.told c.shared_names.new.told) c.deref-3.ensures.value c.shared_names.ensures.told in
+    let both = subst (λ (gs : List CodeReducer). AddsOnly (IsRepeatedIn (fs ++ reducers_named (map reducer_of gs))) c.repeated_reducers.new.told c.shared_names.new.told) c.deref-4.ensures.value third in
+    let rest = subst (λ (p : Program). AddsOnly (BreaksRule p) c.shared_names.new.told c.functions_faults.new.told) same c.in_ok-functions_faults.ensures.told in
     let main = subst (λ (p : Program). IfSome c.no_main.result (IsNoMain p)) same c.no_main.ensures.holds in
     all_true Such start c.functions_faults.new.told c.new-told.ensures
     (and_then Such start c.note.new.self c.functions_faults.new.told

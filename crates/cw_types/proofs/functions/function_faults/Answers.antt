@@ -10,12 +10,12 @@ use Rattle.cw_tree.specs.SyntaxView.{program_of, function_of, param_of, block_of
 use Rattle.cw_types.specs.declared.reason.IllTyped.{IllTyped}
 use Rattle.cw_types.specs.Returned.{returns_in}
 use Rattle.cw_types.specs.Scope.{Declared, kinds, with_params}
-use Rattle.cw_types.specs.Standing.{standing_in, standing_of}
+use Rattle.cw_types.specs.StmtContext.{statements_in, statements_of}
 use Rattle.cw_text.specs.RecordedReasons.{itself, lines_at}
 use Rattle.cw_types.specs.ReasonMeaning.{IsWrongFunction, OfHead, OfStatement}
-use Rattle.cw_types.specs.Within.{IsAmong, IsToldIn, TellsAmong}
+use Rattle.cw_types.specs.Within.{IsAmong, IsToldIn, AddsAmong}
 use Rattle.cw_types.proofs.Among.{denied}
-use Rattle.cw_text.specs.lemmas.Telling.{and_then, found_true, weaken}
+use Rattle.cw_text.specs.lemmas.RecordingReasons.{and_then, found_true, weaken}
 use Rattle.cw_types.proofs.Walking.{kinds_of_params}
 use Rattle.cw_types.proofs.functions.function_faults.Goals as goal
 
@@ -43,12 +43,12 @@ returns-clause-told c =
     let f = function_of c.args.function.now in
     let ps = map param_of c.args.function.now.params.items in
     let Such = IsToldIn G c.args.function.now in
-    let seen = subst (λ (r : rule.Returns). TellsAmong G (standing_in r c.in_ok-known.known (block_of c.as_slice.result.now)) c.note.new.self c.block.new.told) c.returns_of.ensures c.in_ok-block.ensures.told in
-    let known = subst (λ (ds : List Declared). TellsAmong G (standing_in (returns_in f) ds (block_of c.as_slice.result.now)) c.note.new.self c.block.new.told) c.in_ok-known.ensures seen in
-    let body = subst (λ (ls : List Line). TellsAmong G (standing_in (returns_in f) (with_params f.line ps []) (block_of ls)) c.note.new.self c.block.new.told) c.as_slice.ensures.value known in
+    let seen = subst (λ (r : rule.Returns). AddsAmong G (statements_in r c.in_ok-known.known (block_of c.as_slice.result.now)) c.note.new.self c.block.new.told) c.returns_of.ensures c.in_ok-block.ensures.told in
+    let known = subst (λ (ds : List Declared). AddsAmong G (statements_in (returns_in f) ds (block_of c.as_slice.result.now)) c.note.new.self c.block.new.told) c.in_ok-known.ensures seen in
+    let body = subst (λ (ls : List Line). AddsAmong G (statements_in (returns_in f) (with_params f.line ps []) (block_of ls)) c.note.new.self c.block.new.told) c.as_slice.ensures.value known in
     and_then Such c.args.told.now c.note.new.self c.block.new.told
     (found_true Such c.args.told.now c.note.new.self f.line c.of_head.result (headed c.of_head.result c.of_head.ensures.holds) c.note.ensures.told)
-    (weaken (IsAmong G (standing_of f)) Such c.note.new.self c.block.new.told (λ line r h. OfStatement h) body)
+    (weaken (IsAmong G (statements_of f)) Such c.note.new.self c.block.new.told (λ line r h. OfStatement h) body)
   where
     headed : (found : Option IllTyped) → IfSome found (IsWrongFunction (program_of c.args.globals.now.ast.now) (function_of c.args.function.now)) →
         IfSome found (IsToldIn c.args.globals.now c.args.function.now c.args.function.now.line)

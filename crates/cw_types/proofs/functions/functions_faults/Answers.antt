@@ -7,10 +7,10 @@ use Rattle.cw_text.specs.lemmas.Kept.{kept-append}
 use Rattle.cw_tree.specs.declared.syntax.Function.{Function as CodeFunction}
 use Rattle.cw_tree.specs.SyntaxView.{program_of, function_of}
 use Rattle.cw_text.specs.RecordedReasons.{itself, lines_at}
-use Rattle.cw_types.specs.ReasonMeaning.{IsTold, OfFunction}
+use Rattle.cw_types.specs.ReasonMeaning.{BreaksRule, OfFunction}
 use Rattle.cw_types.specs.Within.{IsToldIn}
 use Rattle.cw_types.proofs.Repeating.{in_map}
-use Rattle.cw_text.specs.lemmas.Telling.{and_then, weaken}
+use Rattle.cw_text.specs.lemmas.RecordingReasons.{and_then, weaken}
 use Rattle.cw_types.proofs.functions.functions_faults.Goals as goal
 
 pub loop-function-preserved : goal.loop-function-preserved
@@ -35,6 +35,6 @@ loop-function-preserved c =
           ∙ ap (λ (gs : List Function). kept itself p (flat_map (faults_of P) gs)) (sym split)
           ∙ c.loop-function.invariant.same;
       told =
-          and_then (IsTold P) c.args.told.now c.loop-function.told c.function_faults.new.told c.loop-function.invariant.told
-          (weaken (IsToldIn G c.function-item.result) (IsTold P) c.loop-function.told c.function_faults.new.told (λ line r h. OfFunction f there h) c.in_ok-function_faults.ensures.told);
+          and_then (BreaksRule P) c.args.told.now c.loop-function.told c.function_faults.new.told c.loop-function.invariant.told
+          (weaken (IsToldIn G c.function-item.result) (BreaksRule P) c.loop-function.told c.function_faults.new.told (λ line r h. OfFunction f there h) c.in_ok-function_faults.ensures.told);
     }

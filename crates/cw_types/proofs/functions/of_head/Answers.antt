@@ -6,7 +6,7 @@ use Rattle.cw_tree.specs.declared.syntax.Param.{Param}
 use Rattle.cw_types.specs.ReasonMeaning.{OfReturns}
 use Rattle.cw_types.specs.Typing.{are_new, is_right_main, returns_well}
 use Rattle.cw_types.proofs.Heading.{head_by_parts}
-use Rattle.cw_types.proofs.Telling.{both_sides, broken, kept}
+use Rattle.cw_types.proofs.RecordingLines.{both_sides, broken, kept}
 use Rattle.cw_types.proofs.functions.of_head.Goals as goal
 
 pub returns-in-Some-clause-decides : goal.returns-in-Some-clause-decides

@@ -5,18 +5,18 @@ use Rattle.cw_model.specs.Lines.{lowest, unless}
 use Rattle.cw_model.specs.lemmas.Lowest.{lowest-append}
 use Rattle.cw_tree.specs.SyntaxView.{function_of}
 use Rattle.cw_types.specs.Limits.{IsPassedByFunction, declared_past}
-use Rattle.cw_types.specs.Telling.{line_told}
+use Rattle.cw_types.specs.RecordingLines.{recorded_line}
 use Rattle.cw_types.proofs.Among.{denied}
-use Rattle.cw_types.proofs.Telling.{and_then, found_true, least_true, lowest_least}
+use Rattle.cw_types.proofs.RecordingLines.{and_then, found_true, least_true, lowest_least}
 use Rattle.cw_types.proofs.limits.function_limits.Goals as goal
 
 pub returns-clause-lines : goal.returns-clause-lines
 returns-clause-lines c =
     let f = function_of c.args.function.now in
-    let old = line_told c.args.told.now in
+    let old = recorded_line c.args.told.now in
     let few = nat_le (length f.params) MOST_PARAMETERS in
     let past = declared_past f in
-    let n = line_told c.note.new.self in
+    let n = recorded_line c.note.new.self in
     c.note_least.ensures.lines
     ∙ ap (λ o. lowest n (option_to_list o)) c.declared_beyond.ensures
     ∙ lowest_least n past

@@ -6,9 +6,9 @@ use Rattle.cw_tree.specs.SyntaxView.{function_of}
 use Rattle.cw_model.specs.Lines.{lowest}
 use Rattle.cw_model.specs.lemmas.Lowest.{lowest-append}
 use Rattle.cw_types.specs.Limits.{IsPassedByFunction, IsPassedByOne}
-use Rattle.cw_types.specs.Telling.{line_told}
+use Rattle.cw_types.specs.RecordingLines.{recorded_line}
 use Rattle.cw_types.proofs.Repeating.{in_map}
-use Rattle.cw_types.proofs.Telling.{and_then, weaken}
+use Rattle.cw_types.proofs.RecordingLines.{and_then, weaken}
 use Rattle.cw_types.proofs.limits.functions_limits.Goals as goal
 
 pub loop-function-preserved : goal.loop-function-preserved
@@ -18,7 +18,7 @@ loop-function-preserved c =
     let f = function_of c.function-item.result in
     let rest = map function_of (drop (i + 1) fs) in
     let split : map function_of (drop i fs) ≡ f ∷ rest = grind (arith, common_steps) in
-    let p = line_told c.loop-function.told in
+    let p = recorded_line c.loop-function.told in
     let there = in_map function_of fs i c.function-item.result c.loop-function-test.true c.function-item.is in
     record {
       same =

@@ -10,8 +10,8 @@ use Rattle.cw_tree.specs.SyntaxView.{function_of, program_of, reducer_of}
 use Rattle.cw_types.specs.Limits.{ByCount, ByFunction, ByRegions, IsPassedByOne, IsPassedByParts, IsPassedByRegions}
 use Rattle.cw_types.specs.Noted.{tags_past}
 use Rattle.cw_types.specs.Regions.{regions_of}
-use Rattle.cw_types.specs.Telling.{Tells, line_told}
-use Rattle.cw_types.proofs.Telling.{all_true, and_then, least_true, lowest_least, weaken}
+use Rattle.cw_types.specs.RecordingLines.{AddsOnly, recorded_line}
+use Rattle.cw_types.proofs.RecordingLines.{all_true, and_then, least_true, lowest_least, weaken}
 use Rattle.cw_types.proofs.limits.limits.Goals as goal
 
 five : (a b c d e : List ℕ) (p q r s t u : Option ℕ) → p ≡ None → q ≡ lowest p a → r ≡ lowest q b → s ≡ lowest r c → t ≡ lowest s d → u ≡ lowest t e →
@@ -43,13 +43,13 @@ returns-clause-lines c =
     let tags = c.in_ok-tags_beyond.ensures ∙ ap (λ ms. lowest None (tags_past ms)) (ap regions_of c.deref-6.ensures.value ∙ found) in
     five (lines_beyond MOST_FUNCTIONS (map (λ (f : Function). f.line) fs)) (lines_beyond MOST_REDUCERS (map (λ (r : Reducer). r.line) rs)) (flat_map function_limits fs)
     (flat_map (λ (d : Name × ℕ). unless (nat_le (length d.0) MOST_TAG_BYTES) d.1) marks) (tags_past marks)
-    (line_told c.new-told.result) (line_told c.note_least.new.self) (line_told c.note_least-2.new.self) (line_told c.functions_limits.new.told) (line_told c.long_tags.new.told) (line_told c.note_least-3.new.self)
-    (ap (λ o. line_told (record { first = o })) c.new-told.ensures)
-    (once (line_told c.new-told.result) (line_told c.note_least.new.self) c.functions_beyond.result.line (lines_beyond MOST_FUNCTIONS (map (λ (f : Function). f.line) fs)) c.note_least.ensures.lines functions)
-    (once (line_told c.note_least.new.self) (line_told c.note_least-2.new.self) c.reducers_beyond.result.line (lines_beyond MOST_REDUCERS (map (λ (r : Reducer). r.line) rs)) c.note_least-2.ensures.lines reducers)
-    (c.functions_limits.ensures.lines ∙ ap (λ gs. lowest (line_told c.note_least-2.new.self) (flat_map function_limits (map function_of gs))) c.deref-3.ensures.value)
-    (c.long_tags.ensures.lines ∙ ap (λ ms. lowest (line_told c.functions_limits.new.told) (flat_map (λ (d : Name × ℕ). unless (nat_le (length d.0) MOST_TAG_BYTES) d.1) ms)) (ap regions_of c.deref-5.ensures.value ∙ found))
-    (once (line_told c.long_tags.new.told) (line_told c.note_least-3.new.self) c.in_ok-tags_beyond.field-0.line (tags_past marks) c.note_least-3.ensures.lines tags)
+    (recorded_line c.new-told.result) (recorded_line c.note_least.new.self) (recorded_line c.note_least-2.new.self) (recorded_line c.functions_limits.new.told) (recorded_line c.long_tags.new.told) (recorded_line c.note_least-3.new.self)
+    (ap (λ o. recorded_line (record { first = o })) c.new-told.ensures)
+    (once (recorded_line c.new-told.result) (recorded_line c.note_least.new.self) c.functions_beyond.result.line (lines_beyond MOST_FUNCTIONS (map (λ (f : Function). f.line) fs)) c.note_least.ensures.lines functions)
+    (once (recorded_line c.note_least.new.self) (recorded_line c.note_least-2.new.self) c.reducers_beyond.result.line (lines_beyond MOST_REDUCERS (map (λ (r : Reducer). r.line) rs)) c.note_least-2.ensures.lines reducers)
+    (c.functions_limits.ensures.lines ∙ ap (λ gs. lowest (recorded_line c.note_least-2.new.self) (flat_map function_limits (map function_of gs))) c.deref-3.ensures.value)
+    (c.long_tags.ensures.lines ∙ ap (λ ms. lowest (recorded_line c.functions_limits.new.told) (flat_map (λ (d : Name × ℕ). unless (nat_le (length d.0) MOST_TAG_BYTES) d.1) ms)) (ap regions_of c.deref-5.ensures.value ∙ found))
+    (once (recorded_line c.long_tags.new.told) (recorded_line c.note_least-3.new.self) c.in_ok-tags_beyond.field-0.line (tags_past marks) c.note_least-3.ensures.lines tags)
 
 pub returns-clause-holds : goal.returns-clause-holds
 returns-clause-holds c =
@@ -62,8 +62,8 @@ returns-clause-holds c =
     let reducers = c.reducers_beyond.ensures ∙ ap (λ gs. lowest None (lines_beyond MOST_REDUCERS (map (λ (r : Reducer). r.line) (map reducer_of gs)))) c.deref-2.ensures.value in
     let tags = c.in_ok-tags_beyond.ensures ∙ ap (λ ms. lowest None (tags_past ms)) (ap regions_of c.deref-6.ensures.value ∙ found) in
     let Such = IsPassedByParts P in
-    let one = subst (λ (gs : List CodeFunction). Tells (IsPassedByOne (map function_of gs)) c.note_least-2.new.self c.functions_limits.new.told) c.deref-3.ensures.value c.functions_limits.ensures.told in
-    let long = subst (λ (ms : List (Name × ℕ)). Tells (IsPassedByRegions ms) c.functions_limits.new.told c.long_tags.new.told) (ap regions_of c.deref-5.ensures.value ∙ found) c.long_tags.ensures.told in
+    let one = subst (λ (gs : List CodeFunction). AddsOnly (IsPassedByOne (map function_of gs)) c.note_least-2.new.self c.functions_limits.new.told) c.deref-3.ensures.value c.functions_limits.ensures.told in
+    let long = subst (λ (ms : List (Name × ℕ)). AddsOnly (IsPassedByRegions ms) c.functions_limits.new.told c.long_tags.new.told) (ap regions_of c.deref-5.ensures.value ∙ found) c.long_tags.ensures.told in
     all_true Such c.new-told.result c.note_least-3.new.self c.new-told.ensures
     (and_then Such c.new-told.result c.note_least.new.self c.note_least-3.new.self
     (least_true Such c.new-told.result c.note_least.new.self c.functions_beyond.result.line (lines_beyond MOST_FUNCTIONS (map (λ (f : Function). f.line) fs)) _ functions (λ line h. ByCount h) c.note_least.ensures.told)

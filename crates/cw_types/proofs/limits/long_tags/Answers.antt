@@ -7,12 +7,12 @@ use Rattle.cw_model.specs.lemmas.Lowest.{lowest-append}
 use Rattle.cw_types.specs.Limits.{IsLongTag, IsPassedByRegions}
 use Rattle.cw_types.specs.Noted.{long_tag}
 use Rattle.cw_types.specs.Regions.{region_of, regions_of}
-use Rattle.cw_types.specs.Telling.{line_told}
+use Rattle.cw_types.specs.RecordingLines.{recorded_line}
 use Rattle.cw_types.specs.declared.reason.TooLarge.{TooLarge}
 use Rattle.cw_types.specs.declared.regions.Marked.{Marked}
 use Rattle.cw_types.proofs.Among.{denied}
 use Rattle.cw_types.proofs.Repeating.{in_map, same_get}
-use Rattle.cw_types.proofs.Telling.{and_then, found_true}
+use Rattle.cw_types.proofs.RecordingLines.{and_then, found_true}
 use Rattle.cw_types.proofs.limits.long_tags.Goals as goal
 
 abbrev nowhere : Marked
@@ -26,7 +26,7 @@ loop-region-preserved c =
     let here : Name × ℕ = region_of m in
     let rest = regions_of (drop (i + 1) ms) in
     let split : regions_of (drop i ms) ≡ here ∷ rest = grind (arith, common_steps) in
-    let p = line_told c.loop-region.told in
+    let p = recorded_line c.loop-region.told in
     let short = nat_le (length m.tag.now) MOST_TAG_BYTES in
     let Such = IsPassedByRegions (regions_of ms) in
     let there = in_map region_of ms i m c.loop-region-test.true (same_get ms i nowhere m c.loop-region-test.true) in

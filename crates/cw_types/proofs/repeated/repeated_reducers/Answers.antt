@@ -14,7 +14,7 @@ use Rattle.cw_types.specs.Scope.{Declared, kinds, with_local}
 use Rattle.cw_text.specs.RecordedReasons.{itself, lines_at}
 use Rattle.cw_types.specs.ReasonMeaning.{IsRepeatedIn}
 use Rattle.cw_types.proofs.Repeating.{both_mapped, more_earlier, repeated_true}
-use Rattle.cw_text.specs.lemmas.Telling.{and_then, found_true}
+use Rattle.cw_text.specs.lemmas.RecordingReasons.{and_then, found_true}
 use Rattle.cw_types.proofs.repeated.repeated_reducers.Goals as goal
 
 pub loop-reducer-preserved : goal.loop-reducer-preserved

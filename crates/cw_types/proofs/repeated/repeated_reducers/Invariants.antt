@@ -6,7 +6,7 @@ use Rattle.cw_tree.specs.SyntaxView.{reducer_of}
 use Rattle.cw_types.specs.Named.{reducers_named}
 use Rattle.cw_types.specs.Names.{known_names}
 use Rattle.cw_types.specs.Scope.{kinds}
-use Rattle.cw_text.specs.RecordedReasons.{Tells, itself, lines_at}
+use Rattle.cw_text.specs.RecordedReasons.{AddsOnly, itself, lines_at}
 use Rattle.cw_types.specs.ReasonMeaning.{IsRepeatedIn}
 use Rattle.cw_types.proofs.repeated.repeated_reducers.Given as goal
 
@@ -15,5 +15,5 @@ invariant-loop-reducer l = record {
   same : kept itself (lines_at l.told.places) (repeated (reducers_named (map reducer_of (drop l.reducer-index l.reducers))) (known_names (kinds l.earlier)))
       ≡ kept itself (lines_at l.fn.told.places) (repeated (reducers_named (map reducer_of l.reducers)) []);
   there : (d : Name × ℕ) → Contains (map (λ e. (e.name, e.line)) l.earlier) d → Contains (reducers_named (map reducer_of (take l.reducer-index l.reducers))) d;
-  told : Tells (IsRepeatedIn (reducers_named (map reducer_of l.reducers))) l.fn.told l.told;
+  told : AddsOnly (IsRepeatedIn (reducers_named (map reducer_of l.reducers))) l.fn.told l.told;
 }

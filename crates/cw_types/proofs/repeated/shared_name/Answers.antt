@@ -13,7 +13,7 @@ use Rattle.cw_text.specs.RecordedReasons.{itself, lines_at}
 use Rattle.cw_types.specs.ReasonMeaning.{AreBothIn, IsRepeatedIn}
 use Rattle.cw_types.specs.Typing.{earlier_line, later_line}
 use Rattle.cw_types.proofs.Repeating.{in_maps, shared_both, shared_true}
-use Rattle.cw_text.specs.lemmas.Telling.{and_then, found_true}
+use Rattle.cw_text.specs.lemmas.RecordingReasons.{and_then, found_true}
 use Rattle.cw_types.proofs.repeated.shared_name.Goals as goal
 
 pub loop-function-preserved : goal.loop-function-preserved

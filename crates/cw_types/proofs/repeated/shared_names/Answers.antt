@@ -9,7 +9,7 @@ use Rattle.cw_types.specs.Named.{functions_named, reducers_named}
 use Rattle.cw_text.specs.RecordedReasons.{itself, lines_at}
 use Rattle.cw_types.specs.ReasonMeaning.{IsRepeatedIn}
 use Rattle.cw_types.proofs.Repeating.{in_maps}
-use Rattle.cw_text.specs.lemmas.Telling.{and_then}
+use Rattle.cw_text.specs.lemmas.RecordingReasons.{and_then}
 use Rattle.cw_types.proofs.repeated.shared_names.Goals as goal
 
 pub loop-reducer-preserved : goal.loop-reducer-preserved

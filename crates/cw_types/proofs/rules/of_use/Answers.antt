@@ -3,16 +3,16 @@ use Rattle.cw_model.specs.declared.syntax.NameKind.{NameKind}
 use Rattle.cw_model.specs.declared.syntax.NameKind.TheVariants as name_kind
 use Rattle.cw_model.specs.Syntax.{Name, is_array_kind}
 use Rattle.cw_model.specs.Typing.{Known, is_known}
-use Rattle.cw_types.specs.Names.{IsUnknown, known_as, may_stand}
+use Rattle.cw_types.specs.Names.{IsUnknown, known_as, accepts_kind}
 use Rattle.cw_types.specs.Scope.{kinds}
 use Rattle.cw_types.specs.Scope.{Declared, kind_and_line, newest}
 use Rattle.cw_types.proofs.rules.of_use.Goals as goal
 
 -- the kind of a known name determines where it fits
 stands : (x y : Name) (known : Known) (kind at : NameKind) → y ≡ x → known_as y kind known → kind ≡ at → (wanted : NameKind) →
-    is_known x (may_stand wanted) known ≡ may_stand wanted at
+    is_known x (accepts_kind wanted) known ≡ accepts_kind wanted at
 stands x y known kind at same known_so is wanted =
-    ap (λ (z : Name). is_known z (may_stand wanted) known) (sym same) ∙ known_so wanted ∙ ap (may_stand wanted) is
+    ap (λ (z : Name). is_known z (accepts_kind wanted) known) (sym same) ∙ known_so wanted ∙ ap (accepts_kind wanted) is
 
 -- the line of a known name is the line of its newest declaration
 told : (x y : Name) (locals : List Declared) (kind at : NameKind) (line : ℕ) → y ≡ x → option_map kind_and_line (newest y locals) ≡ Some (kind, line) → kind ≡ at →

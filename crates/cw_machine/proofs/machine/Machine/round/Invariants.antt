@@ -1,5 +1,5 @@
 use Rattle.std.proofs.Common.{◌≤◌, length}
-use Rattle.cw_machine.specs.declared.standing.TheConstants.{MOST_ROUND}
+use Rattle.cw_machine.specs.declared.trap_state.TheConstants.{MOST_ROUND}
 use Rattle.cw_machine.proofs.machine.Machine.round.Given as goal
 
 abbrev pub invariant-loop-frame : goal.invariant-loop-frame

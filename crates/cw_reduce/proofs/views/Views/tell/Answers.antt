@@ -12,4 +12,4 @@ returns-clause-totals c = λ q.
     let x = one_held c.args.how c.args.value in
     let was = ap (λ (s : PieceResults). s.totals) c.self.view_is in
     let P : List ReducerState → Type 0 = λ l. held_of (map held c.tell_total.new.totals.items) q ≡ (if c.args.reducer == q then held_joined (held_of l q) x else held_of l q) in
-    subst P was (told_total c.self.inside.totals.items c.tell_total.new.totals.items c.args.reducer q c.one_told.result x c.in_ok-tell_total.ensures (c.one_told.ensures ∙ ap (one_held c.args.how) (to_z-of_z w64 c.args.value c.ranges.value)))
+    subst P was (told_total c.self.inside.totals.items c.tell_total.new.totals.items c.args.reducer q c.single_total.result x c.in_ok-tell_total.ensures (c.single_total.ensures ∙ ap (one_held c.args.how) (to_z-of_z w64 c.args.value c.ranges.value)))

@@ -4,7 +4,7 @@ use Rattle.cw_sched.specs.declared.event.Event.TheVariants as event
 use Rattle.cw_sched.specs.Scenes.{scene}
 use Rattle.cw_sched.specs.Lacking.{KeepsMemory}
 use Rattle.cw_sched.specs.Table.{is_possible}
-use Rattle.cw_sched.specs.Wants.{MayWant}
+use Rattle.cw_sched.specs.MemoryNeeds.{MayNeedMemory}
 use Rattle.cw_sched.specs.Worlds.{IsForMemory}
 use Rattle.cw_sched.proofs.After.{kept_world, kept_run, not_not_now}
 use Rattle.cw_sched.proofs.Keeping.{world_keeps}
@@ -79,14 +79,14 @@ returns-in-Run-clause-stays c = world_stays c.args.self.now c.run.new.self (even
 
 pub returns-in-Run-clause-wants : goal.returns-in-Run-clause-wants
 returns-in-Run-clause-wants c =
-    subst (λ e. IsForMemory c.run.result → MayWant c.args.self.now e) (sym c.in-Run.is) (for_memory c.run.result c.run.ensures.wants)
+    subst (λ e. IsForMemory c.run.result → MayNeedMemory c.args.self.now e) (sym c.in-Run.is) (for_memory c.run.result c.run.ensures.wants)
 
 pub returns-in-Offer-clause-stays : goal.returns-in-Offer-clause-stays
 returns-in-Offer-clause-stays c = world_stays c.args.self.now c.offer.new.self (event.Offer c.in-Offer.w) c.offer.result c.offer.ensures.does
 
 pub returns-in-Offer-clause-wants : goal.returns-in-Offer-clause-wants
 returns-in-Offer-clause-wants c =
-    subst (λ e. IsForMemory c.offer.result → MayWant c.args.self.now e) (sym c.in-Offer.is) (for_memory c.offer.result c.offer.ensures.wants)
+    subst (λ e. IsForMemory c.offer.result → MayNeedMemory c.args.self.now e) (sym c.in-Offer.is) (for_memory c.offer.result c.offer.ensures.wants)
 
 pub returns-in-Inline-clause-stays : goal.returns-in-Inline-clause-stays
 returns-in-Inline-clause-stays c = world_stays c.args.self.now c.inline.new.self (event.Inline c.in-Inline.w) (Ok tt) c.inline.ensures.does
@@ -102,7 +102,7 @@ returns-in-Settle-clause-stays c = world_stays c.args.self.now c.settle.new.self
 
 pub returns-in-Settle-clause-wants : goal.returns-in-Settle-clause-wants
 returns-in-Settle-clause-wants c =
-    subst (λ e. IsForMemory c.settle.result → MayWant c.args.self.now e) (sym c.in-Settle.is) (for_memory c.settle.result c.settle.ensures.wants)
+    subst (λ e. IsForMemory c.settle.result → MayNeedMemory c.args.self.now e) (sym c.in-Settle.is) (for_memory c.settle.result c.settle.ensures.wants)
 
 pub returns-in-Collect-clause-stays : goal.returns-in-Collect-clause-stays
 returns-in-Collect-clause-stays c = world_stays c.args.self.now c.collect.new.self (event.Collect c.in-Collect.w) (Ok tt) c.collect.ensures.does

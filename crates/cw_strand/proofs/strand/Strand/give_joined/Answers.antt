@@ -11,8 +11,8 @@ use Rattle.cw_strand.proofs.GaveJoin.{may_join, join_runs}
 use Rattle.cw_strand.proofs.Losing.{failed_not_over, going_not_over, lacks_not, waits_not, goes_not_waits}
 use Rattle.cw_strand.proofs.strand.Strand.give_joined.Goals as goal
 
-pub pop_home-requires : goal.pop_home-requires
-pop_home-requires c =
+pub return_newest-requires : goal.return_newest-requires
+return_newest-requires c =
     let self = c.args.self.now in
     let given = c.requires.given in
     let newest = newest_of self given.out given.others given.are in
@@ -23,12 +23,12 @@ returns-then-passes-clause-running c =
     let self = c.args.self.now in
     let given = c.requires.given in
     let newest = newest_of self given.out given.others given.are in
-    let popped = c.pop_home.new.self in
+    let popped = c.return_newest.new.self in
     passes_runs self given.out given.others newest c.requires.running (effect.Joined c.args.frame c.args.replaced c.args.shown) given.means c.args.frame.slices.items c.args.replaced.items (refl, refl) c.requires.waiting c.machines_that_stop_remain.ensures.remain c.calls_on_a_strand_keep_its_job.ensures
-    (record popped { mode = mode.Over }) (mode_back self c.args.frame.slices.items c.args.replaced.items popped c.pop_home.ensures) refl c.args.shown.cost refl (sym c.passes.ensures ∙ c.if-passes.true)
+    (record popped { mode = mode.Over }) (mode_back self c.args.frame.slices.items c.args.replaced.items popped c.return_newest.ensures) refl c.args.shown.cost refl (sym c.passes.ensures ∙ c.if-passes.true)
 
 pub returns-then-passes-clause-outs : goal.returns-then-passes-clause-outs
-returns-then-passes-clause-outs c = λ out others e. others_left c.args.self.now c.pop_home.new.self out others e (λ x xs. c.pop_home.ensures.left x xs)
+returns-then-passes-clause-outs c = λ out others e. others_left c.args.self.now c.return_newest.new.self out others e (λ x xs. c.return_newest.ensures.left x xs)
 
 pub join_rest-requires : goal.join_rest-requires
 join_rest-requires c =
@@ -52,7 +52,7 @@ returns-in-Ok-clause-running c =
     let code : c.deref-2.result.now ≡ its_code self = c.deref-2.ensures ∙ ap (λ q. code_of q) c.deref.ensures ∙ c.requires.running.keeps.code in
     join_runs self given.out given.others newest c.requires.running c.requires.waiting c.rests_stay_in_their_functions.ensures c.runs_stay_in_their_functions.ensures.seats c.results_may_go_back.ensures
     (effect.Joined c.args.frame c.args.replaced c.args.shown) given.means c.args.frame c.args.replaced.items c.args.shown (refl, refl, refl)
-    c.calls_on_a_strand_keep_its_job.ensures c.calls_keep_what_meters_tell.ensures r
+    c.calls_on_a_strand_keep_its_job.ensures c.calls_keep_meter_records.ensures r
     (subst (λ h. HasJoined self.run (its_code self) self.count c.args.frame c.args.replaced.items h c.args.shown r) (c.home_of-home.ensures ∙ ap home_of popped.result)
     (subst (λ v. HasJoined self.run v self.count c.args.frame c.args.replaced.items c.home_of-home.result c.args.shown r) code c.in-Ok.ensures))
     (sym c.passes.ensures ∙ c.if-passes.false)
@@ -91,7 +91,7 @@ pub returns-clause-back : goal.returns-clause-back
 returns-clause-back c = λ w. waits_not mode.Memory refl w
 
 pub returns-then-passes-clause-counts : goal.returns-then-passes-clause-counts
-returns-then-passes-clause-counts c = inl c.pop_home.ensures.count
+returns-then-passes-clause-counts c = inl c.return_newest.ensures.count
 
 pub returns-in-Ok-clause-counts : goal.returns-in-Ok-clause-counts
 returns-in-Ok-clause-counts c = inr ((c.requires.waiting, sym c.passes.ensures ∙ c.if-passes.false), refl)

@@ -4,19 +4,19 @@ use Rattle.cw_machine.specs.declared.machine.Machine.{Machine}
 use Rattle.cw_strand.specs.declared.strand.Mode.TheVariants as mode
 use Rattle.cw_strand.specs.declared.strand.Strand.{Strand}
 use Rattle.cw_strand.specs.Holds.{has_failed, stops}
-use Rattle.cw_strand.specs.Moves.{MayPopHome, HasPoppedHome}
+use Rattle.cw_strand.specs.Moves.{MayReturnNewest, HasReturnedNewest}
 use Rattle.cw_strand.proofs.Same.{newest_of, others_left}
 use Rattle.cw_strand.proofs.Gave.{lost_runs, may_waits, passes_runs, mode_back}
 use Rattle.cw_strand.proofs.GaveTrap.{may_trapped, trap_runs}
 use Rattle.cw_strand.proofs.Losing.{failed_not_over, lacks_not, trapped_not_over, waits_not}
 use Rattle.cw_strand.proofs.strand.Strand.give_trap.Goals as goal
 
-pub pop_home-requires : goal.pop_home-requires
-pop_home-requires c =
+pub return_newest-requires : goal.return_newest-requires
+return_newest-requires c =
     let self = c.args.self.now in
     let given = c.requires.given in
     let newest = newest_of self given.out given.others given.are in
-    subst (MayPopHome self c.args.back.items) (sym c.new-none.ensures.items)
+    subst (MayReturnNewest self c.args.back.items) (sym c.new-none.ensures.items)
     (may_waits self given.out given.others newest c.requires.running (effect.Trapped c.args.trap c.args.line c.args.lines c.args.cost c.args.back) given.means c.args.back.items [] (refl, refl) c.requires.waiting c.machines_that_stop_remain.ensures.remain)
 
 pub returns-then-passes-clause-running : goal.returns-then-passes-clause-running
@@ -24,21 +24,21 @@ returns-then-passes-clause-running c =
     let self = c.args.self.now in
     let given = c.requires.given in
     let newest = newest_of self given.out given.others given.are in
-    let popped = c.pop_home.new.self in
-    let home = subst (λ r. HasPoppedHome self c.args.back.items r popped) c.new-none.ensures.items c.pop_home.ensures in
+    let popped = c.return_newest.new.self in
+    let home = subst (λ r. HasReturnedNewest self c.args.back.items r popped) c.new-none.ensures.items c.return_newest.ensures in
     passes_runs self given.out given.others newest c.requires.running (effect.Trapped c.args.trap c.args.line c.args.lines c.args.cost c.args.back) given.means c.args.back.items [] (refl, refl) c.requires.waiting c.machines_that_stop_remain.ensures.remain c.calls_on_a_strand_keep_its_job.ensures
     (record popped { mode = mode.Over }) (mode_back self c.args.back.items [] popped home) refl c.args.cost refl (sym c.passes.ensures ∙ c.if-passes.true)
 
 pub returns-then-passes-clause-outs : goal.returns-then-passes-clause-outs
-returns-then-passes-clause-outs c = λ out others e. others_left c.args.self.now c.pop_home.new.self out others e (λ x xs. c.pop_home.ensures.left x xs)
+returns-then-passes-clause-outs c = λ out others e. others_left c.args.self.now c.return_newest.new.self out others e (λ x xs. c.return_newest.ensures.left x xs)
 
-pub pop_home-requires-in-Ok : goal.pop_home-requires-in-Ok
-pop_home-requires-in-Ok c =
+pub return_newest-requires-in-Ok : goal.return_newest-requires-in-Ok
+return_newest-requires-in-Ok c =
     let self = c.args.self.now in
     let given = c.requires.given in
     let newest = newest_of self given.out given.others given.are in
     let mid : Strand = record self { run = record self.run { machine = c.take_lines.new.machine } } in
-    subst (MayPopHome mid c.args.back.items) (sym c.new-none.ensures.items)
+    subst (MayReturnNewest mid c.args.back.items) (sym c.new-none.ensures.items)
     (may_trapped self given.out given.others newest c.requires.running c.requires.waiting c.machines_that_stop_remain.ensures.remain (effect.Trapped c.args.trap c.args.line c.args.lines c.args.cost c.args.back) given.means
     c.args.trap c.args.line c.args.lines.items c.args.cost c.args.back.items (refl, refl, refl, refl, refl) mid
     (ap (λ (m : Machine). record self { run = record self.run { machine = m } }) c.in-Ok.ensures.rest) c.in-Ok.ensures.lines_are)
@@ -49,8 +49,8 @@ returns-in-Ok-clause-running c =
     let given = c.requires.given in
     let newest = newest_of self given.out given.others given.are in
     let mid : Strand = record self { run = record self.run { machine = c.take_lines.new.machine } } in
-    let popped = c.pop_home-in-Ok.new.self in
-    let home = subst (λ r. HasPoppedHome mid c.args.back.items r popped) c.new-none.ensures.items c.pop_home-in-Ok.ensures in
+    let popped = c.return_newest-in-Ok.new.self in
+    let home = subst (λ r. HasReturnedNewest mid c.args.back.items r popped) c.new-none.ensures.items c.return_newest-in-Ok.ensures in
     trap_runs self given.out given.others newest c.requires.running c.requires.waiting c.machines_that_stop_remain.ensures.remain (effect.Trapped c.args.trap c.args.line c.args.lines c.args.cost c.args.back) given.means
     c.args.trap c.args.line c.args.lines.items c.args.cost c.args.back.items (refl, refl, refl, refl, refl) mid
     (ap (λ (m : Machine). record self { run = record self.run { machine = m } }) c.in-Ok.ensures.rest) c.in-Ok.ensures.lines_are
@@ -58,7 +58,7 @@ returns-in-Ok-clause-running c =
     (ap (λ n. record popped { count = n + c.args.cost; mode = mode.Trapped c.args.trap c.args.line }) home.count)
 
 pub returns-in-Ok-clause-outs : goal.returns-in-Ok-clause-outs
-returns-in-Ok-clause-outs c = λ out others e. others_left c.args.self.now c.pop_home-in-Ok.new.self out others e (λ x xs. c.pop_home-in-Ok.ensures.left x xs)
+returns-in-Ok-clause-outs c = λ out others e. others_left c.args.self.now c.return_newest-in-Ok.new.self out others e (λ x xs. c.return_newest-in-Ok.ensures.left x xs)
 
 pub returns-clause-running : goal.returns-clause-running
 returns-clause-running c =
@@ -91,10 +91,10 @@ pub returns-clause-back : goal.returns-clause-back
 returns-clause-back c = λ w. waits_not c.lose.new.self.mode (ap stops c.lose.ensures.mode) w
 
 pub returns-then-passes-clause-counts : goal.returns-then-passes-clause-counts
-returns-then-passes-clause-counts c = inl c.pop_home.ensures.count
+returns-then-passes-clause-counts c = inl c.return_newest.ensures.count
 
 pub returns-in-Ok-clause-counts : goal.returns-in-Ok-clause-counts
-returns-in-Ok-clause-counts c = inr ((c.requires.waiting, sym c.passes.ensures ∙ c.if-passes.false), ap (λ n. n + c.args.cost) c.pop_home-in-Ok.ensures.count)
+returns-in-Ok-clause-counts c = inr ((c.requires.waiting, sym c.passes.ensures ∙ c.if-passes.false), ap (λ n. n + c.args.cost) c.return_newest-in-Ok.ensures.count)
 
 pub returns-clause-counts : goal.returns-clause-counts
 returns-clause-counts c = inl c.lose.ensures.count

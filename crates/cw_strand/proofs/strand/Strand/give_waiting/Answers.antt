@@ -3,7 +3,7 @@ use Rattle.cw_strand.proofs.Gave.{lost_runs}
 use Rattle.std.proofs.Common.{◌≡◌, true, sym, ap, subst, inl, inr}
 use Rattle.cw_strand.specs.Holds.{stops, has_failed}
 use Rattle.cw_strand.specs.Giving.{passes_limit}
-use Rattle.cw_strand.specs.Losing.{cost_in, CountsGiven, TakesIn, TellsFailure, TellsOver}
+use Rattle.cw_strand.specs.Losing.{cost_in, CountsGiven, TakesIn, ReportsFailure, ReportsOverLimit}
 use Rattle.cw_strand.proofs.Losing.{failed_not_over, lacks_not, waits_not}
 use Rattle.cw_strand.proofs.strand.Strand.give_waiting.Goals as goal
 
@@ -30,13 +30,13 @@ pub returns-in-OverLimit-clause-back : goal.returns-in-OverLimit-clause-back
 returns-in-OverLimit-clause-back c = λ w. waits_not c.give_over.new.self.mode (ap stops c.give_over.ensures.over) w
 
 pub returns-in-Memory-clause-lacks : goal.returns-in-Memory-clause-lacks
-returns-in-Memory-clause-lacks c = λ _. inr (inl (subst TellsFailure (sym c.in-Memory.is) tt))
+returns-in-Memory-clause-lacks c = λ _. inr (inl (subst ReportsFailure (sym c.in-Memory.is) tt))
 
 pub returns-in-Memory-clause-back : goal.returns-in-Memory-clause-back
 returns-in-Memory-clause-back c = λ w. waits_not c.lose.new.self.mode (ap stops c.lose.ensures.mode) w
 
 pub returns-in-GivenUp-clause-lacks : goal.returns-in-GivenUp-clause-lacks
-returns-in-GivenUp-clause-lacks c = λ _. inr (inl (subst TellsFailure (sym c.in-GivenUp.is) tt))
+returns-in-GivenUp-clause-lacks c = λ _. inr (inl (subst ReportsFailure (sym c.in-GivenUp.is) tt))
 
 pub returns-in-Joined-clause-counts : goal.returns-in-Joined-clause-counts
 returns-in-Joined-clause-counts c = subst (λ e. CountsGiven e c.args.self.now c.give_joined.new.self) (sym c.in-Joined.is) c.give_joined.ensures.counts
@@ -62,7 +62,7 @@ returns-in-Trapped-clause-over c = λ over.
     inr (c.requires.waiting, inr (subst (λ e. passes_limit c.args.self.now (cost_in e) ≡ true) (sym c.in-Trapped.is) (c.give_trap.ensures.over over)))
 
 pub returns-in-OverLimit-clause-over : goal.returns-in-OverLimit-clause-over
-returns-in-OverLimit-clause-over c = λ _. inr (c.requires.waiting, inl (subst TellsOver (sym c.in-OverLimit.is) tt))
+returns-in-OverLimit-clause-over c = λ _. inr (c.requires.waiting, inl (subst ReportsOverLimit (sym c.in-OverLimit.is) tt))
 
 pub returns-in-GivenUp-clause-over : goal.returns-in-GivenUp-clause-over
 returns-in-GivenUp-clause-over c = λ over. absurd (c.give_given_up.ensures.over over)

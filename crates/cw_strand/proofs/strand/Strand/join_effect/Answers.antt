@@ -23,7 +23,7 @@ returns-in-Ok-clause-means c =
     ap (λ (r : Rest). length r.slices.items) (c.replace-frame.ensures.value ∙ ap (λ (q : Parts). q.rest) c.deref_mut.ensures.value) ∙ c.requires.comes.keeps.rest.as_many in
     let code : c.deref-2.result.now ≡ its_code self =
     c.deref-2.ensures ∙ ap (λ q. code_of q) c.deref.ensures ∙ ap (λ q. code_of q) c.deref_mut.ensures.value ∙ c.requires.comes.keeps.code in
-    join_means c.calls_on_a_strand_keep_its_job.ensures self c.args.end stay seats c.requires.comes c.calls_keep_what_meters_tell.ensures
+    join_means c.calls_on_a_strand_keep_its_job.ensures self c.args.end stay seats c.requires.comes c.calls_keep_meter_records.ensures
     (record { machine = c.finish.new.self; meter = c.trim.new.self }) c.trim.ensures c.finish.ensures.lines c.finish.ensures.totals
     (effect.Joined c.finish.new.rest c.finish.new.replaced c.shown.result) (
       subst (λ n. runs.EndsJob (its_code self) self.run.machine n c.finish.new.rest c.finish.new.replaced.items) many

@@ -1,7 +1,0 @@
--- The totals made so far, followed by the totals of the remaining reducers.
-use Rattle.std.proofs.Common.{◌≡◌, ◌++◌, drop}
-use Rattle.cw_jobs.specs.Totals as totals
-use Rattle.cw_jobs.proofs.totals.none_told.Given as goal
-
-abbrev pub invariant-loop-r : goal.invariant-loop-r
-invariant-loop-r l = l.all.items ++ totals.none_told (drop l.r-index l.reducers) ≡ totals.none_told l.reducers

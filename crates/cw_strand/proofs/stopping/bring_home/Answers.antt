@@ -1,8 +1,0 @@
-use Rattle.std.proofs.Common.{subst}
-use Rattle.cw_code.specs.Fits.{slots_lent}
-use Rattle.cw_machine.specs.Unwinding.{ComesHome}
-use Rattle.cw_strand.proofs.stopping.bring_home.Goals as goal
-
-pub returns-clause-home : goal.returns-clause-home
-returns-clause-home c = λ known.
-    subst (λ l. ComesHome c.args.machine.now c.args.home.lender.first c.args.home.lender.slots (slots_lent l) c.args.slices.now.items c.args.replaced.now.items c.come_home.new.self) c.loans_named.ensures c.come_home.ensures.remains
