@@ -6,7 +6,7 @@ ghost use Rattle.cw_code.specs.Events.{PlaysCome};
 ghost use Rattle.cw_code.specs.RestLaws.{Cut, Kept, RootsAreSerial, SchedulesAreSerial};
 ghost use Rattle.cw_code.specs.RestsStay.{RestsStayInside};
 ghost use Rattle.cw_code.specs.Steps.{CallsKeep};
-ghost use Rattle.cw_code.specs.Walks.{FailingWalks, PrintingWalks};
+ghost use Rattle.cw_code.specs.Executions.{FailingExecutions, PrintingExecutions};
 ghost use Rattle.cw_code.specs.AmpleMemory.{MemoryRanOutBefore};
 ghost use Rattle.cw_code.specs.Worlds.{EffectsMean, NoneIsUnfit, OwnersAreSingle, WorldsAreSerial};
 
@@ -97,14 +97,14 @@ pub fn cost_is_the_work_that_is_shown()
 
 /// States that a code that prints 1, 2 and 3 and costs 15 has the same answer whether its continuations are kept,
 /// taken back or stolen.
-#[tactic(auto, using(crate::proofs::Walks::printing_walks))]
+#[tactic(auto, using(crate::proofs::Executions::printing_walks))]
 pub fn printing_gives_the_same_in_each_order()
-    ensures { PrintingWalks }
+    ensures { PrintingExecutions }
 {}
 
 /// States that a code whose spawned call traps in its fifth instruction traps there before it prints anything,
 /// whether the continuation was executed or not, and exceeds a limit of 4.
-#[tactic(auto, using(crate::proofs::Walks::failing_walks))]
+#[tactic(auto, using(crate::proofs::Executions::failing_walks))]
 pub fn failing_traps_in_each_order()
-    ensures { FailingWalks }
+    ensures { FailingExecutions }
 {}

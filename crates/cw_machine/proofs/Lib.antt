@@ -3,7 +3,7 @@ pub mod Floors
 pub mod Places
 pub mod Writes
 pub mod Cells
-pub mod Coursing
+pub mod FastCallLaws
 pub mod Holding
 pub mod Frames
 pub mod Operands
@@ -77,11 +77,11 @@ pub mod Nothing
 pub mod Freezing
 pub mod SpawnLends
 pub mod Striding
-pub mod Bursting
-pub mod BurstingIn
+pub mod FastPathLaws
+pub mod FastPathArrayLaws
 pub mod GoingOn
-pub mod BurstRuns
-pub mod BurstSteps
+pub mod FastPathRuns
+pub mod FastPathSteps
 pub mod Listened
 pub mod EndsAs
 pub mod Freeings

@@ -10,7 +10,7 @@ use Rattle.cw_runnable.specs.Resolved.{room_of}
 use Rattle.cw_machine.specs.declared.machine.Frame.{Frame}
 use Rattle.cw_machine.specs.declared.machine.Machine.{Machine}
 use Rattle.cw_machine.specs.Arrays.{HoldsArrays, Ok}
-use Rattle.cw_machine.specs.Shows.{cell, cut_cells, Agrees, Holds, Round, Shows, Stands, Stays}
+use Rattle.cw_machine.specs.RepresentsState.{cell, cut_cells, Agrees, Holds, Round, RepresentsState, Stands, Stays}
 use Rattle.cw_machine.specs.Trims.{KeepsFirst, Trims}
 use Rattle.cw_machine.proofs.Cells.{comes_agree, keeps_agree, lies_agree}
 
@@ -59,7 +59,7 @@ module _ (v : Verified) (ok : Ok v) (cells cells' : List ℤ) (bound : ℕ) (the
         round_trimmed h.0.first (length w.slots) h.1 around (omega (arith, b, le)) (λ k lo hi. g k lo (omega (arith, hi, b))) h.4,
       )
 
-module _ (v : Verified) (ok : Ok v) (m m' : Machine) (s : State) (keeps : KeepsFirst m.first v.most_room m.cells.items m'.cells.items) (h : Shows v ok m s) where
+module _ (v : Verified) (ok : Ok v) (m m' : Machine) (s : State) (keeps : KeepsFirst m.first v.most_room m.cells.items m'.cells.items) (h : RepresentsState v ok m s) where
   -- the call that runs uses no more cells than any call has
   few : length s.slots + length s.operands ≤ v.most_room
   few =
@@ -87,7 +87,7 @@ module _ (v : Verified) (ok : Ok v) (m m' : Machine) (s : State) (keeps : KeepsF
   }
 
   module _ (stays : Stays m m') (place : m'.place ≡ m.place) where
-    pub shows_trimmed : Shows v ok m' s
+    pub shows_trimmed : RepresentsState v ok m' s
     shows_trimmed = record {
       good = h.good;
       holds = subst (λ p. Holds v ok p m'.first m'.cells.items m'.frames.items m'.lines.items s) (sym place)

@@ -21,7 +21,7 @@ use Rattle.cw_runnable.specs.declared.verified.Verified.{Verified}
 use Rattle.cw_machine.specs.declared.machine.Frame.{Frame}
 use Rattle.cw_machine.specs.declared.machine.Machine.{Machine}
 use Rattle.cw_machine.specs.Arrays.{ReadsAll, RoundReads, Ok, view, Memory, Has, HasComing, CutIn, taken_round, HoldsWaiting, Floors, RoundOn}
-use Rattle.cw_machine.specs.Shows.{Stands, Round, Shows, cut_cell, cut_cells}
+use Rattle.cw_machine.specs.RepresentsState.{Stands, Round, RepresentsState, cut_cell, cut_cells}
 use Rattle.cw_jobs.specs.Cuts.{parts_round, cut_slots}
 use Rattle.cw_machine.specs.Arrays.{is_among}
 use Rattle.cw_machine.specs.Hands.{is_cut_among, stays_here, lent_count, ComesRound}
@@ -248,7 +248,7 @@ awaited_arrays (Some a) None s s' e = absurd (stuck_on s' e)
 awaited_arrays (Some a) (Some x) s s' e =
     let same = same_state (record s { results = (a, x) ∷ s.results }) s' e in (ap (λ (z : State). z.arrays) (sym same), ap (λ (z : State). z.arrived) (sym same))
 
-module _ (v : Verified) (ok : Ok v) (m : Machine) (s : State) (w : Waiting) (around : List Around) (passed : List ℕ) (shows : Shows v ok m s)
+module _ (v : Verified) (ok : Ok v) (m : Machine) (s : State) (w : Waiting) (around : List Around) (passed : List ℕ) (shows : RepresentsState v ok m s)
     (is_waiting : s.around ≡ Caller w ∷ around) (spawned : w.kind ≡ Spawned) (took : map slot_taken w.taken ≡ passed) where
   abbrev memory : Memory
   memory = record { views = m.views.items; blocks = shows.arrays.1; owner = shows.arrays.0 }

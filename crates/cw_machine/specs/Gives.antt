@@ -18,7 +18,7 @@ use Rattle.cw_jobs.specs.Jobs.{KeepsHomes, KeepsFixed, IsOwnIn, home_of}
 use Rattle.cw_machine.specs.declared.machine.Machine.{Machine}
 use Rattle.cw_jobs.specs.Cuts.{parts_round}
 use Rattle.cw_machine.specs.Arrays.{Out, Ok, AllAbove, taken_round}
-use Rattle.cw_machine.specs.Shows.{cell, Shows, StaysBut}
+use Rattle.cw_machine.specs.RepresentsState.{cell, RepresentsState, StaysBut}
 use Rattle.cw_machine.specs.Rests.{lending}
 
 -- the entry of the list of new arrays for a slot after the slot's own array is returned: the new array, if one was
@@ -70,7 +70,7 @@ remade arrays made (suc n) = with_new (remade arrays made n) n (option_flatten (
 -- equally many, of the same lengths and at the same places; if the call has no array there, with the same numbers
 pub record ComesBack (v : Verified) (ok : Ok v) (o : Out) (m : Machine) (s : State) (back : List Placed)
     (replaced : List (Option Placed)) : Type 0 where
-  pub shows : Shows v (lending ok o) m s
+  pub shows : RepresentsState v (lending ok o) m s
   pub above : AllAbove ok.outs (length s.around)
   pub level : o.level ≡ length s.around
   pub first : o.first ≡ m.first_array
@@ -95,7 +95,7 @@ pub record MayHome (m : Machine) (slots : ℕ) (lent : List ℕ) (back : List Pl
 abbrev pub LaysHomes : Machine → (slots : ℕ) → (lent : List ℕ) → List Placed → List (Option Placed) → Machine → Type 0
 LaysHomes m slots lent back replaced m' =
     (v : Verified) (ok : Ok v) (o : Out) (s : State) → ComesBack v ok o m s back replaced → o.slots ≡ slots
-    → o.lent ≡ lent → Shows v ok m' (record s { arrays = homed s.arrays back replaced slots })
+    → o.lent ≡ lent → RepresentsState v ok m' (record s { arrays = homed s.arrays back replaced slots })
 
 -- `MayHome` and `LaysHomes` for the slots that were lent by these loans
 abbrev pub MayLayHomes : Machine → (slots : ℕ) → List Loan → List Placed → List (Option Placed) → Type 0
@@ -116,7 +116,7 @@ pub record IsFree (v : Verified) (ok : Ok v) (s : State) (a : ℕ) : Type 0 wher
 -- these arrays
 pub record MakesNew (v : Verified) (ok : Ok v) (m : Machine) (s : State) (made : List (Option Placed)) (count : ℕ)
     : Type 0 where
-  pub shows : Shows v ok m s
+  pub shows : RepresentsState v ok m s
   pub above : AllAbove ok.outs (length s.around)
   pub wide : length s.arrays ≡ count
   pub each : (a : ℕ) (p : Placed) → slice_get made a ≡ Some (Some p) → a < count → IsFree v ok s a × IsOwn p
@@ -132,7 +132,7 @@ pub record MayMake (m : Machine) (made : List (Option Placed)) (count : ℕ) : T
 abbrev pub LaysMade : Machine → List (Option Placed) → (count : ℕ) → Machine → Type 0
 LaysMade m made count m' =
     (v : Verified) (ok : Ok v) (s : State) → MakesNew v ok m s made count
-    → Shows v ok m' (record s { arrays = remade s.arrays made count })
+    → RepresentsState v ok m' (record s { arrays = remade s.arrays made count })
 
 -- a new array is in the block of a cell, and nothing else changed
 pub record HasMade (m : Machine) (cell : ℕ) (xs : List ℤ) (m' : Machine) : Type 0 where
@@ -233,7 +233,7 @@ pub record IsGiving (v : Verified) (ok : Ok v) (o : Out) (m : Machine) (s : Stat
   pub wide : o.slots ≡ length s.arrays
   -- the continuation reads what the call reads
   pub readers : frame.readers ≡ s.readers
-  pub shows : Shows v (lending ok o) m s
+  pub shows : RepresentsState v (lending ok o) m s
   pub above : AllAbove ok.outs (length s.around)
   pub level : o.level ≡ length s.around
   -- the handed-out slices were the arrays that the call has
@@ -255,7 +255,7 @@ pub record IsGiving (v : Verified) (ok : Ok v) (o : Out) (m : Machine) (s : Stat
 abbrev pub Gives : Machine → Rest → List (Option Placed) → (slots : ℕ) → (lent : List ℕ) → Option ℕ → Machine → Type 0
 Gives m back replaced slots lent target m' =
     (v : Verified) (ok : Ok v) (o : Out) (s : State) (frame : JoinFrame) (waits : Waits s)
-    → IsGiving v ok o m s frame waits back replaced slots lent target → Shows v ok m' (went_on s frame waits)
+    → IsGiving v ok o m s frame waits back replaced slots lent target → RepresentsState v ok m' (went_on s frame waits)
 
 -- a machine represents some state, and the continuation that comes back was executed in that state
 pub record MayGive (m : Machine) (back : Rest) (replaced : List (Option Placed)) (slots : ℕ) (lent : List ℕ)

@@ -21,7 +21,7 @@ use Rattle.cw_machine.specs.declared.machine.Frame.{Frame}
 use Rattle.cw_machine.specs.declared.machine.Machine.{Machine}
 use Rattle.cw_machine.specs.declared.machine.View.{View}
 use Rattle.cw_machine.specs.Arrays.{Out, Ok, AllAbove, is_among, shares_slice, view, block, lent_before, KeepsLent}
-use Rattle.cw_machine.specs.Shows.{cell, Comes, Shows, SharesFrozen, StaysBut}
+use Rattle.cw_machine.specs.RepresentsState.{cell, Comes, RepresentsState, SharesFrozen, StaysBut}
 use Rattle.cw_machine.specs.Rests.{lending, AreBare}
 use Rattle.cw_machine.specs.declared.hands.Lender.{Lender}
 
@@ -145,7 +145,7 @@ ComesRound cells first slots (Block o ∷ around) =
 pub record HandedOut (v : Verified) (ok : Ok v) (m : Machine) (s : State) (w : Waiting) (around : List Around)
     (passed : List ℕ) (lent : List Loan) (first slots : ℕ) (m' : Machine) (r : Rest) : Type 0 where
   pub slots_are : slots ≡ length w.arrays
-  pub shows : Shows v
+  pub shows : RepresentsState v
       (lending ok (out_of (length around) first m.first_array (length w.arrays) (slots_lent lent) r.slices.items)) m' s
   pub job : (p : Parts) → p.rest ≡ r → p.extent ≡ extent.ToJoin → IsJob v ok.verified p (rest_of w p.limit p.before)
   pub comes : Comes r.cells.items 0 (length w.slots) w.results × ComesRound r.cells.items 0 (length w.slots) around
@@ -156,7 +156,7 @@ pub record HandedOut (v : Verified) (ok : Ok v) (m : Machine) (s : State) (w : W
 -- the first call of the run only reads the shares that it was given
 pub record Hands (v : Verified) (ok : Ok v) (m : Machine) (s : State) (w : Waiting) (around : List Around)
     (passed : List ℕ) (lent : List Loan) : Type 0 where
-  pub shows : Shows v ok m s
+  pub shows : RepresentsState v ok m s
   pub is : s.around ≡ Caller w ∷ around
   pub spawned : w.kind ≡ Spawned
   pub none : w.operands ≡ []
@@ -208,7 +208,7 @@ pub record HandsArrays (m : Machine) (first : ℕ) (passed : List ℕ) (lent : L
   pub shows : (v : Verified) (ok : Ok v) (s : State) (w : Waiting) (around : List Around)
       → Hands v ok m s w around passed lent → first + length slices ≡ m.first_array → slots ≡ length w.arrays
       → length slices ≡ length w.arrays + length w.readers
-      → Shows v (lending ok (out_of (length around) first m.first_array slots (slots_lent lent) slices)) m' s
+      → RepresentsState v (lending ok (out_of (length around) first m.first_array slots (slots_lent lent) slices)) m' s
 
 -- `MayHandArrays` and `HandsArrays` for this lender
 abbrev pub MayHandAll : Machine → Lender → List ℕ → List Loan → List Placed → Type 0

@@ -21,7 +21,7 @@ use Rattle.cw_runnable.specs.declared.verified.Verified.{Verified}
 use Rattle.cw_machine.specs.declared.machine.Machine.{Machine}
 use Rattle.cw_machine.specs.declared.machine.View.{View}
 use Rattle.cw_machine.specs.Arrays.{IsFit, Ok, view, block, IsBare, home_in}
-use Rattle.cw_machine.specs.Shows.{Shows, SharesFrozen}
+use Rattle.cw_machine.specs.RepresentsState.{RepresentsState, SharesFrozen}
 
 -- these cells, then zeros up to `room` cells
 abbrev pub HasCells : (own : List ℤ) → (room : ℕ) → List ℤ → Type 0
@@ -151,7 +151,7 @@ job_ok v is j r base b =
 pub record HoldsOf (v : Verified) (is : IsFit v) (j : Job) (r : Rest) (m : Machine) (s : State) : Type 0 where
   pub base : State
   pub is_base : IsBase v is j r base
-  pub shows : Shows v (job_ok v is j r base is_base) m (under base s)
+  pub shows : RepresentsState v (job_ok v is j r base is_base) m (under base s)
 
 -- the first call of a run only reads the shares that the run was given
 abbrev pub OnlyReads : (v : Verified) (is : IsFit v) (j : Job) (r : Rest) (m : Machine) (s : State)

@@ -7,14 +7,14 @@ use Rattle.cw_code.specs.Code.{code_view}
 use Rattle.cw_runnable.specs.declared.verified.Verified.{Verified}
 use Rattle.cw_machine.specs.declared.listener.Listened.{Listened}
 use Rattle.cw_machine.specs.declared.machine.Moved.{Moved}
-use Rattle.cw_machine.specs.Listening.{Keeping, DoesKept, IsGoing, ReachesAny, EndsRun}
+use Rattle.cw_machine.specs.Listening.{Keeping, SimulatesRecorded, IsGoing, ReachesAny, EndsRun}
 use Rattle.cw_machine.specs.Runs.{is_request, IsFailure}
 
 -- an instruction was executed after `count` others, and reported
 abbrev pub DoesStep : {A W : Type 0} → (A → Keeping W) → Verified → (old : Listened W) → (count : ℕ) → Moved
     → (new : Listened W) → Type 0
 DoesStep {A = A} keeps v old count to new =
-    (asked : A) → DoesKept (keeps asked) v old.machine old.listener count to new.machine new.listener
+    (asked : A) → SimulatesRecorded (keeps asked) v old.machine old.listener count to new.machine new.listener
 
 -- a run of `main` is at its beginning
 abbrev pub IsBeginning : {A W : Type 0} → (A → Keeping W) → Verified → Listened W → Type 0

@@ -20,7 +20,7 @@ use Rattle.cw_machine.specs.declared.machine.Machine.{Machine}
 use Rattle.cw_machine.specs.declared.machine.Moved.{Moved}
 use Rattle.cw_machine.specs.declared.machine.Moved.TheVariants as moved
 use Rattle.cw_machine.specs.Arrays.{IsFit, Ok, alone}
-use Rattle.cw_machine.specs.Shows.{Shows, MayGo, Follows}
+use Rattle.cw_machine.specs.RepresentsState.{RepresentsState, MayGo, Follows}
 use Rattle.cw_machine.specs.Notifying.{opens_round, After, Tracks}
 
 -- the record of a run so far, after this number of instructions: the open parts, and the events of the innermost one
@@ -56,23 +56,23 @@ KeepsMove keeps count moved.NoMemory w went = Unit {0}
 KeepsMove keeps count _ w went = After (λ os es. keeps count os es w) went
 
 -- a machine represents this state after `count` instructions, and its listener records the run up to it
-pub record ShowsKept {W : Type 0} (keeps : Keeping W) (v : Verified) (ok : Ok v) (count : ℕ) (m : Machine) (w : W)
+pub record RepresentsRecorded {W : Type 0} (keeps : Keeping W) (v : Verified) (ok : Ok v) (count : ℕ) (m : Machine) (w : W)
     (s : State) : Type 0 where
-  pub shows : Shows v ok m s
+  pub shows : RepresentsState v ok m s
   pub kept : keeps count (opens_round s.around) s.trace.events w
 
 -- the machine follows the code by the last of `count` instructions, and the listener records it
-pub record FollowsKept {W : Type 0} (keeps : Keeping W) (v : Verified) (ok : Ok v) (count : ℕ) (to : Moved)
+pub record FollowsRecorded {W : Type 0} (keeps : Keeping W) (v : Verified) (ok : Ok v) (count : ℕ) (to : Moved)
     (m : Machine) (w : W) (went : Transition) : Type 0 where
   pub follows : Follows v ok to m went
   pub kept : KeepsMove keeps count to w went
 
 -- from each state that it may represent after `count` instructions, the machine follows the code
-abbrev pub DoesKept : {W : Type 0} → Keeping W → Verified → (m : Machine) → W → (count : ℕ) → Moved → (m' : Machine) → W
+abbrev pub SimulatesRecorded : {W : Type 0} → Keeping W → Verified → (m : Machine) → W → (count : ℕ) → Moved → (m' : Machine) → W
     → Type 0
-DoesKept keeps v m w count to m' w' =
-    (ok : Ok v) (s : State) → count < MOST_LIMIT → ShowsKept keeps v ok count m w s → MayGo v ok m s
-    → FollowsKept keeps v ok (count + 1) to m' w' (step (code_view v.code) s)
+SimulatesRecorded keeps v m w count to m' w' =
+    (ok : Ok v) (s : State) → count < MOST_LIMIT → RepresentsRecorded keeps v ok count m w s → MayGo v ok m s
+    → FollowsRecorded keeps v ok (count + 1) to m' w' (step (code_view v.code) s)
 
 -- a run ended after `count` instructions, with the output of the code
 pub record CameTo {W : Type 0} (keeps : Keeping W) (v : Verified) (count : ℕ) (m : Machine) (w : W) (t : Trace)
@@ -85,7 +85,7 @@ pub record CameTo {W : Type 0} (keeps : Keeping W) (v : Verified) (count : ℕ) 
 abbrev pub Reaches : {W : Type 0} → Keeping W → (v : Verified) → Ok v → (count : ℕ) → Moved → Machine → W → (n : ℕ)
     → State → Type 0
 Reaches keeps v ok count moved.On m w n s =
-    (s' : State) × ShowsKept keeps v ok count m w s'
+    (s' : State) × RepresentsRecorded keeps v ok count m w s'
     × ((k : ℕ) → steps (code_view v.code) (n + k) s ≡ steps (code_view v.code) k s')
 Reaches keeps v ok count (moved.Gave x) m w n s =
     (left : ℕ) × (t : Trace) × (steps (code_view v.code) n s ≡ Some (Done (x, no_frame) left t))
@@ -98,7 +98,7 @@ Reaches keeps v ok count moved.NoMemory m w n s = Unit {0}
 pub record IsUnderWay {W : Type 0} (keeps : Keeping W) (v : Verified) (count : ℕ) (m : Machine) (w : W) : Type 0 where
   pub verified : IsFit v
   pub state : State
-  pub shows : ShowsKept keeps v (alone v verified) count m w state
+  pub shows : RepresentsRecorded keeps v (alone v verified) count m w state
 
 -- a run of `main` is under way, for some request
 pub record IsGoing {A W : Type 0} (keeps : A → Keeping W) (v : Verified) (count : ℕ) (m : Machine) (w : W) : Type 0 where
@@ -110,7 +110,7 @@ pub record IsGoing {A W : Type 0} (keeps : A → Keeping W) (v : Verified) (coun
 abbrev pub ReachesAny : {W : Type 0} → Keeping W → Verified → (m : Machine) → W → (n count : ℕ) → Moved
     → (m' : Machine) → W → Type 0
 ReachesAny keeps v m w n count to m' w' =
-    (is : IsFit v) (s : State) → ShowsKept keeps v (alone v is) 0 m w s → Reaches keeps v (alone v is) count to m' w' n s
+    (is : IsFit v) (s : State) → RepresentsRecorded keeps v (alone v is) 0 m w s → Reaches keeps v (alone v is) count to m' w' n s
 
 -- a run ends after `count` instructions, with what a listener records of its events
 pub record EndsRun {W : Type 0} (keeps : Keeping W) (code : Code) (args : List ℤ) (n count : ℕ) (w : W) : Type 0 where

@@ -10,7 +10,7 @@ use Rattle.cw_runnable.specs.declared.verified.Verified.{Verified}
 use Rattle.cw_machine.specs.declared.machine.Machine.{Machine}
 use Rattle.cw_machine.specs.declared.machine.View.{View}
 use Rattle.cw_machine.specs.Arrays.{Out, Ok, AllAbove, view, block}
-use Rattle.cw_machine.specs.Shows.{Shows, StaysBut}
+use Rattle.cw_machine.specs.RepresentsState.{RepresentsState, StaysBut}
 
 -- `ok` with these arrays handed out
 abbrev pub with_outs : {v : Verified} → Ok v → List Out → Ok v
@@ -33,7 +33,7 @@ lending ok o = with_outs ok (o ∷ ok.outs)
 -- which `lent` were lent to the spawned call; everything else that is handed out belongs to waiting calls
 pub record IsLending (v : Verified) (ok : Ok v) (o : Out) (m : Machine) (s : State) (slots : ℕ) (lent : List ℕ)
     (slices : List Placed) : Type 0 where
-  pub shows : Shows v (lending ok o) m s
+  pub shows : RepresentsState v (lending ok o) m s
   pub above : AllAbove ok.outs (length s.around)
   pub level : o.level ≡ length s.around
   pub slots_are : o.slots ≡ slots
@@ -51,7 +51,7 @@ pub record MayTake (m : Machine) (slots : ℕ) (lent : List ℕ) (slices : List 
 -- each state that a machine represented while these slices were handed out it represents after they are returned
 abbrev pub TakesBack : Machine → (slots : ℕ) → (lent : List ℕ) → List Placed → Machine → Type 0
 TakesBack m slots lent slices m' =
-    (v : Verified) (ok : Ok v) (o : Out) (s : State) → IsLending v ok o m s slots lent slices → Shows v ok m' s
+    (v : Verified) (ok : Ok v) (o : Out) (s : State) → IsLending v ok o m s slots lent slices → RepresentsState v ok m' s
 
 -- `TakesBack` for the slots that were lent by these loans
 abbrev pub TakesHome : Machine → (slots : ℕ) → List Loan → List Placed → Machine → Type 0

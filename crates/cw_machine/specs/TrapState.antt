@@ -25,7 +25,7 @@ use Rattle.cw_machine.specs.declared.trap_state.Halt.{Halt}
 use Rattle.cw_machine.specs.declared.trap_state.Halt.TheVariants as halt
 use Rattle.cw_machine.specs.declared.trap_state.TrapState.{TrapState}
 use Rattle.cw_machine.specs.Arrays.{IsFit, alone, view}
-use Rattle.cw_machine.specs.Shows.{cell, Shows}
+use Rattle.cw_machine.specs.RepresentsState.{cell, RepresentsState}
 use Rattle.cw_machine.specs.Runs.{is_request, IsFailure}
 
 -- this is the last operand
@@ -121,7 +121,7 @@ Halts code halt.NoMemory m n s = Unit {0}
 -- from each state that a machine may hold
 abbrev pub HaltsAny : Verified → Machine → (n : ℕ) → Halt → Machine → Type 0
 HaltsAny v m n to m' =
-    (is : IsFit v) (s : State) → Shows v (alone v is) m s → Halts (code_view v.code) to m' n s
+    (is : IsFit v) (s : State) → RepresentsState v (alone v is) m s → Halts (code_view v.code) to m' n s
 
 -- a run of code ends
 pub record EndsAlone (code : Code) (args : List ℤ) (n : ℕ) : Type 0 where

@@ -4,7 +4,7 @@ use Rattle.cw_code.specs.Run.{State}
 use Rattle.cw_runnable.specs.declared.verified.Verified.{Verified}
 use Rattle.cw_machine.specs.declared.machine.Machine.{Machine}
 use Rattle.cw_machine.specs.Arrays.{Ok}
-use Rattle.cw_machine.specs.Shows.{cell, Shows}
+use Rattle.cw_machine.specs.RepresentsState.{cell, RepresentsState}
 
 -- cells keep their values up to so many from a first one on, and as many of these as there are are there still
 pub record KeepsFirst (first many : ℕ) (cells cells' : List ℤ) : Type 0 where
@@ -13,4 +13,4 @@ pub record KeepsFirst (first many : ℕ) (cells cells' : List ℤ) : Type 0 wher
 
 -- A MACHINE HOLDS EACH STATE THAT IT HELD of a run of this code
 abbrev pub Trims : Verified → (old new : Machine) → Type 0
-Trims v old new = (ok : Ok v) (s : State) → Shows v ok old s → Shows v ok new s
+Trims v old new = (ok : Ok v) (s : State) → RepresentsState v ok old s → RepresentsState v ok new s

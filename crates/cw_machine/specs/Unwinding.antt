@@ -8,7 +8,7 @@ use Rattle.cw_runnable.specs.declared.verified.Verified.{Verified}
 use Rattle.cw_jobs.specs.Jobs.{KeepsHomes}
 use Rattle.cw_machine.specs.declared.machine.Machine.{Machine}
 use Rattle.cw_machine.specs.Arrays.{Out, Ok}
-use Rattle.cw_machine.specs.Shows.{Shows, Remains}
+use Rattle.cw_machine.specs.RepresentsState.{RepresentsState, Remains}
 use Rattle.cw_machine.specs.Rests.{lending}
 use Rattle.cw_machine.specs.JobRuns.{KeepsGiven, MayGiveUp}
 use Rattle.cw_machine.specs.declared.hands.Lender.{Lender}
@@ -27,13 +27,13 @@ IsLevel level (Block o ∷ around) = IsLevel level around
 -- out of a waiting call or of the running call
 abbrev pub OutsLieApart : Type 0
 OutsLieApart =
-    (v : Verified) (ok : Ok v) (m : Machine) (s : State) (i j : ℕ) (o q : Out) → Shows v ok m s
+    (v : Verified) (ok : Ok v) (m : Machine) (s : State) (i j : ℕ) (o q : Out) → RepresentsState v ok m s
     → slice_get ok.outs i ≡ Some o → slice_get ok.outs j ≡ Some q → q.level < o.level
     → (o.level ≡ length s.around) ⊎ IsLevel o.level s.around → q.first + length q.slices ≤ o.first
 
 -- `Remains` holds for a machine that represents a state
 abbrev pub ShownRemain : Type 0
-ShownRemain = (v : Verified) (ok : Ok v) (m : Machine) (s : State) → Shows v ok m s → Remains v ok m
+ShownRemain = (v : Verified) (ok : Ok v) (m : Machine) (s : State) → RepresentsState v ok m s → Remains v ok m
 
 -- if nothing is handed out, all that a run was given is at its place and may be given up
 abbrev pub RestsAreKept : Type 0

@@ -3,7 +3,7 @@
 ghost use Rattle.std.specs.Prelude.{◌≡◌, ◌+◌, ◌<◌, ◌^◌, ℤ, length, Some, slice_get, IfOk, OnOk};
 ghost use Rattle.cw_runnable.specs.declared.op.Op.TheVariants as op;
 ghost use Rattle.cw_machine.specs.Arrays as arrays;
-ghost use Rattle.cw_machine.specs.Shows.{CutsOr, HasRenewed, HasReviewed, StaysBut, IsAt, Does};
+ghost use Rattle.cw_machine.specs.RepresentsState.{CutsOr, HasRenewed, HasReviewed, StaysBut, IsAt, Simulates};
 
 use crate::machine::{Machine, Moved, View};
 use cw_code::code::Halves;
@@ -112,7 +112,7 @@ impl Machine {
     #[inline(always)]
     pub(crate) fn new_array(&mut self, _code: &Verified, d: usize, a: u32, line: u32) -> Moved
         requires { ∥ IsAt _code.now self.old (op.NewArray d a line) ∥₁ }
-        ensures { Does _code.now self.old (op.NewArray d a line) result self.new }
+        ensures { Simulates _code.now self.old (op.NewArray d a line) result self.new }
     {
         let len = match new_length(self.get(d)) {
             Ok(len) => len,
@@ -133,7 +133,7 @@ impl Machine {
     #[inline(always)]
     pub(crate) fn length(&mut self, _code: &Verified, d: usize, a: u32) -> Moved
         requires { ∥ IsAt _code.now self.old (op.Length d a) ∥₁ }
-        ensures { Does _code.now self.old (op.Length d a) result self.new }
+        ensures { Simulates _code.now self.old (op.Length d a) result self.new }
     {
         let v = self.view(a);
         self.put(d, v.len as i64);
@@ -144,7 +144,7 @@ impl Machine {
     #[inline(always)]
     pub(crate) fn element(&mut self, _code: &Verified, d: usize, a: u32, line: u32) -> Moved
         requires { ∥ IsAt _code.now self.old (op.Element d a line) ∥₁ }
-        ensures { Does _code.now self.old (op.Element d a line) result self.new }
+        ensures { Simulates _code.now self.old (op.Element d a line) result self.new }
     {
         let i = self.get(d);
         let v = self.view(a);
@@ -160,7 +160,7 @@ impl Machine {
     #[inline(always)]
     pub(crate) fn set_element(&mut self, _code: &Verified, d: usize, a: u32, line: u32) -> Moved
         requires { ∥ IsAt _code.now self.old (op.SetElement d a line) ∥₁ }
-        ensures { Does _code.now self.old (op.SetElement d a line) result self.new }
+        ensures { Simulates _code.now self.old (op.SetElement d a line) result self.new }
     {
         let i = self.get(d);
         let x = self.get(d + 1);
@@ -209,7 +209,7 @@ impl Machine {
     #[inline(always)]
     pub(crate) fn cut(&mut self, code: &Verified, d: usize, h: &Halves, line: u32) -> Moved
         requires { ∥ IsAt code.now self.old (op.Cut d h.now line) ∥₁ }
-        ensures { Does code.now self.old (op.Cut d h.now line) result self.new }
+        ensures { Simulates code.now self.old (op.Cut d h.now line) result self.new }
     {
         match self.cut_apart(code, d, h, line) {
             Ok(()) => Moved::On,
@@ -222,7 +222,7 @@ impl Machine {
     #[inline(always)]
     pub(crate) fn end_cut(&mut self, _code: &Verified, h: &Halves) -> Moved
         requires { ∥ IsAt _code.now self.old (op.EndCut h.now) ∥₁ }
-        ensures { Does _code.now self.old (op.EndCut h.now) result self.new }
+        ensures { Simulates _code.now self.old (op.EndCut h.now) result self.new }
     {
         let left = self.first_array + h.left as usize;
         let right = self.first_array + h.right as usize;

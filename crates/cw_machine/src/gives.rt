@@ -6,7 +6,7 @@ ghost use Rattle.std.specs.Prelude.{◌≡◌, ◌≢◌, ℕ, ◌+◌, ◌<◌,
 ghost use Rattle.std.specs.Option.{option_flatten};
 ghost use Rattle.cw_slices.specs.Placed.{IsOwn};
 ghost use Rattle.cw_jobs.specs.Jobs as jobs;
-ghost use Rattle.cw_machine.specs.Shows.{Stays, StaysBut};
+ghost use Rattle.cw_machine.specs.RepresentsState.{Stays, StaysBut};
 ghost use Rattle.cw_machine.specs.Rests.{AreBare};
 ghost use Rattle.cw_machine.specs.Gives.{IsTaken, IsExchanged, AreMade, MayTakeNew, HasNew, LaysCell, LaysCells, MayLayHomes, Homes, MayMake, LaysMade, MayGiveRest, Brings};
 

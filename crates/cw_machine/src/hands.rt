@@ -1,7 +1,7 @@
 //! Hands out the continuation of a block at a spawn, with the arrays of the waiting call.
 
 ghost use Rattle.std.specs.Prelude.{◌≡◌, ◌+◌, ◌-◌, ◌<◌, ◌≤◌, ◌^◌, length, reverse, slice_range, IfOk, OnOk, OnErr};
-ghost use Rattle.cw_machine.specs.Shows.{StaysBut};
+ghost use Rattle.cw_machine.specs.RepresentsState.{StaysBut};
 ghost use Rattle.cw_code.specs.Fits.{slots_lent};
 ghost use Rattle.cw_machine.specs.Arrays as arrays;
 ghost use Rattle.cw_machine.specs.Hands as hands;

@@ -4,7 +4,7 @@ ghost use Rattle.std.specs.Prelude.{◌≡◌};
 ghost use Rattle.cw_model.specs.Ints as ints;
 ghost use Rattle.cw_model.specs.Expressions.{apply};
 ghost use Rattle.cw_code.specs.Run.{apply_unary};
-ghost use Rattle.cw_machine.specs.Shows.{IsResult};
+ghost use Rattle.cw_machine.specs.RepresentsState.{IsResult};
 
 use cw_code::code::UnaryOperator;
 use cw_model::syntax::Operator;

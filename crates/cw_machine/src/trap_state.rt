@@ -4,7 +4,7 @@ ghost use Rattle.std.specs.Prelude.{◌≡◌, ◌≤◌, length, IfOk};
 ghost use Rattle.cw_code.specs.Code.{code_view};
 ghost use Rattle.cw_machine.specs.declared.trap_state.TheConstants.{MOST_ROUND};
 ghost use Rattle.cw_machine.specs.Calls.{SeesEach};
-ghost use Rattle.cw_machine.specs.Shows.{IsAlone, IsAt};
+ghost use Rattle.cw_machine.specs.RepresentsState.{IsAlone, IsAt};
 ghost use Rattle.cw_machine.specs.TrapState.{HaltsAny, AreTrapOperands, TrapsAsCode};
 
 use crate::alone::main_takes;
@@ -25,7 +25,7 @@ use std::alloc::{AllocError, Global};
 pub const MOST_ROUND: usize = 16_384;
 
 /// The loop of a run to a trap, as the fast path uses it.
-pub(crate) struct UpToTrap {}
+pub(crate) struct ToTrap {}
 
 /// The operands of an instruction that can trap.
 #[derive(Clone, Copy, Debug, PartialEq, Eq)]
@@ -149,13 +149,13 @@ impl Machine {
         let fast = code.fast.as_slice();
         let mut left = limit;
         loop {
-            left = self.burst::<UpToTrap>(code, fast, left);
+            left = self.fast_path::<ToTrap>(code, fast, left);
             if left == 0 {
                 return Halt::Over;
             }
             let o = op_at(ops, self.place);
             let trap_operands = self.trap_operands(code, o);
-            match self.step::<UpToTrap>(code, o) {
+            match self.step::<ToTrap>(code, o) {
                 Moved::On => {}
                 Moved::Gave(_value) => return Halt::Ended,
                 Moved::Trapped(trap, line) => return Halt::Trapped(trap, line, trap_operands),

@@ -2,7 +2,7 @@
 
 ghost use Rattle.std.specs.Prelude.{◌≡◌, length};
 ghost use Rattle.cw_machine.specs.Rests.{AreBare};
-ghost use Rattle.cw_machine.specs.Shows.{StaysBut};
+ghost use Rattle.cw_machine.specs.RepresentsState.{StaysBut};
 ghost use Rattle.cw_machine.specs.Unwinding.{MayReturn, Returns};
 
 use crate::gives::take_home;

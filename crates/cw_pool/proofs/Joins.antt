@@ -9,9 +9,9 @@ use Rattle.cw_strand.specs.declared.strand.Strand.{Strand}
 use Rattle.cw_strand.specs.Holds.{outs, IsRunning}
 use Rattle.cw_yard.specs.declared.seat.Yard.{Yard}
 use Rattle.cw_yard.specs.Ledger.{Each}
-use Rattle.cw_pool.specs.declared.post.Kept.{Kept}
-use Rattle.cw_pool.specs.declared.post.Post.{Post}
-use Rattle.cw_pool.specs.Posts.{IsNewest, Works, Lacks, kept_job, kept_jobs, IsKeptOf}
+use Rattle.cw_pool.specs.declared.post.OutJob.{OutJob}
+use Rattle.cw_pool.specs.declared.post.WorkerFrame.{WorkerFrame}
+use Rattle.cw_pool.specs.WorkerFrames.{IsNewest, Works, Lacks, kept_job, kept_jobs, IsKeptOf}
 
 abbrev pub named : List Job → List (Option Job)
 named js = map (λ j. Some j) js
@@ -42,17 +42,17 @@ pub newest : (o : Option Job) (l : List (Option Job)) (js : List Job) → o ∷ 
 newest o l [] e = absurd (subst IsCons e tt)
 newest o l (j ∷ js) e = record { job = j; others = js; is = refl; named_is = ap (head_or o) e; rest_is = ap tail_of e }
 
-abbrev pub post : Strand → Vec Kept Global → Post
+abbrev pub post : Strand → Vec OutJob Global → WorkerFrame
 post s ks = record { strand = s; kept = ks }
 
 -- the job that a post lacks is the newest job of its strand
-pub lacks_newest : (y : Yard) (p : Post) (job : Job) → Lacks y p (Some job) → IsNewest p.strand job
+pub lacks_newest : (y : Yard) (p : WorkerFrame) (job : Job) → Lacks y p (Some job) → IsNewest p.strand job
 lacks_newest y p job lacks =
     let n = newest (Some job) (kept_jobs p.kept.items) (outs p.strand) lacks.1 in
     (n.others, n.is ∙ ap (λ j. j ∷ n.others) (same_job job n.job n.named_is))
 
 -- the newest job out is finished
-pub after : (y : Yard) (p : Post) (o : Option Job) (new : Strand) (ks : Vec Kept Global) → Lacks y p o → ks.items ≡ p.kept.items
+pub after : (y : Yard) (p : WorkerFrame) (o : Option Job) (new : Strand) (ks : Vec OutJob Global) → Lacks y p o → ks.items ≡ p.kept.items
     → ((j : Job) (others : List Job) → outs p.strand ≡ j ∷ others → o ≡ Some j → IsRunning new × (outs new ≡ others)) → Works y (post new ks)
 after y p o new ks lacks same f =
     let n = newest o (kept_jobs p.kept.items) (outs p.strand) lacks.1 in
@@ -60,21 +60,21 @@ after y p o new ks lacks same f =
     (r.0, ap kept_jobs same ∙ (n.rest_is ∙ ap named (sym r.1)), subst (λ l. Each (IsKeptOf y) l) (sym same) lacks.2)
 
 -- the newest job out has returned
-pub after_back : (y : Yard) (p : Post) (o : Option Job) (new : Strand) (ks : Vec Kept Global) (rest : Job) → Lacks y p o → ks.items ≡ p.kept.items
+pub after_back : (y : Yard) (p : WorkerFrame) (o : Option Job) (new : Strand) (ks : Vec OutJob Global) (rest : Job) → Lacks y p o → ks.items ≡ p.kept.items
     → IsRunning new → rest ∷ outs new ≡ outs p.strand → Works y (post new ks)
 after_back y p o new ks rest lacks same running is = after y p o new ks lacks same (λ j others e _. (running, ap tail_of (is ∙ e)))
 
 pub last_first : {A : Type 0} (xs ys : List A) (x : A) → xs ≡ ys ++ x ∷ [] → reverse xs ≡ x ∷ reverse ys
 last_first xs ys x e = ap reverse e ∙ reverse-append ys (x ∷ [])
 
-pub popped : (y : Yard) (p : Post) (ks : Vec Kept Global) (k : Kept) → Works y p → p.kept.items ≡ ks.items ++ k ∷ [] → Lacks y (post p.strand ks) (kept_job k) × IsKeptOf y k
+pub popped : (y : Yard) (p : WorkerFrame) (ks : Vec OutJob Global) (k : OutJob) → Works y p → p.kept.items ≡ ks.items ++ k ∷ [] → Lacks y (post p.strand ks) (kept_job k) × IsKeptOf y k
 popped y p ks k w e =
     let c = each_init (IsKeptOf y) ks.items k (subst (λ l. Each (IsKeptOf y) l) e w.2) in
     ((w.0, ap (map kept_job) (sym (last_first p.kept.items ks.items k e)) ∙ w.1, c.0), c.1)
 
-none_of : (ks : List Kept) → map kept_job ks ≡ [] → ks ≡ []
+none_of : (ks : List OutJob) → map kept_job ks ≡ [] → ks ≡ []
 none_of [] e = refl
 none_of (k ∷ ks) e = absurd (subst IsCons e tt)
 
-pub nothing : (ks : List Kept) (js : List Job) → kept_jobs ks ≡ named js → js ≡ [] → ks ≡ []
+pub nothing : (ks : List OutJob) (js : List Job) → kept_jobs ks ≡ named js → js ≡ [] → ks ≡ []
 nothing ks js e none = sym (reverse-reverse ks) ∙ ap reverse (none_of (reverse ks) (e ∙ ap named none))

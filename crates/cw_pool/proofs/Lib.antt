@@ -1,3 +1,3 @@
-pub mod Chained
+pub mod Stacking
 pub mod Joins
 pub mod Seating

@@ -1,5 +1,5 @@
-pub mod Chains
+pub mod StrandStacks
 pub mod Crews
 pub mod Driven
-pub mod Posts
+pub mod WorkerFrames
 pub mod Seatings

@@ -6,7 +6,7 @@ ghost use Rattle.cw_yard.specs.Seats.{IsSeatOf, IsTicketOf};
 ghost use Rattle.cw_yard.specs.declared.seat.Yard.{Yard};
 ghost use Rattle.cw_yard.specs.Tickets.{ticket_job};
 ghost use Rattle.cw_jobs.specs.Means.{IsMeaningOf};
-ghost use Rattle.cw_pool.specs.Posts.{Begins, Ends, IsNewest, Lacks, Settles, TurnsTo, Works};
+ghost use Rattle.cw_pool.specs.WorkerFrames.{Begins, Ends, IsNewest, Lacks, Settles, TurnsTo, Works};
 
 use crate::gate::{Gate, Moment};
 use crate::sign::Tally;
@@ -44,7 +44,7 @@ const NUMBER: usize = 8;
 const KEPT: usize = 64;
 
 /// A job that a strand has out.
-pub enum Kept {
+pub enum OutJob {
     /// The job itself: it could not be offered.
     Own(Job),
     /// It was offered, and this is its ticket.
@@ -52,9 +52,9 @@ pub enum Kept {
 }
 
 /// A worker frame: a strand, and each job that it has out, the newest last. It must be spent by `finish`.
-pub struct Post {
+pub struct WorkerFrame {
     pub(crate) strand: Strand,
-    pub(crate) kept: Vec<Kept>,
+    pub(crate) kept: Vec<OutJob>,
 }
 
 /// The result of a turn.
@@ -142,20 +142,20 @@ fn release(yard: &Yard, tally: &Tally, cell: usize) {
     }
 }
 
-impl Post {
+impl WorkerFrame {
     /// Begins a job.
     ///
     /// # Errors
     ///
     /// The job, unchanged, if the run is given up or memory runs out.
-    pub(crate) fn start(alloc: Global, tally: &Tally, job: Job) -> Result<Post, Job>
+    pub(crate) fn start(alloc: Global, tally: &Tally, job: Job) -> Result<WorkerFrame, Job>
         ensures { MatchResult result (Begins job) (λ back. back ≡ job) }
     {
         if tally.is_up() {
             return Err(job);
         }
         match Strand::start(alloc, job) {
-            Ok(strand) => Ok(Post {
+            Ok(strand) => Ok(WorkerFrame {
                 strand,
                 kept: Vec::new(alloc),
             }),
@@ -182,9 +182,9 @@ impl Post {
         let next = match yard.offer(seat, rest) {
             Ok(ticket) => {
                 gate.turn(me, Moment::Offered);
-                Kept::Out(ticket)
+                OutJob::Out(ticket)
             }
-            Err(rest) => Kept::Own(rest),
+            Err(rest) => OutJob::Own(rest),
         };
         self.kept.push_reserved(next);
     }
@@ -211,7 +211,7 @@ impl Post {
                 true
             }
             Collected::Later(ticket) => {
-                self.kept.push_reserved(Kept::Out(ticket));
+                self.kept.push_reserved(OutJob::Out(ticket));
                 false
             }
         }
@@ -227,12 +227,12 @@ impl Post {
         ensures works { Works yard.now self.new }
     {
         match self.kept.pop() {
-            Some(Kept::Own(rest)) => {
+            Some(OutJob::Own(rest)) => {
                 tally.offers.judge(0);
                 take_in(&mut self.strand, rest);
                 true
             }
-            Some(Kept::Out(ticket)) => match yard.retake(seat, ticket) {
+            Some(OutJob::Out(ticket)) => match yard.retake(seat, ticket) {
                 Retaken::Mine(rest) => {
                     tally.offers.judge(0);
                     take_in(&mut self.strand, rest);
@@ -355,7 +355,7 @@ impl Post {
     pub(crate) fn finish(self)
         requires { self.kept.items ≡ [] }
     {
-        let Post { mut strand, kept } = self;
+        let WorkerFrame { mut strand, kept } = self;
         strand.trim();
         drop(strand);
         kept.destroy_empty();

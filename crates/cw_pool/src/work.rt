@@ -3,12 +3,12 @@
 ghost use Rattle.std.specs.Prelude.{◌≡◌, [], IfSome};
 ghost use Rattle.cw_jobs.specs.Means.{IsMeaningOf};
 ghost use Rattle.cw_yard.specs.Seats.{IsSeatOf};
-ghost use Rattle.cw_pool.specs.Chains.{KeepsStanding};
-ghost use Rattle.cw_pool.specs.Posts.{IsFound, Works};
+ghost use Rattle.cw_pool.specs.StrandStacks.{KeepsStack};
+ghost use Rattle.cw_pool.specs.WorkerFrames.{IsFound, Works};
 ghost use Rattle.cw_yard.specs.declared.seat.Yard as yards;
 
 use crate::gate::{Gate, Moment};
-use crate::post::{Post, Turn, settle};
+use crate::post::{WorkerFrame, Turn, settle};
 use crate::sign::{BUDGET, Tally};
 use crossbeam_utils::sync::Key;
 use cw_jobs::effect::Effect;
@@ -30,7 +30,7 @@ const SLEPT: u32 = 992;
 
 /// A post that waits, and the duty of the stolen job that is run above it. It must be finished.
 pub struct Below {
-    pub(crate) post: Post,
+    pub(crate) post: WorkerFrame,
     pub(crate) duty: Duty,
     // The bytes of this frame and of all frames below it.
     pub(crate) held: usize,
@@ -88,7 +88,7 @@ impl Search {
 
     // Returns the bytes of the frames that wait on the worker: of the uppermost one, which gives back what it does not use when
     // it begins to wait, and of all frames below it.
-    fn weigh(&mut self, me: usize, post: &mut Post, below: &Vec<Below>) -> usize
+    fn weigh(&mut self, me: usize, post: &mut WorkerFrame, below: &Vec<Below>) -> usize
         ensures of { post.new.strand.of ≡ post.old.strand.of }
         ensures works { (y : yards.Yard) → Works y post.old → Works y post.new }
     {
@@ -210,7 +210,7 @@ fn steal_above<G: Gate, R: Wait>(
     seat: &mut Seat,
     gate: &G,
     tally: &Tally,
-    post: &mut Post,
+    post: &mut WorkerFrame,
     below: &mut Vec<Below>,
     search: &mut Search,
     key: Option<Key<'_>>,
@@ -218,7 +218,7 @@ fn steal_above<G: Gate, R: Wait>(
 )
     requires seat { IsSeatOf yard.now seat.old }
     ensures seat { IsSeatOf yard.now seat.new }
-    ensures stands { KeepsStanding yard.now post.old below.old.items post.new below.new.items }
+    ensures stands { KeepsStack yard.now post.old below.old.items post.new below.new.items }
 {
     if below.reserve(1).is_err() {
         search.idle();
@@ -229,7 +229,7 @@ fn steal_above<G: Gate, R: Wait>(
         return;
     };
     gate.turn(me, Moment::Stolen);
-    match Post::start(alloc, tally, stolen) {
+    match WorkerFrame::start(alloc, tally, stolen) {
         Ok(above) => {
             let waiting = mem::replace(post, above);
             below.push_reserved(Below {
@@ -254,14 +254,14 @@ fn run_above<G: Gate, R: Wait>(
     seat: &mut Seat,
     gate: &G,
     tally: &Tally,
-    post: &mut Post,
+    post: &mut WorkerFrame,
     below: &mut Vec<Below>,
     search: &mut Search,
     key: Option<Key<'_>>,
 )
     requires seat { IsSeatOf yard.now seat.old }
     ensures seat { IsSeatOf yard.now seat.new }
-    ensures stands { KeepsStanding yard.now post.old below.old.items post.new below.new.items }
+    ensures stands { KeepsStack yard.now post.old below.old.items post.new below.new.items }
 {
     let held = search.weigh(tally.me, post, below);
     if held as u64 > BUDGET || tally.is_full() {
@@ -288,7 +288,7 @@ pub(crate) fn work<G: Gate, R: Wait>(
     ensures seat { IsSeatOf yard.now seat.new }
     ensures means { IsMeaningOf job result }
 {
-    let mut post = match Post::start(alloc, tally, job) {
+    let mut post = match WorkerFrame::start(alloc, tally, job) {
         Ok(post) => post,
         Err(job) => return job.give_up(),
     };

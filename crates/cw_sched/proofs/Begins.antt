@@ -9,14 +9,14 @@ use Rattle.cw_jobs.specs.Jobs.{IsRoot}
 use Rattle.cw_strand.specs.Holds.{its_job, outs, IsRunning, IsGoing}
 use Rattle.cw_strand.specs.Moves.{IsBefore}
 use Rattle.cw_sched.specs.Boards.{Each, opened}
-use Rattle.cw_sched.specs.Scenes.{Posted, Stage, Goes, Scene, scene}
+use Rattle.cw_sched.specs.Scenes.{FrameView, Stage, Goes, Scene, scene}
 use Rattle.cw_sched.specs.Sound.{IsOwn, out_number, Works, IsStage, IsOffer, Sound}
 use Rattle.cw_sched.specs.Places.{once, sum_of, sum_over, OnePlace, RootIsFirst, held_by, run_by, out_of, offered_at}
 use Rattle.std.specs.Arc.{arc_value}
 use Rattle.cw_sched.specs.declared.world.World.{World}
 use Rattle.cw_sched.specs.Worlds.{idle, IsStarted}
 use Rattle.cw_sched.proofs.Lists.{named}
-use Rattle.cw_sched.proofs.Posts.{stands_none}
+use Rattle.cw_sched.proofs.WorkerFrames.{stands_none}
 use Rattle.cw_sched.proofs.Placed.{once_cases}
 
 pub each_none : {A : Type 0} (P : A → Type 0) (n : ℕ) → Each (Each P) (replicate n [])
@@ -27,10 +27,10 @@ sum_none : {A : Type 0} (f : A → ℕ) (n : ℕ) → sum_over f (replicate n []
 sum_none f zero = refl
 sum_none f (suc n) = let r : sum_over f (replicate n []) ≡ 0 = sum_none f n in omega (arith, r)
 
-abbrev pub first_scene : (root : Job) (post : Posted) (workers : ℕ) → Scene
+abbrev pub first_scene : (root : Job) (post : FrameView) (workers : ℕ) → Scene
 first_scene root post workers = record { jobs = root ∷ []; begun = (Goes post ∷ []) ∷ idle (workers - 1); board = opened workers }
 
-first_works : (root : Job) (post : Posted) → post.number ≡ 0 → its_job post.strand ≡ root → IsRunning post.strand → outs post.strand ≡ []
+first_works : (root : Job) (post : FrameView) → post.number ≡ 0 → its_job post.strand ≡ root → IsRunning post.strand → outs post.strand ≡ []
     → post.outs ≡ [] → post.at_join ≡ false → IsBefore post.strand → Works (root ∷ []) post
 first_works root post n of running none none' flag before =
     record {
@@ -41,7 +41,7 @@ first_works root post n of running none none' flag before =
       stands = stands_none post flag before;
     }
 
-pub first_sound : (v : Verified) (args : List ℤ) (n : ℕ) (burden : Burden) (root : Job) (post : Posted) (workers : ℕ) → 0 < workers → IsRoot v args n burden root.parts.value
+pub first_sound : (v : Verified) (args : List ℤ) (n : ℕ) (burden : Burden) (root : Job) (post : FrameView) (workers : ℕ) → 0 < workers → IsRoot v args n burden root.parts.value
     → post.number ≡ 0 → its_job post.strand ≡ root → IsRunning post.strand → outs post.strand ≡ [] → post.outs ≡ [] → post.at_join ≡ false → IsBefore post.strand
     → Sound v (first_scene root post workers)
 first_sound v args n burden root post workers some is number of running none none' flag before =
@@ -55,7 +55,7 @@ first_sound v args n burden root post workers some is number of running none non
       workers = omega (arith, long, long', some);
     }
 
-pub first_places : (root : Job) (post : Posted) (workers : ℕ) → post.number ≡ 0 → post.outs ≡ [] → OnePlace (first_scene root post workers)
+pub first_places : (root : Job) (post : FrameView) (workers : ℕ) → post.number ≡ 0 → post.outs ≡ [] → OnePlace (first_scene root post workers)
 first_places root post workers number none =
     let owners_are : (n : ℕ) → sum_over (out_of n) ((Goes post ∷ []) ∷ idle (workers - 1)) ≡ 0 = λ n.
     let a : sum_over (out_of n) (idle (workers - 1)) ≡ 0 = sum_none (out_of n) (workers - 1) in
@@ -79,11 +79,11 @@ first_places root post workers number none =
       ];
     }
 
-pub first_root : (root : Job) (post : Posted) (workers : ℕ) → post.number ≡ 0 → RootIsFirst (first_scene root post workers)
+pub first_root : (root : Job) (post : FrameView) (workers : ℕ) → post.number ≡ 0 → RootIsFirst (first_scene root post workers)
 first_root root post workers number = number
 
 -- it begins so, whatever scene shows it
-pub begins : (v : Verified) (args : List ℤ) (n : ℕ) (burden : Burden) (workers : ℕ) (w : World) (root : Job) (post : Posted) → 0 < workers
+pub begins : (v : Verified) (args : List ℤ) (n : ℕ) (burden : Burden) (workers : ℕ) (w : World) (root : Job) (post : FrameView) → 0 < workers
     → IsRoot v args n burden root.parts.value → arc_value w.code ≡ v
     → scene w ≡ first_scene root post workers → post.number ≡ 0 → its_job post.strand ≡ root → IsRunning post.strand → outs post.strand ≡ []
     → post.outs ≡ [] → post.at_join ≡ false → IsGoing post.strand → post.strand.count ≡ 0 → IsBefore post.strand

@@ -18,8 +18,8 @@ use Rattle.cw_sched.specs.declared.board.Offer.{Offer}
 use Rattle.cw_sched.specs.declared.post.Out.{Out}
 use Rattle.cw_sched.specs.declared.post.Out.TheVariants as out
 use Rattle.cw_sched.specs.Boards.{Each, Boarded, newest_number}
-use Rattle.cw_sched.specs.Scenes.{Posted, Stage, Goes, Made, Answered, Scene, top}
-use Rattle.cw_sched.specs.Posts.{Comes}
+use Rattle.cw_sched.specs.Scenes.{FrameView, Stage, Goes, Made, Answered, Scene, top}
+use Rattle.cw_sched.specs.WorkerFrames.{Comes}
 use Rattle.cw_sched.specs.Sound.{IsJobOf, IsOwn, IsOffer, IsCell, IsMade, out_number, Works, Sound}
 use Rattle.cw_sched.specs.Table.{goes, newest_out, is_at_spawn, is_undecided, is_at_join, can_retake, is_same, is_settled}
 use Rattle.cw_sched.specs.Events.{with_top, but_top, turned, ComesTo, IsBack, IsAtBack, IsBegun}
@@ -51,10 +51,10 @@ put_back s w x x' jobs' but begun' board' at less laid same j b =
     (laid ∙ (ap (λ (l : List (List Stage)). with_top l w x') less ∙ (ap (λ (y : Stage). with_top (but_top s.begun w) w y) same ∙ laid_back s.begun w x at))) b
 
 -- the post that was taken
-pub taken_works : (v : Verified) (s : Scene) (w : ℕ) (p : Posted) → Sound v s → top s w ≡ Some (Goes p) → Works s.jobs p
+pub taken_works : (v : Verified) (s : Scene) (w : ℕ) (p : FrameView) → Sound v s → top s w ≡ Some (Goes p) → Works s.jobs p
 taken_works v s w p h at = top_stage v s w (Goes p) h at
 
-pub at_sync : (jobs : List Job) (p : Posted) (t : Option Stage) → Works jobs p → t ≡ Some (Goes p) → is_at_join t ≡ true → IsRunning p.strand × IsAtSync p.strand
+pub at_sync : (jobs : List Job) (p : FrameView) (t : Option Stage) → Works jobs p → t ≡ Some (Goes p) → is_at_join t ≡ true → IsRunning p.strand × IsAtSync p.strand
 at_sync jobs p t works is e = (works.running, (works.stands.0 (sym (ap is_at_join is) ∙ e)).0)
 
 -- where Run is possible
@@ -78,12 +78,12 @@ same_of : (jobs : List Job) (n : ℕ) (a b : Job) → IsJobOf jobs n a → IsJob
 same_of jobs n a b ha hb = same_Some a b (sym ha ∙ hb)
 
 -- what the strand has out, where this came back
-pub record Lacking (p : Posted) (older : List Out) (rest : Job) : Type 0 where
+pub record Lacking (p : FrameView) (older : List Out) (rest : Job) : Type 0 where
   pub others : List Job
   pub are : outs p.strand ≡ rest ∷ others
   pub even : length older ≡ length others
 
-pub lacks_back : (v : Verified) (s : Scene) (w : ℕ) (p : Posted) (older : List Out) (o : Out) (rest : Job) → Sound v s → Works s.jobs p
+pub lacks_back : (v : Verified) (s : Scene) (w : ℕ) (p : FrameView) (older : List Out) (o : Out) (rest : Job) → Sound v s → Works s.jobs p
     → p.outs ≡ older ++ o ∷ [] → IsBack s.board w o rest → Lacking p older rest
 lacks_back v s w p older o rest h works are back =
     let n = newest_out_of s.jobs p older o works are in
@@ -91,7 +91,7 @@ lacks_back v s w p older o rest h works are back =
     record { others = n.others; are = n.is ∙ ap (λ j. j ∷ n.others) same; even = is_even s.jobs older n.others n.older_are }
 
 -- what it comes to, told of the job that came back
-pub comes_of : (v : Verified) (s : Scene) (w : ℕ) (p q : Posted) (older : List Out) (o : Out) (rest : Job) (ended : Option Effect) → Sound v s
+pub comes_of : (v : Verified) (s : Scene) (w : ℕ) (p q : FrameView) (older : List Out) (o : Out) (rest : Job) (ended : Option Effect) → Sound v s
     → Works s.jobs p → p.outs ≡ older ++ o ∷ [] → IsBack s.board w o rest
     → ((others : List Job) → outs p.strand ≡ rest ∷ others → Comes ended (record { number = p.number; strand = p.strand; at_join = p.at_join; outs = older }) q others)
     → (job : Job) (others : List Job) → outs p.strand ≡ job ∷ others → IsJobOf s.jobs (out_number o) job
@@ -112,14 +112,14 @@ at_back b w (out.Offered n) e = by_number (newest_number b w) refl e
     by_number (Some m) is e = let same : n ≡ m = grind (arith, e) in is ∙ ap (λ k. Some k) (sym same)
 
 -- the job that a strand has newest out is that whose effect was in the cell
-pub record Giving (p : Posted) (older : List Out) (e : Effect) : Type 0 where
+pub record Giving (p : FrameView) (older : List Out) (e : Effect) : Type 0 where
   pub out : Job
   pub others : List Job
   pub are : outs p.strand ≡ out ∷ others
   pub means : IsMeaningOf out e
   pub even : length older ≡ length others
 
-pub gives : (v : Verified) (s : Scene) (p : Posted) (older : List Out) (n place : ℕ) (e : Effect) → Sound v s → Works s.jobs p → p.outs ≡ older ++ out.Offered n ∷ []
+pub gives : (v : Verified) (s : Scene) (p : FrameView) (older : List Out) (n place : ℕ) (e : Effect) → Sound v s → Works s.jobs p → p.outs ≡ older ++ out.Offered n ∷ []
     → slice_get s.board.cells place ≡ Some (record { number = n; effect = e }) → Giving p older e
 gives v s p older n place e h works are cell =
     let k = newest_out_of s.jobs p older (out.Offered n) works are in
@@ -142,13 +142,13 @@ popped_room q q' None x is cases cap = let never : ⊥ = cc in absurd never
 popped_room q q' (Some y) x is cases cap = omega (arith, cases, cap, q.ok.1)
 
 -- at a spawn
-pub spawn_out : (p : Posted) (t : Option Stage) (r : Option Out) → t ≡ Some (Goes p) → newest p.outs ≡ r → is_at_spawn t ≡ true → is_undecided r ≡ true
+pub spawn_out : (p : FrameView) (t : Option Stage) (r : Option Out) → t ≡ Some (Goes p) → newest p.outs ≡ r → is_at_spawn t ≡ true → is_undecided r ≡ true
 spawn_out p t r is same e = sym (ap is_undecided (ap newest_out is ∙ same)) ∙ e
 
-pub retake_out : (b : Boarded) (w : ℕ) (p : Posted) (t : Option Stage) (r : Option Out) → t ≡ Some (Goes p) → newest p.outs ≡ r → can_retake b w (newest_out t) ≡ true → can_retake b w r ≡ true
+pub retake_out : (b : Boarded) (w : ℕ) (p : FrameView) (t : Option Stage) (r : Option Out) → t ≡ Some (Goes p) → newest p.outs ≡ r → can_retake b w (newest_out t) ≡ true → can_retake b w r ≡ true
 retake_out b w p t r is same e = sym (ap (can_retake b w) (ap newest_out is ∙ same)) ∙ e
 
-pub settled_out : (b : Boarded) (p : Posted) (t : Option Stage) (r : Option Out) → t ≡ Some (Goes p) → newest p.outs ≡ r → is_settled b (newest_out t) ≡ true → is_settled b r ≡ true
+pub settled_out : (b : Boarded) (p : FrameView) (t : Option Stage) (r : Option Out) → t ≡ Some (Goes p) → newest p.outs ≡ r → is_settled b (newest_out t) ≡ true → is_settled b r ≡ true
 settled_out b p t r is same e = sym (ap (is_settled b) (ap newest_out is ∙ same)) ∙ e
 
 -- at a spawn a worker has a strand that goes on
@@ -176,7 +176,7 @@ pub if_some : {A : Type 0} (P : A → Type 0) (r : Option A) (x : A) → r ≡ S
 if_some P r x is h = subst (λ o. IfSome o P) is h
 
 -- a job that was stolen begins
-pub stolen_to : (v : Verified) (jobs : List Job) (p q : Posted) (ended : Option Effect) (x : Stage) (n : ℕ) (job : Job) → IsJobOf jobs n job
+pub stolen_to : (v : Verified) (jobs : List Job) (p q : FrameView) (ended : Option Effect) (x : Stage) (n : ℕ) (job : Job) → IsJobOf jobs n job
     → p.number ≡ n → its_job p.strand ≡ job → p.outs ≡ [] → outs p.strand ≡ []
     → Comes ended p q (outs p.strand) → IsBegun v q ended x → ComesTo v jobs p [] x
 stolen_to v jobs p q ended x n job is number of none none' comes b =
@@ -185,7 +185,7 @@ stolen_to v jobs p q ended x n job is number of none none' comes b =
     let own : Each (IsOwn jobs) p.outs = subst (λ (os : List Out). Each (IsOwn jobs) os) (sym none) tt in
     subst (λ (os : List Out). ComesTo v jobs p os x) none (comes_to v jobs p q ended (outs p.strand) x comes is_named lent own b)
 
-pub stolen_whole : (v : Verified) (s : Scene) (p q : Posted) (ended : Option Effect) (n : ℕ) (job : Job) → Sound v s → IsJobOf s.jobs n job → p.number ≡ n → its_job p.strand ≡ job
+pub stolen_whole : (v : Verified) (s : Scene) (p q : FrameView) (ended : Option Effect) (n : ℕ) (job : Job) → Sound v s → IsJobOf s.jobs n job → p.number ≡ n → its_job p.strand ≡ job
     → Comes ended p q (outs p.strand) → q.number ≡ 0 → IfSome ended (λ e. ∥ IsOfWhole v e ∥₁)
 stolen_whole v s p q ended n job h is number of comes z =
     let is_named : IsJobOf s.jobs p.number (its_job p.strand) = ap (slice_get s.jobs) number ∙ (is ∙ ap (λ j. Some j) (sym of)) in
@@ -222,11 +222,11 @@ set_back ls v o e =
     ∙ (ap (λ l. slice_set ls v (o ∷ l)) (of_worker_set ls v (but_oldest (of_worker ls v)) lt)
     ∙ (ap (slice_set ls v) (sym (oldest_is (of_worker ls v) o e)) ∙ set_same ls v))
 
-pub retake_some : (b : Boarded) (w : ℕ) (p : Posted) (t : Option Stage) (r : Option Out) (o : Out) → t ≡ Some (Goes p) → newest p.outs ≡ r
+pub retake_some : (b : Boarded) (w : ℕ) (p : FrameView) (t : Option Stage) (r : Option Out) (o : Out) → t ≡ Some (Goes p) → newest p.outs ≡ r
     → r ≡ Some o → can_retake b w (newest_out t) ≡ true → can_retake b w (Some o) ≡ true
 retake_some b w p t r o is same some e = sym (ap (can_retake b w) some) ∙ retake_out b w p t r is same e
 
-pub offer_there : (v : Verified) (s : Scene) (w : ℕ) (p : Posted) → Sound v s → top s w ≡ Some (Goes p) → w < length s.board.offers
+pub offer_there : (v : Verified) (s : Scene) (w : ℕ) (p : FrameView) → Sound v s → top s w ≡ Some (Goes p) → w < length s.board.offers
 offer_there v s w p h at =
     let some : of_worker s.begun w ≢ [] = λ none. absurd (subst IsSomeOf (sym at ∙ ap newest none) tt) in
     let lt : w < length s.begun = within_worker s.begun w some in

@@ -16,13 +16,13 @@ use Rattle.cw_strand.specs.declared.strand.Advance.TheVariants as advance
 use Rattle.cw_strand.specs.Holds.{its_end, outs, stops, has_failed, IsGoing, HasFailed}
 use Rattle.cw_strand.specs.Losing.{ComesFrom, LeavesEnd, ReportsOverLimit}
 use Rattle.cw_strand.specs.Moves.{AdvancesBy, EndsAfter, EndsBy, EndsStill, IsAtLimit, IsUnended, PausesBy}
-use Rattle.cw_sched.specs.Scenes.{Posted, Stage, Goes, Made, Answered}
-use Rattle.cw_sched.specs.Posts.{IsBackIn}
+use Rattle.cw_sched.specs.Scenes.{FrameView, Stage, Goes, Made, Answered}
+use Rattle.cw_sched.specs.WorkerFrames.{IsBackIn}
 use Rattle.cw_sched.specs.Events.{IsBegun}
 use Rattle.cw_sched.specs.Lacking.{IsAnsweredMemory}
 use Rattle.cw_sched.specs.Exceeding.{Exceeds, ExceedsAfter}
 use Rattle.cw_sched.proofs.Lacking.{goes_not_lost}
-use Rattle.cw_sched.proofs.Posts.{within_end}
+use Rattle.cw_sched.proofs.WorkerFrames.{within_end}
 
 -- a strand that goes on has not exceeded its limit
 pub goes_not_over : (m : Mode) → m ≡ mode.Going → m ≡ mode.Over → ⊥
@@ -103,7 +103,7 @@ answer_over (effect.Memory back) r is over = absurd (let same = sym over ∙ is 
 answer_over (effect.GivenUp back) r is over = absurd (let same = sym over ∙ is in cc)
 
 -- what is laid on a worker's list exceeds the limit only if the post does
-pub stage_exceeds : (v : Verified) (q : Posted) (ended : Option Effect) (x : Stage) → IsBegun v q ended x → Exceeds x → ExceedsAfter ended q.strand
+pub stage_exceeds : (v : Verified) (q : FrameView) (ended : Option Effect) (x : Stage) → IsBegun v q ended x → Exceeds x → ExceedsAfter ended q.strand
 stage_exceeds v q None x b over = subst (λ y. Exceeds y) b over
 stage_exceeds v q (Some e) (Goes k) b over = absurd b
 stage_exceeds v q (Some e) (Made n d) b over = subst ReportsOverLimit b.2 over

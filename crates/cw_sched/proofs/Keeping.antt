@@ -19,7 +19,7 @@ use Rattle.cw_sched.specs.declared.post.Out.{Out}
 use Rattle.cw_sched.specs.declared.post.Out.TheVariants as out
 use Rattle.cw_sched.specs.declared.world.World.{World}
 use Rattle.cw_sched.specs.Boards.{Each, Boarded, offered, collected}
-use Rattle.cw_sched.specs.Scenes.{Posted, Stage, Goes, Made, Answered, Scene, scene, top}
+use Rattle.cw_sched.specs.Scenes.{FrameView, Stage, Goes, Made, Answered, Scene, scene, top}
 use Rattle.cw_sched.specs.Lacking.{is_memory, lacks_memory, HasEnded, LacksNone, Loses, LacksBy, KeepsMemory}
 use Rattle.cw_sched.specs.Events.{with_top, but_top, turned, board_without, with_outs, Runs, Spawns, Offers, Inlines, Retakes, Steals, Settles, Collects, Does, DoesOr}
 use Rattle.cw_sched.specs.Worlds.{answer_of, IsStarted, Leads, LeadsToLack}
@@ -56,7 +56,7 @@ turned_top : (s : Scene) (w : ℕ) (x y : Stage) (board : Boarded) → top s w �
 turned_top s w x y board at =
     laid (but_top s.begun w) w x (subst (λ n. w < n) (sym (length-set s.begun w (but_newest (of_worker s.begun w)))) (there s.begun w y at))
 
-abbrev loses : (s s' : Scene) (w : ℕ) (p : Posted) (x : Stage) (board : Boarded) → top s w ≡ Some (Goes p) → s' ≡ turned s w x board → lacks_memory x ≡ true → Loses s s' w
+abbrev loses : (s s' : Scene) (w : ℕ) (p : FrameView) (x : Stage) (board : Boarded) → top s w ≡ Some (Goes p) → s' ≡ turned s w x board → lacks_memory x ≡ true → Loses s s' w
 loses s s' w p x board at is l = record {
   post = p;
   was = at;
@@ -66,7 +66,7 @@ loses s s' w p x board at is l = record {
 }
 
 -- a strand of a world in which memory was wanting nowhere
-not_lost : (s : Scene) (w : ℕ) (p : Posted) → LacksNone s → top s w ≡ Some (Goes p) → HasFailed p.strand → ⊥
+not_lost : (s : Scene) (w : ℕ) (p : FrameView) → LacksNone s → top s w ≡ Some (Goes p) → HasFailed p.strand → ⊥
 not_lost s w p h at lost = true≢false (sym lost ∙ top_has s w (Goes p) h at)
 
 -- what is laid down lacks none, or this is known of it

@@ -13,8 +13,8 @@ use Rattle.cw_strand.specs.declared.strand.Mode.TheVariants as mode
 use Rattle.cw_strand.specs.declared.strand.Strand.{Strand}
 use Rattle.cw_strand.specs.Holds.{stops, has_failed, IsGoing, IsWaiting, HasFailed}
 use Rattle.cw_strand.specs.Losing.{MayLack, MayStop, KeepsMode, ComesFrom, LeavesEnd, ReportsFailure}
-use Rattle.cw_sched.specs.Scenes.{Posted, Stage, Goes, Made, Answered}
-use Rattle.cw_sched.specs.Posts.{IsBackIn}
+use Rattle.cw_sched.specs.Scenes.{FrameView, Stage, Goes, Made, Answered}
+use Rattle.cw_sched.specs.WorkerFrames.{IsBackIn}
 use Rattle.cw_sched.specs.Events.{IsBegun}
 use Rattle.cw_sched.specs.Lacking.{is_memory, answers_memory, lacks_memory, HasEnded, IsAnsweredMemory, LacksAfter}
 
@@ -80,20 +80,20 @@ answer_told (effect.OverLimit back) r is l = absurd (true≢false (sym (sym (ap 
 answer_told (effect.Memory back) r is l = tt
 answer_told (effect.GivenUp back) r is l = tt
 
-pub stage_lacks : (v : Verified) (q : Posted) (ended : Option Effect) (x : Stage) → IsBegun v q ended x → lacks_memory x ≡ true → LacksAfter ended q.strand
+pub stage_lacks : (v : Verified) (q : FrameView) (ended : Option Effect) (x : Stage) → IsBegun v q ended x → lacks_memory x ≡ true → LacksAfter ended q.strand
 stage_lacks v q None x b l = sym (ap lacks_memory b) ∙ l
 stage_lacks v q (Some e) (Goes k) b l = absurd b
 stage_lacks v q (Some e) (Made n d) b l = memory_told e (sym (ap is_memory b.2) ∙ l)
 stage_lacks v q (Some e) (Answered r) b l = answer_told e r b.1 l
 
-ended_is : (v : Verified) (q : Posted) (ended : Option Effect) (x : Stage) → IsBegun v q ended x → IsSome ended → HasEnded x
+ended_is : (v : Verified) (q : FrameView) (ended : Option Effect) (x : Stage) → IsBegun v q ended x → IsSome ended → HasEnded x
 ended_is v q None x b some = absurd (true≢false (sym some))
 ended_is v q (Some e) (Goes k) b some = absurd b
 ended_is v q (Some e) (Made n d) b some = tt
 ended_is v q (Some e) (Answered r) b some = tt
 
 -- of one that has its newest job back
-pub back_lacks : (v : Verified) (p : Strand) (q : Posted) (ended : Option Effect) (x : Stage) → IsBegun v q ended x → (LacksAfter ended q.strand → HasFailed p ⊎ (IsWaiting p × IsSome ended))
+pub back_lacks : (v : Verified) (p : Strand) (q : FrameView) (ended : Option Effect) (x : Stage) → IsBegun v q ended x → (LacksAfter ended q.strand → HasFailed p ⊎ (IsWaiting p × IsSome ended))
     → lacks_memory x ≡ true → HasFailed p ⊎ (IsWaiting p × HasEnded x)
 back_lacks v p q ended x b f l = told (f (stage_lacks v q ended x b l))
   where
@@ -102,7 +102,7 @@ back_lacks v p q ended x b f l = told (f (stage_lacks v q ended x b l))
     told (inr at) = inr (at.0, ended_is v q ended x b at.1)
 
 -- of one that has begun
-pub fresh_lacks : (v : Verified) (p : Strand) (q : Posted) (ended : Option Effect) (x : Stage) → IsGoing p → LeavesEnd ended p q.strand → IsBegun v q ended x → lacks_memory x ≡ true → HasEnded x
+pub fresh_lacks : (v : Verified) (p : Strand) (q : FrameView) (ended : Option Effect) (x : Stage) → IsGoing p → LeavesEnd ended p q.strand → IsBegun v q ended x → lacks_memory x ≡ true → HasEnded x
 fresh_lacks v p q None x going same b l = absurd (goes_not_lost q.strand.mode (same ∙ going) (stage_lacks v q None x b l))
 fresh_lacks v p q (Some e) x going comes b l = ended_is v q (Some e) x b refl
 

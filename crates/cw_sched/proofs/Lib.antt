@@ -4,7 +4,7 @@ pub mod Boards
 pub mod Strands
 pub mod Lacking
 pub mod Exceeding
-pub mod Posts
+pub mod WorkerFrames
 pub mod Sounds
 pub mod Turns
 pub mod Placed

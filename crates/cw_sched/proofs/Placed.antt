@@ -15,7 +15,7 @@ use Rattle.cw_sched.specs.declared.post.Out.TheVariants as out
 use Rattle.cw_jobs.specs.declared.effect.Effect.{Effect}
 use Rattle.cw_sched.specs.core.Laws.{one_if}
 use Rattle.cw_sched.specs.Boards.{Boarded, back_number, newest_number}
-use Rattle.cw_sched.specs.Scenes.{Posted, Stage, Goes, Made, Answered, Scene, top}
+use Rattle.cw_sched.specs.Scenes.{FrameView, Stage, Goes, Made, Answered, Scene, top}
 use Rattle.cw_sched.specs.Places.{once, sum_of, sum_over, out_at, out_of, held_at, held_by, run_by, offered_at, settled_at, OnePlace, IsRootStage, RootIsFirst}
 use Rattle.cw_sched.specs.Events.{with_top, but_top, turned, board_without, with_outs, IsAtBack, GoesOn, Runs, Spawns, Offers, Inlines, Retakes, Steals, Settles, Collects, Does}
 use Rattle.cw_sched.proofs.Lists.{IsSomeOf, within_worker, of_worker_set}
@@ -96,28 +96,28 @@ module _ {A : Type 0} (f : A → ℕ) where
       let b : sum_over f less + f x ≡ sum_over f ls = over_less ls w x e in
       omega (arith, a, b)
 
-goes_run : (n : ℕ) (p : Posted) (os : List Out) (x : Stage) → GoesOn p os x → run_by n x ≡ once n p.number
+goes_run : (n : ℕ) (p : FrameView) (os : List Out) (x : Stage) → GoesOn p os x → run_by n x ≡ once n p.number
 goes_run n p os (Goes q) g = ap (once n) g.0
 goes_run n p os (Made m e) g = ap (once n) g.0
 goes_run n p os (Answered r) g = ap (once n) (sym g.0)
 
-goes_held : (n : ℕ) (p : Posted) (os : List Out) (x : Stage) → GoesOn p os x → held_by n x ≡ sum_of (held_at n) os
+goes_held : (n : ℕ) (p : FrameView) (os : List Out) (x : Stage) → GoesOn p os x → held_by n x ≡ sum_of (held_at n) os
 goes_held n p os (Goes q) g = ap (sum_of (held_at n)) g.2
 goes_held n p os (Made m e) g = sym (ap (sum_of (held_at n)) g.2)
 goes_held n p os (Answered r) g = sym (ap (sum_of (held_at n)) g.1)
 
-goes_out : (n : ℕ) (p : Posted) (os : List Out) (x : Stage) → GoesOn p os x → out_of n x ≡ sum_of (out_at n) os
+goes_out : (n : ℕ) (p : FrameView) (os : List Out) (x : Stage) → GoesOn p os x → out_of n x ≡ sum_of (out_at n) os
 goes_out n p os (Goes q) g = ap (sum_of (out_at n)) g.2
 goes_out n p os (Made m e) g = sym (ap (sum_of (out_at n)) g.2)
 goes_out n p os (Answered r) g = sym (ap (sum_of (out_at n)) g.1)
 
 -- what is left of a board and of a list of numbers out accounts for each other
-pub record Evens (p : Posted) (os : List Out) (old new : Boarded) : Type 0 where
+pub record Evens (p : FrameView) (os : List Out) (old new : Boarded) : Type 0 where
   pub counts : (n : ℕ) → (sum_over (offered_at n) new.offers + sum_of (settled_at n) new.cells) + (sum_of (held_at n) os + sum_of (out_at n) p.outs)
       ≡ (sum_over (offered_at n) old.offers + sum_of (settled_at n) old.cells) + (sum_of (held_at n) p.outs + sum_of (out_at n) os)
   pub fewer : (n : ℕ) → sum_of (out_at n) os ≤ sum_of (out_at n) p.outs
 
-pub turned_placed : (s : Scene) (w : ℕ) (p : Posted) (os : List Out) (x : Stage) (board : Boarded) → OnePlace s → top s w ≡ Some (Goes p)
+pub turned_placed : (s : Scene) (w : ℕ) (p : FrameView) (os : List Out) (x : Stage) (board : Boarded) → OnePlace s → top s w ≡ Some (Goes p)
     → GoesOn p os x → Evens p os s.board board → OnePlace (turned s w x board)
 turned_placed s w p os x board o e g v =
     let old : Stage = Goes p in
@@ -135,7 +135,7 @@ turned_placed s w p os x board o e g v =
           omega (arith, out, goes_out n p os x g, v.fewer n, o.later n lt);
     }
 
-same_evens : (p : Posted) (board : Boarded) → Evens p p.outs board board
+same_evens : (p : FrameView) (board : Boarded) → Evens p p.outs board board
 same_evens p board = record { counts = λ n. refl; fewer = λ n. omega arith }
 
 pub run_placed : (v : Verified) (s s' : Scene) (w : ℕ) → OnePlace s → Runs v s s' w → OnePlace s'
@@ -178,10 +178,10 @@ spawn_placed v s s' w o d =
     })
 
 -- the sums of a list with one more number out
-pushed_out : (n : ℕ) (p : Posted) (older : List Out) (o : Out) → p.outs ≡ older ++ o ∷ [] → sum_of (out_at n) p.outs ≡ sum_of (out_at n) older + out_at n o
+pushed_out : (n : ℕ) (p : FrameView) (older : List Out) (o : Out) → p.outs ≡ older ++ o ∷ [] → sum_of (out_at n) p.outs ≡ sum_of (out_at n) older + out_at n o
 pushed_out n p older o e = ap (sum_of (out_at n)) e ∙ sum_pushed (out_at n) older o
 
-pushed_held : (n : ℕ) (p : Posted) (older : List Out) (o : Out) → p.outs ≡ older ++ o ∷ [] → sum_of (held_at n) p.outs ≡ sum_of (held_at n) older + held_at n o
+pushed_held : (n : ℕ) (p : FrameView) (older : List Out) (o : Out) → p.outs ≡ older ++ o ∷ [] → sum_of (held_at n) p.outs ≡ sum_of (held_at n) older + held_at n o
 pushed_held n p older o e = ap (sum_of (held_at n)) e ∙ sum_pushed (held_at n) older o
 
 pub inline_placed : (s s' : Scene) (w : ℕ) → OnePlace s → Inlines s s' w → OnePlace s'
@@ -234,7 +234,7 @@ number_at b w m e = by_newest (newest (of_worker b.offers w)) refl e
     by_newest None is e = let never : ⊥ = cc in absurd never
     by_newest (Some x) is e = (x, is, same_Some x.number m e)
 
-retake_evens : (s : Scene) (w : ℕ) (p : Posted) (older : List Out) (o : Out) → p.outs ≡ older ++ o ∷ [] → IsAtBack s.board w o → Evens p older s.board (board_without s.board w o)
+retake_evens : (s : Scene) (w : ℕ) (p : FrameView) (older : List Out) (o : Out) → p.outs ≡ older ++ o ∷ [] → IsAtBack s.board w o → Evens p older s.board (board_without s.board w o)
 retake_evens s w p older (out.Undecided m j) are back =
     record {
       counts = λ n.
@@ -347,7 +347,7 @@ first_more : (l : List Stage) (y : Stage) → IsRootStage (oldest l) → oldest 
 first_more [] y h = absurd h
 first_more (z ∷ zs) y h = refl
 
-goes_root : (p : Posted) (os : List Out) (y : Stage) → GoesOn p os y → IsRootStage (Some (Goes p)) → IsRootStage (Some y)
+goes_root : (p : FrameView) (os : List Out) (y : Stage) → GoesOn p os y → IsRootStage (Some (Goes p)) → IsRootStage (Some y)
 goes_root p os (Goes q) g z = g.0 ∙ z
 goes_root p os (Made m e) g z = absurd (g.1 z)
 goes_root p os (Answered r) g z = tt
@@ -357,7 +357,7 @@ pub other_zero : {A : Type 0} (ls : List (List A)) (k : ℕ) (l : List A) → of
 other_zero [] k l = refl
 other_zero (x ∷ ls) k l = refl
 
-turned_root : (s : Scene) (w : ℕ) (p : Posted) (os : List Out) (x : Stage) → RootIsFirst s → top s w ≡ Some (Goes p) → GoesOn p os x
+turned_root : (s : Scene) (w : ℕ) (p : FrameView) (os : List Out) (x : Stage) → RootIsFirst s → top s w ≡ Some (Goes p) → GoesOn p os x
     → IsRootStage (oldest (of_worker (with_top (but_top s.begun w) w x) 0))
 turned_root s zero p os x h at g =
     let l : List Stage = of_worker s.begun 0 in

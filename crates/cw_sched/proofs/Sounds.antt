@@ -16,7 +16,7 @@ use Rattle.cw_sched.specs.declared.event.Event.TheVariants as event
 use Rattle.cw_sched.specs.declared.post.Out.{Out}
 use Rattle.cw_sched.specs.declared.post.Out.TheVariants as out
 use Rattle.cw_sched.specs.Boards.{Each, Boarded}
-use Rattle.cw_sched.specs.Scenes.{Posted, Stage, Goes, Made, Answered, Scene, top}
+use Rattle.cw_sched.specs.Scenes.{FrameView, Stage, Goes, Made, Answered, Scene, top}
 use Rattle.cw_sched.specs.Sound.{IsJobOf, IsOwn, IsOffer, IsCell, out_number, Works, IsMade, IsStage, HasRoot, Sound, KeepsRuns}
 use Rattle.cw_sched.specs.Events.{with_top, but_top, turned, board_without, Runs, Spawns, Offers, Inlines, Retakes, Steals, Settles, Collects, Does}
 use Rattle.cw_sched.proofs.Lists.{each_weaken, each_set, each_worker, each_but_newest, each_newest, each_but_oldest, same_names}
@@ -74,7 +74,7 @@ module _ (jobs : List Job) (job : Job) where
   kept_own (out.Kept n j) h = kept_job n j h
   kept_own (out.Offered n) h = tt
 
-  kept_works : (p : Posted) → Works jobs p → Works (jobs ++ job ∷ []) p
+  kept_works : (p : FrameView) → Works jobs p → Works (jobs ++ job ∷ []) p
   kept_works p w =
       record {
         running = w.running;

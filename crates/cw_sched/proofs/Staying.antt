@@ -13,7 +13,7 @@ use Rattle.cw_sched.specs.declared.event.Event.TheVariants as event
 use Rattle.cw_sched.specs.declared.event.Refused.{Refused}
 use Rattle.cw_sched.specs.declared.post.Out.TheVariants as out
 use Rattle.cw_sched.specs.declared.world.World.{World}
-use Rattle.cw_sched.specs.Scenes.{Posted, Stage, Goes, Made, Answered, Scene, scene, top}
+use Rattle.cw_sched.specs.Scenes.{FrameView, Stage, Goes, Made, Answered, Scene, scene, top}
 use Rattle.cw_sched.specs.Events.{with_top, but_top, with_outs, Does, DoesOr}
 use Rattle.cw_sched.specs.Worlds.{answer_in, KeepsAnswer}
 use Rattle.cw_sched.proofs.Lists.{of_worker_set}
@@ -24,13 +24,13 @@ use Rattle.cw_sched.proofs.Ends.{answer_is}
 abbrev First : Result alone.Ended Fault → List (List Stage) → Type 0
 First a begun = oldest (of_worker begun 0) ≡ Some (Answered a)
 
-goes_no_answer : (o : Option Stage) (p : Posted) (a : Result alone.Ended Fault) → o ≡ Some (Goes p) → o ≡ Some (Answered a) → ⊥
+goes_no_answer : (o : Option Stage) (p : FrameView) (a : Result alone.Ended Fault) → o ≡ Some (Goes p) → o ≡ Some (Answered a) → ⊥
 goes_no_answer o p a e h = let bad : answer_in (Some (Goes p)) ≡ answer_in (Some (Answered a)) = ap answer_in (sym e ∙ h) in cc
 
 made_no_answer : (o : Option Stage) (n : ℕ) (d : Effect) (a : Result alone.Ended Fault) → o ≡ Some (Made n d) → o ≡ Some (Answered a) → ⊥
 made_no_answer o n d a e h = let bad : answer_in (Some (Made n d)) ≡ answer_in (Some (Answered a)) = ap answer_in (sym e ∙ h) in cc
 
-turned_stays : (s : Scene) (w : ℕ) (p : Posted) (x : Stage) (a : Result alone.Ended Fault) → First a s.begun → top s w ≡ Some (Goes p) → First a (with_top (but_top s.begun w) w x)
+turned_stays : (s : Scene) (w : ℕ) (p : FrameView) (x : Stage) (a : Result alone.Ended Fault) → First a s.begun → top s w ≡ Some (Goes p) → First a (with_top (but_top s.begun w) w x)
 turned_stays s zero p x a h at =
     let l : List Stage = of_worker s.begun 0 in
     let lt = there s.begun 0 (Goes p) at in

@@ -13,8 +13,8 @@ use Rattle.cw_strand.specs.Holds.{its_job, outs}
 use Rattle.cw_sched.specs.core.Board.{newest}
 use Rattle.cw_sched.specs.declared.post.Out.{Out}
 use Rattle.cw_sched.specs.Boards.{Each}
-use Rattle.cw_sched.specs.Scenes.{Posted, Stage, Goes, Made, Answered}
-use Rattle.cw_sched.specs.Posts.{Stays, Comes}
+use Rattle.cw_sched.specs.Scenes.{FrameView, Stage, Goes, Made, Answered}
+use Rattle.cw_sched.specs.WorkerFrames.{Stays, Comes}
 use Rattle.cw_sched.specs.Sound.{IsJobOf, IsOwn, out_number, Works, IsMade, HasRoot}
 use Rattle.cw_sched.specs.Events.{ComesTo, IsBegun}
 use Rattle.cw_sched.proofs.Lists.{named, head_or, tail_of, IsCons, IsSomeOf, as_many, length_reverse, newest_pushed}
@@ -27,7 +27,7 @@ pub same_job : (jobs : List Job) (n m : ℕ) (a b : Job) → n ≡ m → IsJobOf
 same_job jobs n m a b e ha hb = same_Some a b (sym ha ∙ (ap (slice_get jobs) e ∙ hb))
 
 -- the newest job out of a strand, and the others
-pub record Newest (jobs : List Job) (p : Posted) (older : List Out) (o : Out) : Type 0 where
+pub record Newest (jobs : List Job) (p : FrameView) (older : List Out) (o : Out) : Type 0 where
   pub job : Job
   pub others : List Job
   pub is : outs p.strand ≡ job ∷ others
@@ -41,7 +41,7 @@ newest_of : (jobs : List Job) (older : List Out) (o : Out) (js : List Job) → s
 newest_of jobs older o [] e = absurd (subst IsCons e tt)
 newest_of jobs older o (j ∷ js) e = (j, js, refl, ap (head_or None) e, ap tail_of e)
 
-pub newest_out_of : (jobs : List Job) (p : Posted) (older : List Out) (o : Out) → Works jobs p → p.outs ≡ older ++ o ∷ [] → Newest jobs p older o
+pub newest_out_of : (jobs : List Job) (p : FrameView) (older : List Out) (o : Out) → Works jobs p → p.outs ≡ older ++ o ∷ [] → Newest jobs p older o
 newest_out_of jobs p older o w e =
     let f : Out → Option Job = λ x. slice_get jobs (out_number x) in
     let lent : f o ∷ jobs_at jobs older ≡ named (outs p.strand) = ap (map f) (sym (ap reverse e ∙ reverse_pushed older o)) ∙ w.lent in
@@ -53,7 +53,7 @@ pub is_even : (jobs : List Job) (os : List Out) (js : List Job) → jobs_at jobs
 is_even jobs os js e = sym (length_reverse os) ∙ as_many (λ x. slice_get jobs (out_number x)) (reverse os) js e
 
 -- a strand goes on with these jobs out, of which these are the numbers; or it has ended, and none is out
-pub works_stays : (jobs : List Job) (old new : Posted) (list : List Out) (left : List Job) → Stays old new list left
+pub works_stays : (jobs : List Job) (old new : FrameView) (list : List Out) (left : List Job) → Stays old new list left
     → IsJobOf jobs old.number (its_job old.strand) → jobs_at jobs list ≡ named left → Each (IsOwn jobs) list → Works jobs new
 works_stays jobs old new list left s n lent own =
     record {
@@ -64,11 +64,11 @@ works_stays jobs old new list left s n lent own =
       stands = s.stands;
     }
 
-pub comes_stays : (v : Verified) (jobs : List Job) (old new : Posted) (list : List Out) (left : List Job) → Stays old new list left
+pub comes_stays : (v : Verified) (jobs : List Job) (old new : FrameView) (list : List Out) (left : List Job) → Stays old new list left
     → IsJobOf jobs old.number (its_job old.strand) → jobs_at jobs list ≡ named left → Each (IsOwn jobs) list → ComesTo v jobs old list (Goes new)
 comes_stays v jobs old new list left s n lent own = ((s.numbered, s.of, s.outs_are), works_stays jobs old new list left s n lent own)
 
-pub ended_stage : (v : Verified) (jobs : List Job) (old new : Posted) (e : Effect) (x : Stage) → IsJobOf jobs old.number (its_job old.strand)
+pub ended_stage : (v : Verified) (jobs : List Job) (old new : FrameView) (e : Effect) (x : Stage) → IsJobOf jobs old.number (its_job old.strand)
     → new.number ≡ old.number → IsMeaningOf (its_job old.strand) e → old.outs ≡ [] → IsBegun v new (Some e) x → ComesTo v jobs old old.outs x
 ended_stage v jobs old new e (Goes q) h same means none b = absurd b
 ended_stage v jobs old new e (Made n d) h same means none b =
@@ -84,7 +84,7 @@ ended_stage v jobs old new e (Answered r) h same means none b = (
 )
 
 -- what it comes to is laid down
-pub comes_to : (v : Verified) (jobs : List Job) (old new : Posted) (ended : Option Effect) (left : List Job) (x : Stage) → Comes ended old new left
+pub comes_to : (v : Verified) (jobs : List Job) (old new : FrameView) (ended : Option Effect) (left : List Job) (x : Stage) → Comes ended old new left
     → IsJobOf jobs old.number (its_job old.strand) → jobs_at jobs old.outs ≡ named left → Each (IsOwn jobs) old.outs → IsBegun v new ended x → ComesTo v jobs old old.outs x
 comes_to v jobs old new None left x s n lent own b =
     subst (λ y. ComesTo v jobs old old.outs y) (sym b) (comes_stays v jobs old new old.outs left s n lent own)
@@ -103,13 +103,13 @@ whole v jobs n job e r h means z =
       means = subst (λ j. IsMeaningOf j e) (same_job jobs n 0 job r.root z h r.named) means;
     }
 
-pub comes_whole : (v : Verified) (jobs : List Job) (old new : Posted) (ended : Option Effect) (left : List Job) → HasRoot v jobs → Comes ended old new left
+pub comes_whole : (v : Verified) (jobs : List Job) (old new : FrameView) (ended : Option Effect) (left : List Job) → HasRoot v jobs → Comes ended old new left
     → IsJobOf jobs old.number (its_job old.strand) → new.number ≡ 0 → IfSome ended (λ e. ∥ IsOfWhole v e ∥₁)
 comes_whole v jobs old new None left r s h z = tt
 comes_whole v jobs old new (Some e) left r s h z = ∣ whole v jobs old.number (its_job old.strand) e r h s.1 (sym s.0 ∙ z) ∣₁
 
 -- another entry of the same number stands for the same job
-pub works_other : (jobs : List Job) (p : Posted) (older : List Out) (o o' : Out) → Works jobs p → p.outs ≡ older ++ o ∷ [] → out_number o' ≡ out_number o → IsOwn jobs o'
+pub works_other : (jobs : List Job) (p : FrameView) (older : List Out) (o o' : Out) → Works jobs p → p.outs ≡ older ++ o ∷ [] → out_number o' ≡ out_number o → IsOwn jobs o'
     → Works jobs (record { number = p.number; strand = p.strand; at_join = p.at_join; outs = older ++ o' ∷ [] })
 works_other jobs p older o o' w e same own =
     let n = newest_out_of jobs p older o w e in

@@ -7,7 +7,7 @@ use Rattle.cw_sched.specs.core.Board.{pushed, newest, but_newest, of_worker}
 use Rattle.cw_text.specs.declared.fault.Fault.{Fault}
 use Rattle.cw_jobs.specs.declared.effect.Effect.{Effect}
 use Rattle.cw_machine.specs.declared.alone.Ended as alone
-use Rattle.cw_sched.specs.declared.post.Post.{Post}
+use Rattle.cw_sched.specs.declared.post.WorkerFrame.{WorkerFrame}
 use Rattle.cw_sched.specs.declared.world.Begun.{Begun}
 use Rattle.cw_sched.specs.declared.world.Begun.TheVariants as begun
 use Rattle.cw_sched.specs.declared.post.Out.{Out}
@@ -98,7 +98,7 @@ made_never x n e h is = let bad : true ≡ false = sym h ∙ ap (λ y. goes (Som
 pub answered_never : (x : Begun) (r : Result alone.Ended Fault) → goes (Some (stage_of x)) ≡ true → x ≡ begun.Answered r → ⊥
 answered_never x r h is = let bad : true ≡ false = sym h ∙ ap (λ y. goes (Some (stage_of y))) is in cc
 
-pub goes_never : (x : Begun) (p : Post) → has_made (Some (stage_of x)) ≡ true → x ≡ begun.Goes p → ⊥
+pub goes_never : (x : Begun) (p : WorkerFrame) → has_made (Some (stage_of x)) ≡ true → x ≡ begun.Goes p → ⊥
 goes_never x p h is = let bad : true ≡ false = sym h ∙ ap (λ y. has_made (Some (stage_of y))) is in cc
 
 pub told_never : (x : Begun) (r : Result alone.Ended Fault) → has_made (Some (stage_of x)) ≡ true → x ≡ begun.Answered r → ⊥

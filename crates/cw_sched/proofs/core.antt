@@ -1,5 +1,5 @@
 -- The laws of the scheduler's core.
-pub mod Walks
+pub mod Executions
 pub mod Tally
 pub mod Events
 pub mod Ample

@@ -23,13 +23,13 @@ use Rattle.cw_sched.specs.declared.event.Event.{Event}
 use Rattle.cw_sched.specs.declared.event.Event.TheVariants as event
 use Rattle.cw_sched.specs.declared.post.Out.{Out}
 use Rattle.cw_sched.specs.declared.post.Out.TheVariants as out
-use Rattle.cw_sched.specs.declared.post.Post.{Post}
+use Rattle.cw_sched.specs.declared.post.WorkerFrame.{WorkerFrame}
 use Rattle.cw_sched.specs.declared.world.Begun.{Begun}
 use Rattle.cw_sched.specs.Boards.{Boarded, offered, retaken, stolen, settled, collected, cell_of, newest_number}
 use Rattle.cw_sched.specs.Boards.{IsCellAt}
 use Rattle.cw_sched.specs.Exceeding.{Exceeds}
 use Rattle.cw_sched.specs.Lacking.{lacks_memory, HasEnded}
-use Rattle.cw_sched.specs.Scenes.{posted, stacks, Posted, Stage, Goes, Made, Answered, Scene, top}
+use Rattle.cw_sched.specs.Scenes.{posted, stacks, FrameView, Stage, Goes, Made, Answered, Scene, top}
 use Rattle.cw_sched.specs.Sound.{IsStage}
 
 -- the newest entry of a worker is popped, and another one pushed
@@ -46,24 +46,24 @@ turned s w x board =
 
 -- a strand of the same job goes on, with these jobs out; or it has ended, and none was out: the root, which has number
 -- 0, with the answer of the run, another one with its effect
-abbrev pub GoesOn : Posted → (outs : List Out) → Stage → Type 0
+abbrev pub GoesOn : FrameView → (outs : List Out) → Stage → Type 0
 GoesOn p outs (Goes q) =
     (q.number ≡ p.number) × (its_job q.strand ≡ its_job p.strand) × (q.outs ≡ outs)
 GoesOn p outs (Made n e) = (n ≡ p.number) × (p.number ≢ 0) × (outs ≡ [])
 GoesOn p outs (Answered r) = (p.number ≡ 0) × (outs ≡ [])
 
 -- and the new stage is right for these jobs
-abbrev pub ComesTo : Verified → List Job → Posted → (outs : List Out) → Stage → Type 0
+abbrev pub ComesTo : Verified → List Job → FrameView → (outs : List Out) → Stage → Type 0
 ComesTo v jobs p outs x = GoesOn p outs x × IsStage v jobs x
 
 -- w's newest strand
-pub record AtPost (s : Scene) (w : ℕ) : Type 0 where
-  pub post : Posted
+pub record AtFrame (s : Scene) (w : ℕ) : Type 0 where
+  pub post : FrameView
   pub is : top s w ≡ Some (Goes post)
 
 -- w's newest strand has this newest job out
 pub record AtOut (s : Scene) (w : ℕ) : Type 0 where
-  pub at : AtPost s w
+  pub at : AtFrame s w
   pub older : List Out
   pub newest : Out
   pub are : at.post.outs ≡ pushed older newest
@@ -76,13 +76,13 @@ Counts job (Made k e) n = CountsIn e n
 Counts job (Answered r) n = (e : Effect) × IsMeaningOf job e × IsAnswerOf e r × CountsIn e n
 
 -- a strand goes on, and its limit leaves it an instruction
-abbrev pub IsBelowLimit : (old : Posted) → Type 0
+abbrev pub IsBelowLimit : (old : FrameView) → Type 0
 IsBelowLimit p = IsGoing p.strand × (p.strand.count < its_end p.strand)
 
 -- RUN: one instruction, by which a strand goes on or ends, or none if its limit leaves none. It exceeds its limit only if
 -- the limit leaves none, and lacks memory only if the limit leaves one
 pub record Runs (v : Verified) (s s' : Scene) (w : ℕ) : Type 0 where
-  pub at : AtPost s w
+  pub at : AtFrame s w
   pub stage : Stage
   pub comes : ComesTo v s.jobs at.post at.post.outs stage
   pub one : Counts (its_job at.post.strand) stage (at.post.strand.count + 1)
@@ -94,9 +94,9 @@ pub record Runs (v : Verified) (s s' : Scene) (w : ℕ) : Type 0 where
 
 -- or a spawn, whose continuation gets the next number
 pub record Spawns (v : Verified) (s s' : Scene) (w : ℕ) : Type 0 where
-  pub at : AtPost s w
+  pub at : AtFrame s w
   pub job : Job
-  pub post : Posted
+  pub post : FrameView
   pub comes : ComesTo v (pushed s.jobs job) at.post
       (pushed at.post.outs (out.Undecided (length s.jobs) job)) (Goes post)
   pub goes : IsGoing post.strand
@@ -108,7 +108,7 @@ pub record Spawns (v : Verified) (s s' : Scene) (w : ℕ) : Type 0 where
   }
 
 -- the same strand with other jobs in its list
-abbrev pub with_outs : Posted → List Out → Stage
+abbrev pub with_outs : FrameView → List Out → Stage
 with_outs p outs =
     Goes (record { number = p.number; strand = p.strand; at_join = p.at_join; outs = outs })
 
@@ -166,7 +166,7 @@ pub record Steals (v : Verified) (s s' : Scene) (w victim : ℕ) : Type 0 where
   pub offer : Offer
   pub oldest_is : oldest (of_worker s.board.offers victim) ≡ Some offer
   pub stage : Stage
-  pub post : Posted
+  pub post : FrameView
   pub begins : (post.number ≡ offer.number) × (its_job post.strand ≡ offer.job) × (post.outs ≡ [])
   pub comes : ComesTo v s.jobs post [] stage
   pub none : Counts (its_job post.strand) stage 0
@@ -229,7 +229,7 @@ HasRoomIn begun w =
     (v : Vec Begun) × (slice_get begun.items w ≡ Some v) × (vec_len v < vec_capacity v)
 
 -- a post that goes on, or the effect by which it ended; for the root, the answer of the run
-abbrev pub IsBegun : Verified → Posted → Option Effect → Stage → Type 0
+abbrev pub IsBegun : Verified → FrameView → Option Effect → Stage → Type 0
 IsBegun v p None x = x ≡ Goes p
 IsBegun v p (Some e) (Goes q) = ⊥
 IsBegun v p (Some e) (Made n d) = (n ≡ p.number) × (p.number ≢ 0) × (d ≡ e)
@@ -240,13 +240,13 @@ IsBegun v p (Some e) (Answered r) =
     → IsRoot v args n burden root.parts.value → IsMeaningOf root e → RunsAsCode (code_view v.code) args n burden r)
 
 -- it is pushed to the list of a worker
-pub record Turns (v : Verified) (p : Posted) (ended : Option Effect) (old : List (List Stage))
+pub record Turns (v : Verified) (p : FrameView) (ended : Option Effect) (old : List (List Stage))
     (w : ℕ) (new : List (List Stage)) : Type 0 where
   pub stage : Stage
   pub begun : IsBegun v p ended stage
   pub is : new ≡ with_top old w stage
 
 -- a post, or the effect by which it ended, was pushed to the list of a worker
-abbrev pub HasTurned : Verified → Post → Option Effect → (old : Vec (Vec Begun)) → (w : ℕ)
+abbrev pub HasTurned : Verified → WorkerFrame → Option Effect → (old : Vec (Vec Begun)) → (w : ℕ)
     → (new : Vec (Vec Begun)) → Type 0
 HasTurned v p ended old w new = Turns v (posted p) ended (stacks old) w (stacks new)

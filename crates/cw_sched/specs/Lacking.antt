@@ -12,7 +12,7 @@ use Rattle.cw_sched.specs.declared.board.Cell.{Cell}
 use Rattle.cw_sched.specs.declared.event.Event.{Event}
 use Rattle.cw_sched.specs.declared.event.Event.TheVariants as event
 use Rattle.cw_sched.specs.Boards.{Each}
-use Rattle.cw_sched.specs.Scenes.{Posted, Stage, Goes, Made, Answered, Scene, top}
+use Rattle.cw_sched.specs.Scenes.{FrameView, Stage, Goes, Made, Answered, Scene, top}
 
 -- an effect says that memory was lacking, or that its job was given up; a run answers so
 abbrev pub is_memory : Effect → Bool
@@ -54,7 +54,7 @@ LacksAfter (Some e) self = IsAnsweredMemory e
 
 -- the newest entry of a worker, which was a strand, lacks memory now
 pub record Loses (s s' : Scene) (w : ℕ) : Type 0 where
-  pub post : Posted
+  pub post : FrameView
   pub was : top s w ≡ Some (Goes post)
   pub stage : Stage
   pub is : top s' w ≡ Some stage

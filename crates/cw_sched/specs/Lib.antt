@@ -2,7 +2,7 @@ pub mod core
 pub mod Boards
 pub mod Scenes
 pub mod Table
-pub mod Posts
+pub mod WorkerFrames
 pub mod Sound
 pub mod Places
 pub mod Lacking

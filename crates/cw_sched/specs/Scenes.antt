@@ -11,14 +11,14 @@ use Rattle.cw_strand.specs.declared.strand.Strand.{Strand}
 use Rattle.cw_sched.specs.core.Board.{of_worker, newest}
 use Rattle.cw_sched.specs.Boards.{Boarded, boarded}
 use Rattle.cw_sched.specs.declared.post.Out.{Out}
-use Rattle.cw_sched.specs.declared.post.Post.{Post}
+use Rattle.cw_sched.specs.declared.post.WorkerFrame.{WorkerFrame}
 use Rattle.cw_sched.specs.declared.world.Begun.{Begun}
 use Rattle.cw_sched.specs.declared.world.Begun.TheVariants as begun
 use Rattle.cw_sched.specs.declared.world.World.{World}
 
 -- a strand that has not ended: the number of its job, whether it is at a join, and the jobs that it
 -- has out, the newest last
-pub record Posted : Type 0 where
+pub record FrameView : Type 0 where
   pub number : ℕ
   pub strand : Strand
   pub at_join : Bool
@@ -27,7 +27,7 @@ pub record Posted : Type 0 where
 -- what a worker has begun and not settled: a strand that has not ended; a stolen job that has, with its effect; or the
 -- root, with the answer of the run
 pub data Stage : Type 0 where
-  Goes : Posted → Stage
+  Goes : FrameView → Stage
   Made : (number : ℕ) → Effect → Stage
   Answered : Result alone.Ended Fault → Stage
 
@@ -37,7 +37,7 @@ pub record Scene : Type 0 where
   pub begun : List (List Stage)
   pub board : Boarded
 
-abbrev pub posted : Post → Posted
+abbrev pub posted : WorkerFrame → FrameView
 posted p = record { number = p.number; strand = p.strand; at_join = p.at_join; outs = p.outs.items }
 
 abbrev pub stage_of : Begun → Stage

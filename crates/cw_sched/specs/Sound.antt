@@ -16,8 +16,8 @@ use Rattle.cw_sched.specs.declared.board.Cell.{Cell}
 use Rattle.cw_sched.specs.declared.post.Out.{Out}
 use Rattle.cw_sched.specs.declared.post.Out.TheVariants as out
 use Rattle.cw_sched.specs.Boards.{Each}
-use Rattle.cw_sched.specs.Posts.{AgreesWithJoin}
-use Rattle.cw_sched.specs.Scenes.{Posted, Stage, Goes, Made, Answered, Scene}
+use Rattle.cw_sched.specs.WorkerFrames.{AgreesWithJoin}
+use Rattle.cw_sched.specs.Scenes.{FrameView, Stage, Goes, Made, Answered, Scene}
 
 -- this is the job of the number
 abbrev pub IsJobOf : List Job → (n : ℕ) → Job → Type 0
@@ -35,7 +35,7 @@ IsOwn jobs (out.Kept n job) = IsJobOf jobs n job
 IsOwn jobs (out.Offered n) = Unit {0}
 
 -- A STRAND OF THE JOB OF ITS NUMBER, WITH THE NUMBERS OF EXACTLY THE JOBS THAT IT HAS OUT
-pub record Works (jobs : List Job) (p : Posted) : Type 0 where
+pub record Works (jobs : List Job) (p : FrameView) : Type 0 where
   pub running : IsRunning p.strand
   pub named : IsJobOf jobs p.number (its_job p.strand)
   pub lent : map (λ o. slice_get jobs (out_number o)) (reverse p.outs)

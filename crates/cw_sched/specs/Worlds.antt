@@ -18,7 +18,7 @@ use Rattle.cw_sched.specs.declared.event.Refused.TheVariants as refused
 use Rattle.cw_sched.specs.declared.world.World.{World}
 use Rattle.cw_model.specs.declared.limits.TheConstants.{MOST_WORKERS}
 use Rattle.cw_sched.specs.Boards.{opened}
-use Rattle.cw_sched.specs.Scenes.{Posted, Stage, Goes, Answered, Scene, scene}
+use Rattle.cw_sched.specs.Scenes.{FrameView, Stage, Goes, Answered, Scene, scene}
 use Rattle.cw_sched.specs.Sound.{Sound, IsRunOf}
 use Rattle.cw_sched.specs.Places.{OnePlace, RootIsFirst}
 use Rattle.cw_sched.specs.Events.{Does, DoesOr}
@@ -70,7 +70,7 @@ idle others = replicate others []
 pub record IsStarted (v : Verified) (args : List ℤ) (n : ℕ) (burden : Burden) (workers : ℕ)
     (w : World) : Type 0 where
   pub is : IsWorldOf v args n burden w
-  pub post : Posted
+  pub post : FrameView
   pub root : (post.number ≡ 0) × (post.outs ≡ [])
   pub goes : IsGoing post.strand
   pub none : post.strand.count ≡ 0

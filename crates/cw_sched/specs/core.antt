@@ -4,4 +4,4 @@ pub mod Ledger
 pub mod Table
 pub mod Laws
 pub mod TakeBack
-pub mod Walks
+pub mod Executions

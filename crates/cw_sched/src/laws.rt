@@ -3,26 +3,26 @@
 ghost use Rattle.cw_sched.specs.core.Laws.{EachInOnePlace, EffectsMeanTheirJobs, EventsAreSteps, JobsAreSingle, NoneIsUnfitHere, OutcomesAreSerial, OutcomesStay, RunsCome};
 ghost use Rattle.cw_sched.specs.core.Ledger.{LedgersAreLists};
 ghost use Rattle.cw_sched.specs.core.TakeBack.{JoinsAlike, RunsAlike};
-ghost use Rattle.cw_sched.specs.core.Walks.{EachEvent, FailingWalks, InlinedWalk, StolenWalk};
+ghost use Rattle.cw_sched.specs.core.Executions.{EachEvent, FailingExecutions, InlinedExecution, StolenExecution};
 
 /// States that code that prints 1, 2 and 3 gives its serial answer if one worker keeps each continuation and takes it back.
 pub fn printing_inlined_is_serial()
-    ensures { InlinedWalk }
+    ensures { InlinedExecution }
 {}
 
 /// States that the code that prints 1, 2 and 3 gives its serial answer if each of two workers steals the continuation that the
 /// other one offers.
 pub fn printing_stolen_is_serial()
-    ensures { StolenWalk }
+    ensures { StolenExecution }
 {}
 
 /// States that code whose spawned call traps gives its serial answer, whether the continuation is skipped or dropped.
 pub fn failing_is_serial()
-    ensures { FailingWalks }
+    ensures { FailingExecutions }
 {}
 
 /// States, for each event, a case in which the table says that it is possible and one in which it is not.
-#[tactic(auto, using(crate::proofs::core::Walks::each_event))]
+#[tactic(auto, using(crate::proofs::core::Executions::each_event))]
 pub fn each_event_is_possible_by_the_table()
     ensures { EachEvent }
 {}

@@ -12,7 +12,7 @@ ghost use Rattle.cw_sched.specs.Scenes.{jobs_of, posted};
 ghost use Rattle.cw_sched.specs.Boards.{IsFull};
 ghost use Rattle.cw_sched.specs.Exceeding.{ExceedsAfter};
 ghost use Rattle.cw_sched.specs.Lacking.{LacksAfter};
-ghost use Rattle.cw_sched.specs.Posts.{Begins, Comes, ComesBack, HasDone, HasDoneWith, HasRoom, HasStepped, IsBackIn, IsEven, Lacks, LacksOne, ListsNext, AgreesWithJoin};
+ghost use Rattle.cw_sched.specs.WorkerFrames.{Begins, Comes, ComesBack, HasDone, HasDoneWith, HasRoom, HasStepped, IsBackIn, IsEven, Lacks, LacksOne, ListsNext, AgreesWithJoin};
 
 use cw_jobs::effect::Effect;
 use cw_jobs::job::Job;
@@ -33,7 +33,7 @@ pub enum Out {
 
 /// A strand that has not ended, and the jobs that it has out, the newest last.
 #[derive(Drop)]
-pub struct Post {
+pub struct WorkerFrame {
     /// The number of its job.
     pub(crate) number: usize,
     pub(crate) strand: Strand,
@@ -59,13 +59,13 @@ fn unrun(strand: &mut Strand, rest: Job)
     }
 }
 
-impl Post {
+impl WorkerFrame {
     /// Begins a job. If memory runs out, the error returns the job, unchanged.
-    pub(crate) fn start(alloc: Global, number: usize, job: Job) -> Result<Post, Job>
+    pub(crate) fn start(alloc: Global, number: usize, job: Job) -> Result<WorkerFrame, Job>
         ensures { MatchResult result (Begins number job) (λ back. back ≡ job) }
     {
         match Strand::start(alloc, job) {
-            Ok(strand) => Ok(Post {
+            Ok(strand) => Ok(WorkerFrame {
                 number,
                 strand,
                 at_join: false,

@@ -11,7 +11,7 @@ ghost use Rattle.cw_sched.specs.Scenes.{jobs_of, top, posted, scene, stacks, sta
 ghost use Rattle.cw_sched.specs.declared.post.Out.TheVariants as out;
 ghost use Rattle.cw_sched.specs.Boards.{boarded, cell_of};
 ghost use Rattle.cw_text.specs.declared.fault.Fault.TheVariants as fault;
-ghost use Rattle.cw_sched.specs.Posts.{Begins};
+ghost use Rattle.cw_sched.specs.WorkerFrames.{Begins};
 ghost use Rattle.cw_sched.specs.Sound.{KeepsRuns, Sound};
 ghost use Rattle.cw_sched.specs.Worlds.{answer_in, answer_of, has_ended, idle, AnswersAsCode, IsSound, Starts};
 ghost use Rattle.cw_sched.specs.Worlds.{Happens, HasHappened, IsForMemory, IsNotNow, KeepsAnswer};
@@ -20,12 +20,12 @@ ghost use Rattle.cw_sched.specs.Table as table;
 ghost use Rattle.cw_sched.specs.Table.{is_possible};
 ghost use Rattle.cw_sched.specs.Events.{board_without, but_top, with_top, HasRoomIn, HasTurned, IsBack, IsBegun};
 ghost use Rattle.cw_sched.specs.Copied.{IsOptionCopy};
-ghost use Rattle.cw_sched.specs.MemoryNeeds.{IsLastPost, MayNeedMemory};
+ghost use Rattle.cw_sched.specs.MemoryNeeds.{IsLastFrame, MayNeedMemory};
 
 use crate::board::{Board, Offer};
 use crate::copy::copy_of;
 use crate::event::{Event, Refused};
-use crate::post::{Out, Post};
+use crate::post::{Out, WorkerFrame};
 use cw_jobs::effect::Effect;
 use cw_jobs::job::Job;
 use cw_machine::alone::Ended;
@@ -42,7 +42,7 @@ use std::sync::Arc;
 #[derive(Drop)]
 pub enum Begun {
     /// A strand that has not ended.
-    Goes(Post),
+    Goes(WorkerFrame),
     /// A stolen job that has ended, by its number, with its effect.
     Made(usize, Effect),
     /// The root has ended, with the answer of the run.
@@ -63,7 +63,7 @@ pub struct World {
 }
 
 // A post that goes on, or the effect by which it ended; for the root, the answer of the run.
-fn as_begun(alloc: Global, code: &Verified, post: Post, ended: Option<Effect>) -> Begun
+fn as_begun(alloc: Global, code: &Verified, post: WorkerFrame, ended: Option<Effect>) -> Begun
     requires { post.number ≡ 0 → IfSome ended (λ e. ∥ IsOfWhole code.now e ∥₁) }
     ensures { IsBegun code.now (posted post) ended (stage_of result) }
 {
@@ -80,10 +80,10 @@ fn as_begun(alloc: Global, code: &Verified, post: Post, ended: Option<Effect>) -
 }
 
 // Pops the newest strand of a worker, which has not ended.
-fn take(begun: &mut Vec<Vec<Begun>>, w: usize) -> Post
+fn take(begun: &mut Vec<Vec<Begun>>, w: usize) -> WorkerFrame
     requires { table.goes (newest (of_worker (stacks begun.old) w)) ≡ true }
     ensures top { newest (of_worker (stacks begun.old) w) ≡ Some (Goes (posted result)) }
-    ensures last { IsLastPost begun.old w result }
+    ensures last { IsLastFrame begun.old w result }
     ensures left { stacks begun.new ≡ but_top (stacks begun.old) w }
     ensures room { HasRoomIn begun.new w }
 {
@@ -108,7 +108,7 @@ fn turn(
     begun: &mut Vec<Vec<Begun>>,
     code: &Arc<Verified>,
     w: usize,
-    post: Post,
+    post: WorkerFrame,
     ended: Option<Effect>,
 )
     requires room { HasRoomIn begun.old w }
@@ -144,17 +144,17 @@ fn first_jobs(alloc: Global, root: &Job) -> Result<Vec<Snapshot<Job>>, AllocErro
 }
 
 // Begins the strand of the root.
-fn first_post(alloc: Global, root: Job) -> Result<Post, Fault>
+fn first_frame(alloc: Global, root: Job) -> Result<WorkerFrame, Fault>
     ensures { MatchResult result (Begins 0 root) (λ e. e ≡ fault.Memory) }
 {
-    match Post::start(alloc, 0, root) {
+    match WorkerFrame::start(alloc, 0, root) {
         Ok(post) => Ok(post),
         Err(_) => Err(Fault::Memory),
     }
 }
 
 // The lists of all workers: worker 0 has begun this post, the others are idle.
-fn first_begun(alloc: Global, workers: usize, post: Post) -> Result<Vec<Vec<Begun>>, AllocError>
+fn first_begun(alloc: Global, workers: usize, post: WorkerFrame) -> Result<Vec<Vec<Begun>>, AllocError>
     requires { 0 < workers }
     ensures { IfOk result (λ begun. stacks begun ≡ (Goes (posted post) ∷ []) ∷ idle (workers - 1)) }
 {
@@ -333,7 +333,7 @@ impl World {
         let code = Arc::try_clone(&root.parts.code)?;
         let jobs = first_jobs(alloc, &root)?;
         let board = Board::open(alloc, workers)?;
-        let post = first_post(alloc, root)?;
+        let post = first_frame(alloc, root)?;
         let begun = first_begun(alloc, workers, post)?;
         Ok(World {
             code,
@@ -478,7 +478,7 @@ impl World {
         ensures does { Happens self.old (event.Steal w v) result self.new }
     {
         let Offer { number, job } = self.board.steal(v);
-        match Post::start(*self.begun.allocator(), number, job) {
+        match WorkerFrame::start(*self.begun.allocator(), number, job) {
             Ok(mut post) => {
                 let ended = post.stand();
                 turn(&mut self.begun, &self.code, w, post, ended);

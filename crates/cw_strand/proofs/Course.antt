@@ -16,7 +16,7 @@ use Rattle.cw_code.specs.lemmas.First.{first_is}
 use Rattle.cw_runnable.specs.declared.verified.Verified.{Verified}
 use Rattle.cw_jobs.specs.declared.call.Parts.{Parts}
 use Rattle.cw_machine.specs.Arrays.{Out, IsFit}
-use Rattle.cw_machine.specs.Stretches.{calls_in, Setting, calls_round, GoesBy, Passes, Stretch, Here, Further}
+use Rattle.cw_machine.specs.Segments.{calls_in, Setting, calls_round, GoesBy, Passes, Segment, Here, Further}
 use Rattle.cw_machine.specs.lemmas.Rounds.{calls_caller}
 use Rattle.cw_strand.specs.declared.strand.Lent.{Lent}
 use Rattle.cw_strand.specs.Levels.{Level, levels_of}
@@ -135,7 +135,7 @@ module _ (code : Code) (keep : CallsKeep code) (job : Job) where
         }
         cases ComesBack e goes after = returned s1 s2 (count + 1) one.jobs_out after goes (went ComesBack e) one.are
 
-    pub stretched : (count later : ℕ) (s s1 : State) → Stretch k code (floor_in lent) stops count s later s1 → job.before + later ≤ job.limit → Led s count → Led s1 later
+    pub stretched : (count later : ℕ) (s s1 : State) → Segment k code (floor_in lent) stops count s later s1 → job.before + later ≤ job.limit → Led s count → Led s1 later
     stretched count _ s _ (Here _ _) le one = one
     stretched count _ s _ (Further _ later _ s1 s2 before pass) le one = one_on s1 s2 later pass le (stretched count later s s1 before (omega (arith, le)) one)
 

@@ -24,7 +24,7 @@ use Rattle.cw_jobs.specs.Jobs.{code_of}
 use Rattle.cw_jobs.specs.Means.{MeansIt, IsMeaningOf}
 use Rattle.cw_machine.specs.declared.machine.Machine.{Machine}
 use Rattle.cw_machine.specs.Arrays.{Out, IsFit, block}
-use Rattle.cw_machine.specs.Shows.{Remains}
+use Rattle.cw_machine.specs.RepresentsState.{Remains}
 use Rattle.cw_machine.specs.Unwinding.{RestsAreKept}
 use Rattle.cw_machine.specs.JobRuns.{IsAllHere, KeepsGiven, MayGiveUp, GivesUp}
 use Rattle.cw_strand.specs.declared.strand.Mode.TheVariants as mode

@@ -40,7 +40,7 @@ use Rattle.cw_jobs.specs.Means.{HasShown, Tracks, Counts, MeansIt, IsMeaningOf}
 use Rattle.cw_machine.specs.declared.run.Run.{Run}
 use Rattle.cw_machine.specs.Arrays.{IsFit}
 use Rattle.cw_machine.specs.Calls.{loans_of}
-use Rattle.cw_machine.specs.Shows.{Shows}
+use Rattle.cw_machine.specs.RepresentsState.{RepresentsState}
 use Rattle.cw_machine.specs.Gives.{IsGiving}
 use Rattle.cw_machine.specs.lemmas.Joins.{waits_under, went_under}
 use Rattle.cw_strand.specs.declared.strand.Mode.TheVariants as mode
@@ -185,9 +185,9 @@ module _ (self : Strand) (job : Job) (others : List Job) (newest : Newest self j
           let jb = g.job.before in
           omega (arith, le, n, c, jl, jb)
 
-      shows_now : Shows v (ok_with g sp.others) r.machine (under g.base now)
+      shows_now : RepresentsState v (ok_with g sp.others) r.machine (under g.base now)
       shows_now =
-          let given = subst (Shows v (ok_with g sp.others) joined.given)
+          let given = subst (RepresentsState v (ok_with g sp.others) joined.given)
           (went_under g.base h.state came.frame (reads self job others newest is j g h stay seats settles came.frame came.trace came.cost
           came.means back replaced came.holds came.empty came.homes came.fixed))
           (joined.gives v (ok_with g sp.others) sp.out (under g.base h.state) came.frame (waits_under g.base h.state) gives_it) in
@@ -227,7 +227,7 @@ module _ (self : Strand) (job : Job) (others : List Job) (newest : Newest self j
                 outs = sp.others;
                 lends = subst (Lends v is p g.base h.waited.others sp.others) (sym left) sp.rest;
                 shows = record {
-                  shows = subst (λ (x : Run). Shows v (ok_with g sp.others) x.machine (under g.base now)) (sym run_is) shows_now;
+                  shows = subst (λ (x : Run). RepresentsState v (ok_with g sp.others) x.machine (under g.base now)) (sym run_is) shows_now;
                   tells = subst (λ (x : Run). TracksAll code p.detail (origin_of p) (Going now new.count []) x.meter) (sym run_is)
                       (subst (λ k. TracksAll code p.detail (origin_of p) (Going now k []) r.meter) total tells_now);
                 };

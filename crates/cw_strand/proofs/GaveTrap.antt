@@ -19,7 +19,7 @@ use Rattle.cw_jobs.specs.Jobs.{extent_of}
 use Rattle.cw_jobs.specs.Means.{Tracks, IsMeaningOf}
 use Rattle.cw_machine.specs.declared.run.Run.{Run}
 use Rattle.cw_machine.specs.Arrays.{IsFit}
-use Rattle.cw_machine.specs.Shows.{Remains}
+use Rattle.cw_machine.specs.RepresentsState.{Remains}
 use Rattle.cw_machine.specs.Unwinding.{ShownRemain}
 use Rattle.cw_strand.specs.declared.strand.Mode.TheVariants as mode
 use Rattle.cw_strand.specs.declared.strand.Strand.{Strand}

@@ -26,7 +26,7 @@ use Rattle.cw_jobs.specs.Calls.{placed, HasArrays, HoldsFrame}
 use Rattle.cw_jobs.specs.Jobs.{IsJob, KeepsHomes, KeepsEmpty, KeepsFixed}
 use Rattle.cw_machine.specs.Arrays.{IsFit}
 use Rattle.cw_machine.specs.Calls.{loans_of}
-use Rattle.cw_machine.specs.Shows.{Comes, Shows, SharesFrozen}
+use Rattle.cw_machine.specs.RepresentsState.{Comes, RepresentsState, SharesFrozen}
 use Rattle.cw_machine.specs.Rests.{lending}
 use Rattle.cw_machine.specs.Gives.{went_on, ComesBut, AreTogether, IsGiving}
 use Rattle.cw_machine.specs.Hands.{ComesRound}
@@ -143,7 +143,7 @@ module _ (self : Strand) (job : Job) (others : List Job) (newest : Newest self j
   -- the frame that it reached at the join, by the definitions
   module _ (stay : RestsStayInside) (seats : (code : Code) (fits : Fits code) → SeatsLie code fits) (settles : FitSettles) (frame : JoinFrame)
       (t : Trace) (cost : ℕ) (means : JobMeaning code out (Joined frame t cost)) where
-    shown : Shows v (lending (ok_with g sp.others) sp.out) self.run.machine (under g.base s)
+    shown : RepresentsState v (lending (ok_with g sp.others) sp.out) self.run.machine (under g.base s)
     shown = (lends_it self job others newest is j g h).shows
 
     abbrev there : ComesThere code out frame t

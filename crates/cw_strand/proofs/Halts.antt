@@ -16,7 +16,7 @@ use Rattle.cw_jobs.specs.Jobs.{extent_of, code_of}
 use Rattle.cw_machine.specs.declared.run.Stop.{Stop}
 use Rattle.cw_machine.specs.declared.run.Stop.TheVariants as stop
 use Rattle.cw_machine.specs.Arrays.{IsFit}
-use Rattle.cw_machine.specs.Stretches.{calls_in}
+use Rattle.cw_machine.specs.Segments.{calls_in}
 use Rattle.cw_machine.specs.Unwinding.{ShownRemain}
 use Rattle.cw_machine.specs.lemmas.Rounds.{calls_caller}
 use Rattle.cw_strand.specs.declared.strand.Lent.{Lent}

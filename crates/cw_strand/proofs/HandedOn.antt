@@ -21,10 +21,10 @@ use Rattle.cw_machine.specs.declared.hands.Lender.{Lender}
 use Rattle.cw_machine.specs.declared.run.Spawn.{Spawn}
 use Rattle.cw_machine.specs.declared.run.Stop.TheVariants as stop
 use Rattle.cw_machine.specs.Arrays.{Out, IsFit}
-use Rattle.cw_machine.specs.Shows.{Comes}
+use Rattle.cw_machine.specs.RepresentsState.{Comes}
 use Rattle.cw_machine.specs.Unwinding.{OutsLieApart}
 use Rattle.cw_machine.specs.Calls.{loans_of}
-use Rattle.cw_machine.specs.Stretches.{calls_in}
+use Rattle.cw_machine.specs.Segments.{calls_in}
 use Rattle.cw_machine.specs.Hands.{ComesRound, out_of}
 use Rattle.cw_machine.specs.lemmas.Rounds.{calls_caller}
 use Rattle.cw_strand.specs.declared.strand.Lent.{Lent}

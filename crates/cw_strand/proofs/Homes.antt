@@ -18,7 +18,7 @@ use Rattle.cw_machine.specs.declared.machine.Machine.{Machine}
 use Rattle.cw_machine.specs.declared.run.Run.{Run}
 use Rattle.cw_machine.specs.Calls.{loans_of}
 use Rattle.cw_machine.specs.Arrays.{Out, IsFit}
-use Rattle.cw_machine.specs.Shows.{Remains}
+use Rattle.cw_machine.specs.RepresentsState.{Remains}
 use Rattle.cw_machine.specs.Unwinding.{LieBelow, ComesTo}
 use Rattle.cw_strand.specs.declared.strand.Lent.{Lent}
 use Rattle.cw_strand.specs.declared.strand.Mode.{Mode}

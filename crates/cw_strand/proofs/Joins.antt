@@ -34,7 +34,7 @@ use Rattle.cw_jobs.specs.Means.{HasShown, MeansIt, IsMeaningOf}
 use Rattle.cw_machine.specs.declared.run.Run.{Run}
 use Rattle.cw_machine.specs.declared.run.Stop.TheVariants as stop
 use Rattle.cw_machine.specs.Arrays.{IsFit}
-use Rattle.cw_machine.specs.Shows.{Shows}
+use Rattle.cw_machine.specs.RepresentsState.{RepresentsState}
 use Rattle.cw_machine.specs.JobRuns.{ok_of, job_ok, IsBase, HasCome as HasComeTo, CanEnd, EndsJob}
 use Rattle.cw_strand.specs.declared.strand.Lent.{Lent}
 use Rattle.cw_strand.specs.declared.strand.Strand.{Strand}
@@ -158,10 +158,10 @@ module _ (keep : (code : Code) → CallsKeep code) (self : Strand) (limit : ℕ)
     out_nil : c.outs ≡ []
     out_nil = no_lent v is p c.ground.base c.levels c.outs (subst (Lends v is p c.ground.base c.levels c.outs) (bare self p s.around c.jobs_out c.levels c.are alone).2 c.lends)
 
-    shows_job : Shows v (job_ok v is j p.rest c.ground.base base) self.run.machine (under c.ground.base s)
+    shows_job : RepresentsState v (job_ok v is j p.rest c.ground.base base) self.run.machine (under c.ground.base s)
     shows_job =
-        subst (λ n. Shows v (ok_of v is n (length j.arrays) p.rest.slices.items (length c.ground.base.around)) self.run.machine (under c.ground.base s)) (c.ground.joins joins).1
-        (subst (λ o. Shows v (ok_with c.ground o) self.run.machine (under c.ground.base s)) out_nil c.at.1.shows.shows)
+        subst (λ n. RepresentsState v (ok_of v is n (length j.arrays) p.rest.slices.items (length c.ground.base.around)) self.run.machine (under c.ground.base s)) (c.ground.joins joins).1
+        (subst (λ o. RepresentsState v (ok_with c.ground o) self.run.machine (under c.ground.base s)) out_nil c.at.1.shows.shows)
 
     -- the function of the strand's call is the function of the job
     one_func : shows_job.good.seat.func ≡ base.good.seat.func

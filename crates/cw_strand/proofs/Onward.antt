@@ -13,8 +13,8 @@ use Rattle.cw_machine.specs.declared.run.Run.{Run}
 use Rattle.cw_machine.specs.declared.run.Stop.{Stop}
 use Rattle.cw_machine.specs.declared.run.Stop.TheVariants as stop
 use Rattle.cw_machine.specs.Arrays.{Out, IsFit}
-use Rattle.cw_machine.specs.Shows.{SharesFrozen}
-use Rattle.cw_machine.specs.Stretches.{MayRun, IsUnderWay, StopsAt, GoesOn}
+use Rattle.cw_machine.specs.RepresentsState.{SharesFrozen}
+use Rattle.cw_machine.specs.Segments.{MayRun, IsUnderWay, StopsAt, GoesOn}
 use Rattle.cw_strand.specs.declared.strand.Strand.{Strand}
 use Rattle.cw_strand.specs.Levels.{Level, levels_of}
 use Rattle.cw_strand.specs.Holds.{its_parts, its_code, floor_of, Ground, setting_of, ok_with, Lends, AreOut, Ongoing}

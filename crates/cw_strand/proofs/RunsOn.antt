@@ -20,7 +20,7 @@ use Rattle.cw_machine.specs.declared.run.Spawn.{Spawn}
 use Rattle.cw_machine.specs.declared.run.Stop.{Stop}
 use Rattle.cw_machine.specs.declared.run.Stop.TheVariants as stop
 use Rattle.cw_machine.specs.Arrays.{Out, IsFit}
-use Rattle.cw_machine.specs.Stretches.{Setting, Stretch, Here, Further, MayRun, ShowsRun, StopsAt, IsUnderWay, GoesOn}
+use Rattle.cw_machine.specs.Segments.{Setting, Segment, Here, Further, MayRun, RepresentsRunState, StopsAt, IsUnderWay, GoesOn}
 use Rattle.cw_strand.specs.declared.strand.Lent.{Lent}
 use Rattle.cw_strand.specs.declared.strand.Mode.TheVariants as mode
 use Rattle.cw_strand.specs.declared.strand.Strand.{Strand}
@@ -130,7 +130,7 @@ waits_at self e going = differ (sym e ∙ going)
     differ k = cc
 
 -- instructions only increase the count
-stretch_low : (k : Setting) (code : Code) (floor : ℕ) (stops : Bool) (count later : ℕ) (s s1 : State) → Stretch k code floor stops count s later s1 → count ≤ later
+stretch_low : (k : Setting) (code : Code) (floor : ℕ) (stops : Bool) (count later : ℕ) (s s1 : State) → Segment k code floor stops count s later s1 → count ≤ later
 stretch_low k code floor stops count _ s _ (Here _ _) = omega arith
 stretch_low k code floor stops count _ s _ (Further _ later _ s1 s2 before p) = let le = stretch_low k code floor stops count later s s1 before in omega (arith, le)
 
@@ -155,7 +155,7 @@ decided stop.Over h = tt
 decided stop.NoMemory h = ∥∥₁_elim h ⊥_prop (λ x. x)
 
 -- a run that stopped at its place executes no instruction
-stretch_here : (k : Setting) (code : Code) (floor : ℕ) (stops : Bool) (count later : ℕ) (s s1 : State) → Stretch k code floor stops count s later s1 → later ≤ count → s1 ≡ s
+stretch_here : (k : Setting) (code : Code) (floor : ℕ) (stops : Bool) (count later : ℕ) (s s1 : State) → Segment k code floor stops count s later s1 → later ≤ count → s1 ≡ s
 stretch_here k code floor stops count _ s _ (Here _ _) le = refl
 stretch_here k code floor stops count _ s _ (Further _ later _ s1 s2 before p) le = let low = stretch_low k code floor stops count later s s1 before in absurd (omega (arith, low, le))
 
@@ -213,7 +213,7 @@ module _ (self : Strand) (r : Run) (done limit : ℕ) (stops : Bool) (to : Stop)
 -- a run that stopped without an instruction continues from its place
 goes_from : (self : Strand) (limit : ℕ) (to : Stop) → HasCome self limit to
     → ((is : IsFit (its_code self)) (j : jobs.Job) (c : CameTo self limit to is j)
-    → (self.count ≡ c.later) × ShowsRun (its_code self) (ok_with c.ground c.outs) (setting_of c.ground) self.count self.run c.state
+    → (self.count ≡ c.later) × RepresentsRunState (its_code self) (ok_with c.ground c.outs) (setting_of c.ground) self.count self.run c.state
     × MayRun (its_code self) (ok_with c.ground c.outs) (setting_of c.ground) (floor_of self) c.state)
     → IsRunning self
 goes_from self limit to h at = record {

@@ -21,9 +21,9 @@ use Rattle.cw_jobs.specs.declared.job.Job.{Job}
 use Rattle.cw_jobs.specs.Jobs.{extent_of, origin_of, code_of, IsOutermost, IsJob, IsSound}
 use Rattle.cw_machine.specs.declared.machine.Machine.{Machine}
 use Rattle.cw_machine.specs.Arrays.{IsFit}
-use Rattle.cw_machine.specs.Shows.{Shows, SharesFrozen}
+use Rattle.cw_machine.specs.RepresentsState.{RepresentsState, SharesFrozen}
 use Rattle.cw_machine.specs.JobRuns.{ok_of, HoldsOf, OnlyReads, IsEmptied}
-use Rattle.cw_machine.specs.Stretches.{nothing, IsBaseState}
+use Rattle.cw_machine.specs.Segments.{nothing, IsBaseState}
 use Rattle.cw_strand.specs.declared.strand.Mode.TheVariants as mode
 use Rattle.cw_strand.specs.declared.strand.Strand.{Strand}
 use Rattle.cw_strand.specs.Holds.{its_job, its_parts, its_code, Ground, ok_with, Lends, HeldIn, Holds, IsRunning}
@@ -37,7 +37,7 @@ nothing_flat = record { around = refl; results = refl; arrived = refl }
 -- the ground of a job, and its machine, which represents the job's first state there
 pub record Grounded (v : Verified) (is : IsFit v) (p : Parts) (j : jobs.Job) (m : Machine) : Type 0 where
   pub ground : Ground v is p j
-  pub shows : Shows v (ok_with ground []) m (under ground.base (job_start j))
+  pub shows : RepresentsState v (ok_with ground []) m (under ground.base (job_start j))
   pub frozen : SharesFrozen v (ok_with ground []) (under ground.base (job_start j))
 
 light_prop : (d : Detail) → IsProp (IsLight d)
@@ -74,9 +74,9 @@ grounded v is p j m job light h reads = at p.extent refl
             joins = λ e'. absurd (differ (sym e ∙ e'));
           };
           shows =
-              subst (λ s. Shows v (ok_of v is h.is_base.good.seat.func.array_params (length j.arrays) p.rest.slices.items 0) m s)
+              subst (λ s. RepresentsState v (ok_of v is h.is_base.good.seat.func.array_params (length j.arrays) p.rest.slices.items 0) m s)
               (under_flat h.base out h.is_base.begins (job_start j) ∙ sym (under_flat nothing nothing_flat refl (job_start j)))
-              (subst (λ l. Shows v (ok_of v is h.is_base.good.seat.func.array_params (length j.arrays) p.rest.slices.items (length l)) m (under h.base (job_start j))) out.around h.shows);
+              (subst (λ l. RepresentsState v (ok_of v is h.is_base.good.seat.func.array_params (length j.arrays) p.rest.slices.items (length l)) m (under h.base (job_start j))) out.around h.shows);
           -- a whole call has no share
           frozen = λ a lt some. absurd (let own = job.unshared (job.extent ∙ ap extent_of e) a in omega (arith, own, some));
         }

@@ -26,8 +26,8 @@ use Rattle.cw_jobs.specs.Totals.{greater, joined_total, kept, wrapped, AllFit, H
 use Rattle.cw_jobs.specs.lemmas.Totals.{sum_append}
 use Rattle.cw_machine.specs.declared.machine.Machine.{Machine}
 use Rattle.cw_machine.specs.Arrays.{Ok}
-use Rattle.cw_machine.specs.Shows.{Shows}
-use Rattle.cw_machine.specs.Stretches.{IsBaseState}
+use Rattle.cw_machine.specs.RepresentsState.{RepresentsState}
+use Rattle.cw_machine.specs.Segments.{IsBaseState}
 use Rattle.cw_strand.specs.Giving.{AreJoined, HasTaken}
 
 all_fit : (a b : List (Name × ℤ)) → AllFit a → AllFit b → AllFit (a ++ b)
@@ -76,8 +76,8 @@ good_with code fits s t g = record {
 }
 
 module _ (v : Verified) (ok : Ok v) (m m' : Machine) (lines : List ℤ) (totals : List Total) (taken : HasTaken m lines totals m') (s : State) (t : Trace) (more : List (Name × ℤ)) where
-  pub shows_taken : Shows v ok m s → HoldsTotals (code_view v.code) totals more → t.lines ≡ s.trace.lines ++ lines → t.updates ≡ s.trace.updates ++ more → Shows v ok m' (record s { trace = t })
-  shows_taken h told l a = subst (λ x. Shows v ok x (record s { trace = t })) (sym taken.rest) (record {
+  pub shows_taken : RepresentsState v ok m s → HoldsTotals (code_view v.code) totals more → t.lines ≡ s.trace.lines ++ lines → t.updates ≡ s.trace.updates ++ more → RepresentsState v ok m' (record s { trace = t })
+  shows_taken h told l a = subst (λ x. RepresentsState v ok x (record s { trace = t })) (sym taken.rest) (record {
     good = good_with (code_view v.code) ok.verified.fits s t h.good;
     holds = record {
       at = h.holds.at;
@@ -104,8 +104,8 @@ appended b s t = sym (append_assoc b s t) ∙ ap (λ z. (b ++ z) ++ t) (sym (app
 
 -- a block that continues from its join, with what the continuation has shown
 pub shows_joined : (v : Verified) (ok : Ok v) (m m' : Machine) (totals : List Total) (b s : State) (frame : JoinFrame) (t : Trace)
-    → HasTaken m t.lines totals m' → Shows v ok m (under b (resumed s frame quiet)) → HoldsTotals (code_view v.code) totals t.updates
-    → Shows v ok m' (under b (resumed s frame t))
+    → HasTaken m t.lines totals m' → RepresentsState v ok m (under b (resumed s frame quiet)) → HoldsTotals (code_view v.code) totals t.updates
+    → RepresentsState v ok m' (under b (resumed s frame t))
 shows_joined v ok m m' totals b s frame t taken h told =
     shows_taken v ok m m' t.lines totals taken (under b (resumed s frame quiet)) (trace_under b s.around (joined s.trace t)) t.updates h told
     (lines_under b s.around (joined s.trace t) ∙ appended b.trace.lines s.trace.lines t.lines ∙ ap (λ z. z ++ t.lines) (sym (lines_under b s.around (joined s.trace quiet))))
@@ -116,5 +116,5 @@ base_quiet : (x : Extent) (b : State) → IsBaseState x b → b.trace ≡ quiet
 base_quiet WholeCall b e = ap (λ (z : State). z.trace) e
 base_quiet ToJoin b e = e.0
 
-pub lines_shown : (v : Verified) (ok : Ok v) (m : Machine) (x : Extent) (b s : State) → IsBaseState x b → Shows v ok m (under b s) → m.lines.items ≡ s.trace.lines
+pub lines_shown : (v : Verified) (ok : Ok v) (m : Machine) (x : Extent) (b s : State) → IsBaseState x b → RepresentsState v ok m (under b s) → m.lines.items ≡ s.trace.lines
 lines_shown v ok m x b s round h = h.holds.shown ∙ lines_under b s.around s.trace ∙ ap (λ (u : Trace). u.lines ++ s.trace.lines) (base_quiet x b round)

@@ -17,7 +17,7 @@ use Rattle.cw_jobs.specs.Jobs.{code_of}
 use Rattle.cw_machine.specs.declared.machine.Machine.{Machine}
 use Rattle.cw_machine.specs.Calls.{loans_of}
 use Rattle.cw_machine.specs.Arrays.{Out, IsFit, AllAbove}
-use Rattle.cw_machine.specs.Shows.{Shows}
+use Rattle.cw_machine.specs.RepresentsState.{RepresentsState}
 use Rattle.cw_machine.specs.Rests.{IsLending, MayTake, TakesBack}
 use Rattle.cw_machine.specs.Unwinding.{LieBelow}
 use Rattle.cw_strand.specs.declared.strand.Lent.{Lent}
@@ -73,7 +73,7 @@ module _ (self : Strand) (job : Job) (others : List Job) (newest : Newest self j
     pub lends_it : IsLending v (ok_with g split.others) split.out self.run.machine (under g.base s) newest.lent.home.lender.slots
         (slots_lent (loans_of v newest.lent.home.lent)) job.parts.value.rest.slices.items
     lends_it = record {
-      shows = subst (λ o. Shows v (ok_with g o) self.run.machine (under g.base s)) split.are h.waited.runs.shows.shows;
+      shows = subst (λ o. RepresentsState v (ok_with g o) self.run.machine (under g.base s)) split.are h.waited.runs.shows.shows;
       above = above;
       level = split.is_lent.level ∙ ap (λ a. length (beneath g.base a)) (sym h.waited.back.around);
       slots_are = split.is_lent.slots;

@@ -11,8 +11,8 @@ use Rattle.cw_runnable.specs.declared.verified.Verified.{Verified}
 use Rattle.cw_jobs.specs.declared.call.Parts.{Parts}
 use Rattle.cw_machine.specs.declared.machine.Machine.{Machine}
 use Rattle.cw_machine.specs.Arrays.{Out, IsFit, Ok, AllAbove}
-use Rattle.cw_machine.specs.Shows.{Shows}
-use Rattle.cw_machine.specs.Stretches.{calls_in, IsFloor}
+use Rattle.cw_machine.specs.RepresentsState.{RepresentsState}
+use Rattle.cw_machine.specs.Segments.{calls_in, IsBaseFrame}
 use Rattle.cw_machine.specs.lemmas.Rounds.{calls_caller, frames_many, no_floor, round_many}
 use Rattle.cw_strand.specs.declared.strand.Lent.{Lent}
 use Rattle.cw_strand.specs.Levels.{Level, level_if, levels_of}
@@ -67,7 +67,7 @@ module _ (p : Parts) where
 
     -- the newest continuation determines the floor
     abbrev Floor : List Around → Type 0
-    Floor around = IsFloor base (suc (calls_in (beneath base l.around))) (suc (length (beneath base l.around))) around
+    Floor around = IsBaseFrame base (suc (calls_in (beneath base l.around))) (suc (length (beneath base l.around))) around
 
     caller_floor : (kind : CallKind) (w : Waiting) (around : List Around) → w.kind ≡ kind → ((jobs_out : List jobs.Job) → AreOut p (levels_of around) jobs_out (l ∷ levels) (x ∷ lent) → Floor around)
         → (jobs_out : List jobs.Job) → AreOut p (level_if kind (record { waiting = w; around = around }) (levels_of around)) jobs_out (l ∷ levels) (x ∷ lent) → Floor (Caller w ∷ around)
@@ -92,11 +92,11 @@ calls_block : (b : State) (o : _) (around : List Around) → calls_in (beneath b
 calls_block b o [] = refl
 calls_block b o (a ∷ around) = refl
 
-pub frames_are : (v : Verified) (ok : Ok v) (m : Machine) (s : State) → Shows v ok m s → length m.frames.items ≡ calls_in s.around
+pub frames_are : (v : Verified) (ok : Ok v) (m : Machine) (s : State) → RepresentsState v ok m s → length m.frames.items ≡ calls_in s.around
 frames_are v ok m s h = sym (length-reverse m.frames.items) ∙ frames_many v ok m.cells.items m.first (length s.slots) (reverse m.frames.items) s.around h.holds.round
 
 -- the number of calls that wait at the floor is at most the number that wait at the state
-floor_round : (base : State) (floor bottom : ℕ) (around : List Around) → IsFloor base floor bottom around → floor ≤ calls_in (beneath base around)
+floor_round : (base : State) (floor bottom : ℕ) (around : List Around) → IsBaseFrame base floor bottom around → floor ≤ calls_in (beneath base around)
 floor_round base floor bottom [] h = let e = h.0 in omega (arith, e)
 floor_round base floor bottom (Block o ∷ around) h = let le = floor_round base floor bottom around h in let e = calls_block base o around in omega (arith, le, e)
 floor_round base floor bottom (Caller w ∷ around) (inl h) = let e = h.waits in let n = calls_caller base w around in omega (arith, e, n)
@@ -128,7 +128,7 @@ lends_above v is p base (l ∷ levels) (o ∷ outs) (x ∷ lent) n u h = all_abo
 -- THE FLOOR OF A STRAND'S RUN; everything that is out belongs to calls that fewer blocks and calls enclose
 pub record HasFloor (base : State) (around : List Around) (outs : List Out) (lent : List Lent) : Type 0 where
   pub bottom : ℕ
-  pub ends : IsFloor base (floor_in lent) bottom around
+  pub ends : IsBaseFrame base (floor_in lent) bottom around
   pub above : AllAbove outs bottom
 
 pub floor_is : (v : Verified) (is : IsFit v) (p : Parts) (base : State) (around : List Around) (jobs_out : List jobs.Job) (levels : List Level)
@@ -140,7 +140,7 @@ floor_is v is p base around jobs_out (l ∷ levels) [] lent are h = absurd h
 floor_is v is p base around jobs_out (l ∷ levels) (o ∷ outs) [] are h = absurd h
 floor_is v is p base around jobs_out (l ∷ levels) (o ∷ outs) (x ∷ lent) are h = record {
   bottom = suc (length (beneath base l.around));
-  ends = subst (λ n. IsFloor base n (suc (length (beneath base l.around))) around) (sym h.0.floor) (floor_out p base l levels x lent around jobs_out are);
+  ends = subst (λ n. IsBaseFrame base n (suc (length (beneath base l.around))) around) (sym h.0.floor) (floor_out p base l levels x lent around jobs_out are);
   above = all_above o outs (suc (length (beneath base l.around)))
       (let level = h.0.level in omega (arith, level))
       (λ k o' e. (

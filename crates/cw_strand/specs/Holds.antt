@@ -22,13 +22,13 @@ use Rattle.cw_jobs.specs.declared.call.Parts.{Parts}
 use Rattle.cw_jobs.specs.declared.job.Job.{Job}
 use Rattle.cw_jobs.specs.Jobs.{extent_of, begins_at, origin_of, code_of, IsJob}
 use Rattle.cw_machine.specs.Arrays.{Out, IsFit, Ok}
-use Rattle.cw_machine.specs.Shows.{Remains, SharesFrozen}
+use Rattle.cw_machine.specs.RepresentsState.{Remains, SharesFrozen}
 use Rattle.cw_machine.specs.Hands.{ComesRound}
-use Rattle.cw_machine.specs.Shows.{Comes}
+use Rattle.cw_machine.specs.RepresentsState.{Comes}
 use Rattle.cw_machine.specs.Rests.{with_outs}
 use Rattle.cw_machine.specs.Unwinding.{LieBelow}
 use Rattle.cw_machine.specs.JobRuns.{ok_of, IsBase, IsEmptied}
-use Rattle.cw_machine.specs.Stretches.{calls_in, IsBaseState, Setting, ShowsRun}
+use Rattle.cw_machine.specs.Segments.{calls_in, IsBaseState, Setting, RepresentsRunState}
 use Rattle.cw_strand.specs.declared.strand.Lent.{Lent}
 use Rattle.cw_strand.specs.declared.strand.Mode.{Mode}
 use Rattle.cw_strand.specs.declared.strand.Mode.TheVariants as mode
@@ -161,7 +161,7 @@ pub record Runs (self : Strand) (is : IsFit (its_code self)) (j : jobs.Job)
   pub counts : count ≡ self.count
   pub outs : List Out
   pub lends : Lends (its_code self) is (its_parts self) g.base levels outs (reverse self.lent.items)
-  pub shows : ShowsRun (its_code self) (ok_with g outs) (setting_of g) self.count self.run s
+  pub shows : RepresentsRunState (its_code self) (ok_with g outs) (setting_of g) self.count self.run s
   -- the first call of the run only reads the arrays that its job has as shares
   pub frozen : SharesFrozen (its_code self) (ok_with g outs) (under g.base s)
 

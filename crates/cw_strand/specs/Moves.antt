@@ -26,11 +26,11 @@ use Rattle.cw_machine.specs.declared.hands.Lender.{Lender}
 use Rattle.cw_machine.specs.declared.machine.Machine.{Machine}
 use Rattle.cw_runnable.specs.declared.verified.Verified.{Verified}
 use Rattle.cw_machine.specs.Calls.{listed, loans_of}
-use Rattle.cw_machine.specs.Shows.{StaysBut}
+use Rattle.cw_machine.specs.RepresentsState.{StaysBut}
 use Rattle.cw_machine.specs.Hands.{HandsOut}
 use Rattle.cw_machine.specs.JobRuns.{BeginsJob, IsEmptied}
 use Rattle.cw_machine.specs.Unwinding.{HasReturnedSlices, MayReturnSlices}
-use Rattle.cw_machine.specs.Stretches.{StopsAt}
+use Rattle.cw_machine.specs.Segments.{StopsAt}
 use Rattle.cw_strand.specs.declared.strand.Advance.{Advance}
 use Rattle.cw_strand.specs.declared.strand.Advance.TheVariants as advance
 use Rattle.cw_strand.specs.declared.strand.End.{End}

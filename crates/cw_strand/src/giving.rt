@@ -58,7 +58,7 @@ fn put_in_front(first: &mut VecDeque<i64>, more: &mut VecDeque<i64>) -> Result<(
 }
 
 // Appends values to those that a machine has printed; moves the shorter list to the longer one.
-fn take_lines(machine: &mut Machine, more: VecDeque<i64>) -> Result<(), AllocError>
+fn take_printed(machine: &mut Machine, more: VecDeque<i64>) -> Result<(), AllocError>
     ensures { OnOk result (HasPrinted machine.old more.items machine.new) }
 {
     let mut more = more;
@@ -71,14 +71,14 @@ fn take_lines(machine: &mut Machine, more: VecDeque<i64>) -> Result<(), AllocErr
 }
 
 // Adds the output of another machine to a machine.
-fn take_shown(
+fn take_output(
     machine: &mut Machine,
     lines: VecDeque<i64>,
     totals: &[Total],
 ) -> Result<(), AllocError>
     ensures { OnOk result (HasTaken machine.old lines.items totals.now machine.new) }
 {
-    take_lines(machine, lines)?;
+    take_printed(machine, lines)?;
     join_totals(&mut machine.totals, totals);
     Ok(())
 }
@@ -107,7 +107,7 @@ fn join_rest(
     let loans = loans_named(code, home.lent);
     let machine = &mut run.machine;
     machine.give_rest(frame, replaced, home.lender.slots, loans, home.target)?;
-    take_shown(&mut run.machine, lines, totals.as_slice())?;
+    take_output(&mut run.machine, lines, totals.as_slice())?;
     run.meter.rest(count, meter, cost)?;
     Ok(())
 }
@@ -221,7 +221,7 @@ impl Strand {
             self.mode = Mode::Over;
             return;
         }
-        match take_lines(&mut self.run.machine, lines) {
+        match take_printed(&mut self.run.machine, lines) {
             Ok(()) => {
                 self.return_newest(&mut back, &mut none);
                 self.count += cost;

@@ -33,7 +33,7 @@ impl WorkList {
     ///
     /// `Fault::Memory` if there is not enough memory.
     pub fn new(alloc: Global, places: usize) -> Result<WorkList, Fault>
-        ensures { OrMemory result (λ work. table.places_of work ≡ []) }
+        ensures { OrMemory result (λ work. table.pcs_of work ≡ []) }
     {
         let mut visited = Vec::new(alloc);
         for _i in 0..places {
@@ -99,7 +99,7 @@ impl WorkList {
 
     // Records that a pass visits a pc.
     fn visit(&mut self, turn: usize, place: usize)
-        ensures { table.places_of self.new ≡ table.places_of self.old }
+        ensures { table.pcs_of self.new ≡ table.pcs_of self.old }
     {
         self.turn = turn;
         if place < self.visited.len() {

@@ -12,7 +12,7 @@ use Rattle.cw_code.specs.lemmas.Runs.{joined_quiet}
 use Rattle.cw_code.specs.Jobs.{JoinFrame}
 use Rattle.cw_code.specs.Over.{trace_under, under}
 use Rattle.cw_code.specs.Strands.{resumed}
-use Rattle.cw_machine.specs.Shows.{cell, Comes}
+use Rattle.cw_machine.specs.RepresentsState.{cell, Comes}
 use Rattle.cw_machine.specs.Gives.{Waits, went_on, ComesBut, RoundComesBut}
 use Rattle.cw_machine.specs.Hands.{ComesRound}
 

@@ -1,5 +1,5 @@
 use Rattle.std.proofs.Common.{◌≡◌, length}
-use Rattle.cw_machine.specs.Shows.{Agrees, AreZero}
+use Rattle.cw_machine.specs.RepresentsState.{Agrees, AreZero}
 use Rattle.cw_machine.proofs.calls.zero.Given as goal
 
 abbrev pub invariant-loop-k : goal.invariant-loop-k

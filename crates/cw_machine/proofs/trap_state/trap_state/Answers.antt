@@ -9,7 +9,7 @@ use Rattle.cw_runnable.specs.declared.verified.Verified.{Verified}
 use Rattle.cw_machine.specs.declared.machine.Machine.{Machine}
 use Rattle.cw_machine.specs.declared.trap_state.Halt.{Halt}
 use Rattle.cw_machine.specs.Arrays.{IsFit}
-use Rattle.cw_machine.specs.Shows.{BeginsRun}
+use Rattle.cw_machine.specs.RepresentsState.{BeginsRun}
 use Rattle.cw_machine.specs.Runs.{is_asked, is_request}
 use Rattle.cw_machine.specs.TrapState.{Halts, HaltsAny}
 use Rattle.cw_machine.proofs.AtTrap.{is_end, was_end, over, ended, trapped}

@@ -1,6 +1,6 @@
 use Rattle.std.proofs.Common.{refl}
-use Rattle.cw_pool.specs.Chains.{FormsChain}
-use Rattle.cw_pool.proofs.Chained.{same_chain, same_of}
+use Rattle.cw_pool.specs.StrandStacks.{FormsChain}
+use Rattle.cw_pool.proofs.Stacking.{same_chain, same_of}
 use Rattle.cw_pool.proofs.work.run_above.Goals as goal
 
 pub returns-then-held-gt-BUDGET-clause-stands : goal.returns-then-held-gt-BUDGET-clause-stands

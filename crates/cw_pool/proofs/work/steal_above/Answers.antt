@@ -1,9 +1,9 @@
 use Rattle.std.proofs.Common.{◌∙◌, Some, sym, ap, subst}
 use Rattle.cw_jobs.specs.Means.{IsMeaningOf}
 use Rattle.cw_strand.specs.Holds.{its_job}
-use Rattle.cw_pool.specs.declared.post.Post.{Post}
-use Rattle.cw_pool.specs.Posts.{Works}
-use Rattle.cw_pool.proofs.Chained.{below, more, same_chain}
+use Rattle.cw_pool.specs.declared.post.WorkerFrame.{WorkerFrame}
+use Rattle.cw_pool.specs.WorkerFrames.{Works}
+use Rattle.cw_pool.proofs.Stacking.{below, more, same_chain}
 use Rattle.cw_pool.proofs.work.steal_above.Goals as goal
 
 pub settle-requires-clause-settles : goal.settle-requires-clause-settles
@@ -15,8 +15,8 @@ settle-requires-clause-settles g c = (
 pub returns-in-Ok-clause-stands : goal.returns-in-Ok-clause-stands
 returns-in-Ok-clause-stands g c root stands =
     let y = c.args.yard.now in
-    let is = ap (λ (q : Post). its_job q.strand) c.replace-waiting.ensures.value in
-    let above = ap (λ (q : Post). its_job q.strand) c.replace-waiting.ensures.after ∙ c.in-Ok.ensures.0 in (
+    let is = ap (λ (q : WorkerFrame). its_job q.strand) c.replace-waiting.ensures.value in
+    let above = ap (λ (q : WorkerFrame). its_job q.strand) c.replace-waiting.ensures.after ∙ c.in-Ok.ensures.0 in (
       subst (λ q. Works y q) (sym c.replace-waiting.ensures.after) (c.in-Ok.ensures.1 y),
       more y root _ c.reserve.new.self.items c.push_reserved.new.self.items (below c.replace-waiting.result c.in-Some.duty c.args.held) c.push_reserved.ensures.items
           (c.in-Some.ensures.found.1 ∙ ap (λ j. Some j) (sym above)) c.in-Some.ensures.found.0

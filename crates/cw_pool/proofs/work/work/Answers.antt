@@ -1,9 +1,9 @@
 use Rattle.std.proofs.Common.{◌≡◌, ◌∙◌, refl, sym, ap, subst}
 use Rattle.cw_jobs.specs.Means.{IsMeaningOf}
 use Rattle.cw_strand.specs.Holds.{its_job}
-use Rattle.cw_pool.specs.declared.post.Post.{Post}
-use Rattle.cw_pool.specs.Posts.{Works}
-use Rattle.cw_pool.proofs.Chained.{begun, same_chain, same_of, less}
+use Rattle.cw_pool.specs.declared.post.WorkerFrame.{WorkerFrame}
+use Rattle.cw_pool.specs.WorkerFrames.{Works}
+use Rattle.cw_pool.proofs.Stacking.{begun, same_chain, same_of, less}
 use Rattle.cw_pool.proofs.work.work.Goals as goal
 
 pub loop-init : goal.loop-init
@@ -22,7 +22,7 @@ settle-requires-clause-settles g c =
       (
         its_job c.loop.post.strand,
         l.0,
-        subst (λ j. IsMeaningOf j c.effect-effect.result) (ap (λ (q : Post). its_job q.strand) c.replace-ended.ensures.value ∙ (same_of c.turn.new.self.strand c.heed.new.self.strand c.in-Ends.ensures.of ∙ same_of c.heed.new.self.strand c.loop.post.strand c.heed.ensures.of)) c.effect-effect.ensures.means,
+        subst (λ j. IsMeaningOf j c.effect-effect.result) (ap (λ (q : WorkerFrame). its_job q.strand) c.replace-ended.ensures.value ∙ (same_of c.turn.new.self.strand c.heed.new.self.strand c.in-Ends.ensures.of ∙ same_of c.heed.new.self.strand c.loop.post.strand c.heed.ensures.of)) c.effect-effect.ensures.means,
       ),
     )
 
@@ -37,6 +37,6 @@ loop-preserved g c =
       c.settle.ensures,
       (
         subst (λ q. Works y q) (sym is) l.2,
-        same_chain y root _ _ c.pop.new.self.items c.pop.new.self.items (ap (λ (q : Post). its_job q.strand) is) refl l.3,
+        same_chain y root _ _ c.pop.new.self.items c.pop.new.self.items (ap (λ (q : WorkerFrame). its_job q.strand) is) refl l.3,
       ),
     )

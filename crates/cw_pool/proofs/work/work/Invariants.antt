@@ -1,5 +1,5 @@
 use Rattle.cw_yard.specs.Seats.{IsSeatOf}
-use Rattle.cw_pool.specs.Chains.{FormsChain}
+use Rattle.cw_pool.specs.StrandStacks.{FormsChain}
 use Rattle.cw_pool.proofs.work.work.Given as goal
 
 abbrev pub invariant-loop : goal.invariant-loop

@@ -1,4 +1,4 @@
-use Rattle.cw_sched.proofs.core.Walks.{inlined_walk}
+use Rattle.cw_sched.proofs.core.Executions.{inlined_walk}
 use Rattle.cw_sched.proofs.laws.printing_inlined_is_serial.Goals as goal
 
 pub returns : goal.returns

@@ -6,7 +6,7 @@ use Rattle.std.proofs.lemmas.Int.{to_z-of_z}
 use Rattle.cw_model.specs.Ints.{natural}
 use Rattle.cw_machine.specs.declared.machine.View.{View}
 use Rattle.cw_machine.specs.Arrays.{view, found, is_index}
-use Rattle.cw_machine.specs.Shows.{blocks_of}
+use Rattle.cw_machine.specs.RepresentsState.{blocks_of}
 use Rattle.cw_machine.proofs.Blocks as blocks
 use Rattle.cw_machine.proofs.Moves as moves
 use Rattle.cw_machine.proofs.machine.Machine.element.Goals as goal

@@ -1,5 +1,5 @@
 use Rattle.std.proofs.Common.{arith, ◌≡◌, ◌+◌, length, subst}
-use Rattle.cw_machine.specs.Shows.{HasBegun}
+use Rattle.cw_machine.specs.RepresentsState.{HasBegun}
 use Rattle.cw_machine.proofs.Goes.{goes_ready}
 use Rattle.cw_machine.proofs.machine.Machine.enter_ready.Goals as goal
 

@@ -1,5 +1,5 @@
 use Rattle.std.proofs.Common.{◌≡◌}
-use Rattle.cw_machine.specs.Shows.{Stays}
+use Rattle.cw_machine.specs.RepresentsState.{Stays}
 use Rattle.cw_machine.proofs.GivesCells.{Filling}
 use Rattle.cw_machine.proofs.machine.Machine.lay_cells.Given as goal
 

@@ -1,6 +1,6 @@
 use Rattle.std.proofs.Common.{arith, ◌≡◌, length, ap, refl, subst}
 use Rattle.cw_machine.specs.Arrays.{no_view}
-use Rattle.cw_machine.specs.Shows.{part_view}
+use Rattle.cw_machine.specs.RepresentsState.{part_view}
 use Rattle.cw_machine.proofs.Lending.{LentUp, none_lent, more_lent, all_lent, passed_view}
 use Rattle.cw_machine.proofs.machine.Machine.lend.Goals as goal
 

@@ -1,4 +1,4 @@
-use Rattle.cw_machine.specs.Shows.{part_view}
+use Rattle.cw_machine.specs.RepresentsState.{part_view}
 use Rattle.cw_machine.proofs.Lending.{LentUp}
 use Rattle.cw_machine.proofs.machine.Machine.lend.Given as goal
 

@@ -1,6 +1,6 @@
 use Rattle.std.proofs.Common.{◌≡◌, ◌∙◌, ℕ, true, false, List, Some, refl, sym, ap}
 use Rattle.std.specs.Arc.{arc_value}
-use Rattle.cw_sched.specs.Scenes.{Posted, Stage, Goes, posted, scene, stacks, jobs_of, top}
+use Rattle.cw_sched.specs.Scenes.{FrameView, Stage, Goes, posted, scene, stacks, jobs_of, top}
 use Rattle.cw_strand.specs.Holds.{IsGoing}
 use Rattle.cw_sched.specs.declared.event.Event.TheVariants as event
 use Rattle.cw_sched.specs.declared.world.World.{World}
@@ -25,7 +25,7 @@ step-requires-clause-even c =
     is_even s.jobs c.take-post.result.outs.items _ works.lent
 
 -- the strand goes on
-ready : (self : World) (w : ℕ) (p : Posted) → IsSound self → top (scene self) w ≡ Some (Goes p) → is_possible (scene self) (event.Run w) ≡ true → IsGoing p.strand
+ready : (self : World) (w : ℕ) (p : FrameView) → IsSound self → top (scene self) w ≡ Some (Goes p) → is_possible (scene self) (event.Run w) ≡ true → IsGoing p.strand
 ready self w p sound at possible =
     let t = top (scene self) w in
     let works = taken_works (arc_value self.code) (scene self) w p sound.right at in
@@ -57,7 +57,7 @@ pub returns-in-Err-clause-does : goal.returns-in-Err-clause-does
 returns-in-Err-clause-does c =
     let s = scene c.args.self.now in
     put_back s c.args.w (Goes (posted c.take-post.result)) (Goes (posted c.step.new.self)) (jobs_of c.step.new.jobs) (stacks c.take-post.new.begun) (stacks c.put.new.begun) s.board
-    c.take-post.ensures.top c.take-post.ensures.left c.put.ensures (ap (λ (q : Posted). Goes q) c.in-Err.ensures.does.0) c.in-Err.ensures.does.1 refl
+    c.take-post.ensures.top c.take-post.ensures.left c.put.ensures (ap (λ (q : FrameView). Goes q) c.in-Err.ensures.does.0) c.in-Err.ensures.does.1 refl
 
 pub returns-in-Err-clause-wants : goal.returns-in-Err-clause-wants
 returns-in-Err-clause-wants c = run_wants c.args.self.now c.args.w c.take-post.result c.take-post.ensures.last c.in-Err.ensures.full

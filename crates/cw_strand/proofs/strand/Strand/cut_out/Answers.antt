@@ -2,7 +2,7 @@ use Rattle.std.proofs.Common.{◌≡◌, ℕ, ◌+◌, sym, ap, ap₂, ◌∙◌
 use Rattle.cw_jobs.specs.declared.call.Parts.{Parts}
 use Rattle.cw_jobs.specs.Jobs.{code_of}
 use Rattle.cw_machine.specs.declared.run.Run.{Run}
-use Rattle.cw_machine.specs.Shows.{StaysBut}
+use Rattle.cw_machine.specs.RepresentsState.{StaysBut}
 use Rattle.cw_machine.specs.Hands.{MayHand, HandsOut}
 use Rattle.cw_machine.specs.Calls.{listed, loans_of}
 use Rattle.cw_strand.specs.Holds.{its_code}

@@ -37,7 +37,7 @@ return_newest-requires-in-Ok c =
     let self = c.args.self.now in
     let given = c.requires.given in
     let newest = newest_of self given.out given.others given.are in
-    let mid : Strand = record self { run = record self.run { machine = c.take_lines.new.machine } } in
+    let mid : Strand = record self { run = record self.run { machine = c.take_printed.new.machine } } in
     subst (MayReturnNewest mid c.args.back.items) (sym c.new-none.ensures.items)
     (may_trapped self given.out given.others newest c.requires.running c.requires.waiting c.machines_that_stop_remain.ensures.remain (effect.Trapped c.args.trap c.args.line c.args.lines c.args.cost c.args.back) given.means
     c.args.trap c.args.line c.args.lines.items c.args.cost c.args.back.items (refl, refl, refl, refl, refl) mid
@@ -48,7 +48,7 @@ returns-in-Ok-clause-running c =
     let self = c.args.self.now in
     let given = c.requires.given in
     let newest = newest_of self given.out given.others given.are in
-    let mid : Strand = record self { run = record self.run { machine = c.take_lines.new.machine } } in
+    let mid : Strand = record self { run = record self.run { machine = c.take_printed.new.machine } } in
     let popped = c.return_newest-in-Ok.new.self in
     let home = subst (λ r. HasReturnedNewest mid c.args.back.items r popped) c.new-none.ensures.items c.return_newest-in-Ok.ensures in
     trap_runs self given.out given.others newest c.requires.running c.requires.waiting c.machines_that_stop_remain.ensures.remain (effect.Trapped c.args.trap c.args.line c.args.lines c.args.cost c.args.back) given.means

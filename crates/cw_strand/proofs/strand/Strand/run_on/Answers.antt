@@ -1,6 +1,6 @@
 use Rattle.std.proofs.Common.{◌≡◌, sym, ap, subst, ◌∙◌}
 use Rattle.cw_jobs.specs.Jobs.{code_of}
-use Rattle.cw_machine.specs.Stretches.{IsUnderWay, GoesOn}
+use Rattle.cw_machine.specs.Segments.{IsUnderWay, GoesOn}
 use Rattle.cw_strand.specs.Holds.{its_code, floor_of}
 use Rattle.cw_strand.specs.Moves.{hands_out}
 use Rattle.cw_strand.proofs.RunsOn.{run_way, run_came, run_ran}

@@ -1,7 +1,7 @@
 use Rattle.std.proofs.Common.{arith, ◌<◌, ◌+◌, sym, subst, ◌∙◌}
 use Rattle.cw_facts.specs.Lists.{there_at}
 use Rattle.cw_code.specs.Code.{code_view}
-use Rattle.cw_verify.specs.Table.{so_far, places_of, work_of, visited, left_to_do, IsSearch, HasNone}
+use Rattle.cw_verify.specs.Table.{so_far, pcs_of, work_of, visited, left_to_do, IsSearch, HasNone}
 use Rattle.cw_verify.proofs.Spreading.{shapes_length, visit_search, fails_from}
 use Rattle.cw_verify.proofs.Tables.{visit_goes}
 use Rattle.cw_verify.proofs.search.Search.settle.Goals as goal
@@ -49,7 +49,7 @@ returns-then-reached-clause-settles c =
     let t = there_at code.instrs (f.start + k) (omega (arith, small, search.whole, c.requires.there)) in
     let tells = c.in-Ok.ensures.visits t.0 t.1 in
     record {
-      search = visit_search code f (so_far old) (so_far new) (work_of old) (places_of c.pop.new.self) (work_of new) k t.0 c.in-Ok.reached c.requires.there c.requires.named search c.in-Some.ensures t.1 tells.0 tells.1;
+      search = visit_search code f (so_far old) (so_far new) (work_of old) (pcs_of c.pop.new.self) (work_of new) k t.0 c.in-Ok.reached c.requires.there c.requires.named search c.in-Some.ensures t.1 tells.0 tells.1;
       reaches = λ e. omega (arith, tells.1.reaches c.if-reached.true, c.loop-k.invariant.fewer);
       ends = λ e. cc;
     }
@@ -80,7 +80,7 @@ loop-k-preserved c =
     let t = there_at code.instrs (f.start + k) (omega (arith, small, search.whole, c.requires.there)) in
     let tells = c.in-Ok.ensures.visits t.0 t.1 in
     record {
-      search = visit_search code f (so_far old) (so_far new) (work_of old) (places_of c.pop.new.self) (work_of new) k t.0 c.in-Ok.reached c.requires.there c.requires.named search c.in-Some.ensures t.1 tells.0 tells.1;
+      search = visit_search code f (so_far old) (so_far new) (work_of old) (pcs_of c.pop.new.self) (work_of new) k t.0 c.in-Ok.reached c.requires.there c.requires.named search c.in-Some.ensures t.1 tells.0 tells.1;
       fewer = omega (arith, tells.1.fewer, c.loop-k.invariant.fewer);
       known = c.in-Ok.ensures.known;
     }
