@@ -125,7 +125,11 @@ impl Machine {
     {
         match op {
             Op::Unary(d, operator, _) => TrapOperands::One(*operator, self.get(*d)),
-            Op::Binary(d, operator, _) => TrapOperands::Two(*operator, self.get(*d), self.get(*d + 1)),
+            Op::Binary(d, operator, _) => TrapOperands::Two(
+                *operator,
+                self.get(*d),
+                self.get(*d + 1),
+            ),
             Op::NewArray(d, _, _) => TrapOperands::Length(self.get(*d)),
             Op::Element(d, a, _) => TrapOperands::Index(self.get(*d), self.view(*a).len),
             Op::SetElement(d, a, _) => TrapOperands::Index(self.get(*d), self.view(*a).len),

@@ -15,9 +15,9 @@ ghost use Rattle.cw_own.specs.Taken.{none_held, held_of, with_target, with_array
 ghost use Rattle.cw_own.specs.Views.{used, after_call, after_lines, after_if, after_while};
 ghost use Rattle.cw_own.specs.Views.{turns_of, turns_of_lines, turns_of_while};
 
+use crate::findings::{Local, Watch};
 use crate::held::Held;
 use crate::row::Row;
-use crate::findings::{Local, Watch};
 use cw_model::syntax::CallKind;
 use cw_tree::resolved::{Argument, Call, Line, Stmt, Use};
 use std::alloc::Global;

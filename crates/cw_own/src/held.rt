@@ -6,8 +6,8 @@ ghost use Rattle.cw_own.specs.Sets.{row_of};
 ghost use Rattle.cw_own.specs.Taken.{none_held, taking_int, taking_array, freezing, either_held, held_within, held_of};
 
 use crate::bits::Bits;
-use crate::row::Row;
 use crate::findings::Watch;
+use crate::row::Row;
 
 /// Holds the lines since which the watched local is taken and frozen.
 #[derive(Clone, Copy)]

@@ -3,6 +3,7 @@
 
 mod around;
 mod bits;
+mod findings;
 mod gains;
 mod held;
 pub mod laws;
@@ -13,7 +14,6 @@ mod reason;
 mod row;
 mod rules;
 mod taken;
-mod findings;
 
 pub use owned::Owned;
 pub use owning::{disowned, own};

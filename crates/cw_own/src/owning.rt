@@ -11,13 +11,13 @@ ghost use Rattle.cw_own.specs.Sets.{row_of, no_local};
 ghost use Rattle.cw_own.specs.Taken.{with_params};
 ghost use Rattle.cw_own.specs.Views.{reasons_of, reasons_of_all, Noted};
 
+use crate::findings::{Findings, Local};
 use crate::gains::{Gains, turns};
 use crate::owned::Owned;
 use crate::reason::{Disowned, Holder};
 use crate::row::Row;
 use crate::rules::{Turns, note_sync_block};
 use crate::taken::Taken;
-use crate::findings::{Findings, Local};
 use cw_model::syntax::NameKind;
 use cw_text::{At, Fault, Place, Reasons};
 use cw_tree::Typed;

@@ -14,13 +14,13 @@ ghost use Rattle.cw_own.specs.Views.{reasons_of_either, reasons_of_for, reasons_
 ghost use Rattle.cw_own.specs.Views.{view_of_reason, still_taken, Noted};
 
 use crate::around::Loop;
+use crate::findings::Findings;
 use crate::gains::{after_call, know};
 use crate::held::Held;
 use crate::reading::of_stmt;
 use crate::reason::{Disowned, Holder};
 use crate::row::Row;
 use crate::taken::Taken;
-use crate::findings::Findings;
 use cw_tree::resolved::{Cut, Head, Line, Stmt, Use};
 
 /// Holds the locals that one iteration of each remaining `while` holds, in order.

@@ -7,10 +7,10 @@ ghost use Rattle.cw_own.specs.Taken.{nothing, inside, inside_cut, joined, after_
 ghost use Rattle.cw_own.specs.Reasons.{int_holder, array_taker, array_reader, array_holder};
 
 use crate::bits::Bits;
+use crate::findings::Watch;
 use crate::held::Held;
 use crate::reason::{Holder, Start};
 use crate::row::Row;
-use crate::findings::Watch;
 
 /// Holds what is held by the spawns of the enclosing sync blocks, what is held by the spawns of the innermost sync
 /// block, and the arrays that are cut.

@@ -8,7 +8,7 @@ ghost use Rattle.cw_pool.specs.WorkerFrames.{IsFound, Works};
 ghost use Rattle.cw_yard.specs.declared.seat.Yard as yards;
 
 use crate::gate::{Gate, Moment};
-use crate::post::{WorkerFrame, Turn, settle};
+use crate::post::{Turn, WorkerFrame, settle};
 use crate::sign::{BUDGET, Tally};
 use crossbeam_utils::sync::Key;
 use cw_jobs::effect::Effect;

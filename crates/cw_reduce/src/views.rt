@@ -5,7 +5,7 @@ ghost use Rattle.cw_reduce.specs.ReducerState.{as_total, held};
 ghost use Rattle.cw_reduce.specs.PieceResults.{nothing_shown, shown_joined, held_of, total_of, AreJoined, SameTotals, TellsTotals, TellsValue};
 
 use crate::lines::Lines;
-use crate::totals::{joined, single_total, read_as};
+use crate::totals::{joined, read_as, single_total};
 use cw_model::monoid::Monoid;
 use cw_model::syntax::Reduction;
 use cw_model::total::Total;

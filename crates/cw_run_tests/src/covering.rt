@@ -1,9 +1,9 @@
 //! Each habit has an example whose explanation says what to write, and with that put in place it is accepted.
 
+use crate::explained::{Habit, explained_between, is_advised};
 use crate::names::{bytes, names, rules};
 use crate::sources::{sources, updates};
 use crate::statements::{assignments, others, statements};
-use crate::explained::{Habit, is_advised, explained_between};
 use cw_explain::{Row, all_bytes, all_names, all_rows};
 use std::alloc::{AllocError, Global};
 use std::process::Abort;

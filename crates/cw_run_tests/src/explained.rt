@@ -60,7 +60,12 @@ pub fn all_explained(rt: &impl Abort, alloc: Global, rows: &[(&str, &str)]) {
 }
 
 /// Returns what standard error has for a text between two others.
-pub fn explained_between(alloc: Global, front: &str, text: &str, back: &str) -> Result<String, Fault> {
+pub fn explained_between(
+    alloc: Global,
+    front: &str,
+    text: &str,
+    back: &str,
+) -> Result<String, Fault> {
     let whole = format!(in alloc; "{front}{text}{back}")?;
     told(alloc, whole.as_bytes())
 }

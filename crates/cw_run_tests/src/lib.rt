@@ -7,6 +7,8 @@ mod covering;
 #[cfg(test)]
 mod drafts;
 #[cfg(test)]
+mod explained;
+#[cfg(test)]
 mod grammar;
 #[cfg(test)]
 mod habits;
@@ -30,7 +32,5 @@ mod several;
 mod sources;
 #[cfg(test)]
 mod statements;
-#[cfg(test)]
-mod explained;
 #[cfg(test)]
 mod typing;

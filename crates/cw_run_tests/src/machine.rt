@@ -8,8 +8,8 @@ mod loops;
 mod measures;
 mod requests;
 mod schedules;
-mod trap_states;
 mod strands;
+mod trap_states;
 
 use crate::machine::arrays::{ARRAYS, ARRAYS_OF_ONE};
 use crate::machine::cuts::{FILLED, FILLED_PART, FILLED_TWO, SWAPPED};

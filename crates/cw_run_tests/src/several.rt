@@ -153,13 +153,15 @@ struct Many {
 
 // The lines of the errors that are listed: from the first up to the end.
 const FIRST: u32 = 10;
+
 const END: u32 = 60;
 
 // What precedes the statements that have an error of names.
 const NAMES: &str = "int main(int n) {\n\n\n\n\n\n\n\n\n";
 
 // The error of such a statement.
-const UNKNOWN: &str = ": x is not declared here: declare int x = 0; before this statement, in this block or one around it\n  ";
+const UNKNOWN: &str =
+    ": x is not declared here: declare int x = 0; before this statement, in this block or one around it\n  ";
 
 // The source line of this error.
 const SHOWN: &str = " |   n = x;\n     |       ^\n";

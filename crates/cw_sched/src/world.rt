@@ -154,7 +154,11 @@ fn first_frame(alloc: Global, root: Job) -> Result<WorkerFrame, Fault>
 }
 
 // The lists of all workers: worker 0 has begun this post, the others are idle.
-fn first_begun(alloc: Global, workers: usize, post: WorkerFrame) -> Result<Vec<Vec<Begun>>, AllocError>
+fn first_begun(
+    alloc: Global,
+    workers: usize,
+    post: WorkerFrame,
+) -> Result<Vec<Vec<Begun>>, AllocError>
     requires { 0 < workers }
     ensures { IfOk result (λ begun. stacks begun ≡ (Goes (posted post) ∷ []) ∷ idle (workers - 1)) }
 {

@@ -110,7 +110,11 @@ impl Strand {
     }
 
     // Removes the newest job out and returns its arrays to their slots.
-    pub(crate) fn return_newest(&mut self, slices: &mut Vec<Slice>, replaced: &mut Vec<Option<Slice>>)
+    pub(crate) fn return_newest(
+        &mut self,
+        slices: &mut Vec<Slice>,
+        replaced: &mut Vec<Option<Slice>>,
+    )
         requires { MayReturnNewest self.old slices.old.items replaced.old.items }
         ensures { HasReturnedNewest self.old slices.old.items replaced.old.items self.new }
     {

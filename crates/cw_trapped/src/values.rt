@@ -60,8 +60,13 @@ impl fmt::Display for Values<'_> {
                 let sign = sign(operator);
                 write!(f, "the operands of {sign} are {x} and {y}")
             }
-            TrapOperands::Index(i, len) => write!(f, "the index is {i}, and the array's length is {len}"),
-            TrapOperands::Cut(i, len) => { write!(f, "the array is cut at {i}, and its length is {len}") }
+            TrapOperands::Index(i, len) => write!(
+                f,
+                "the index is {i}, and the array's length is {len}"
+            ),
+            TrapOperands::Cut(i, len) => {
+                write!(f, "the array is cut at {i}, and its length is {len}")
+            }
             TrapOperands::Length(n) => {
                 write!(
                     f,

@@ -9,6 +9,7 @@ mod frames;
 mod functions;
 mod globals;
 mod known;
+mod least_reason;
 mod limits;
 mod lists;
 mod locals;
@@ -21,7 +22,6 @@ mod rules;
 mod statements;
 mod table;
 mod tags;
-mod least_reason;
 
 pub use checking::{check, ill_typed, too_large};
 pub use reason::{IllTyped, Other, TooLarge};

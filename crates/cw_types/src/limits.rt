@@ -14,9 +14,9 @@ ghost use Rattle.cw_types.specs.Regions.{regions_of};
 ghost use Rattle.cw_types.specs.RecordingLines.{IsOf, Noted, AddsOnly, recorded_line};
 
 use crate::known::Known;
+use crate::least_reason::LeastReason;
 use crate::reason::TooLarge;
 use crate::regions::{Marked, regions};
-use crate::least_reason::LeastReason;
 use cw_model::limits::{
     MOST_DECLARED, MOST_FUNCTIONS, MOST_PARAMETERS, MOST_REDUCERS, MOST_TAG_BYTES, MOST_TAGS,
 };

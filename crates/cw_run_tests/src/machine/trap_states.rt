@@ -5,7 +5,7 @@ use crate::machine::loops::LOOPING;
 use crate::machine::{Setting, code_in};
 use crate::programs::{CALLED, SPAWNED};
 use cw_code::code::{Halves, Instr, UnaryOperator};
-use cw_machine::trap_state::{TrapOperands, Round, TrapState, trap_state};
+use cw_machine::trap_state::{Round, TrapOperands, TrapState, trap_state};
 use cw_model::syntax::{CallKind, Operator};
 use cw_runnable::verified::Verified;
 use cw_text::Fault;
