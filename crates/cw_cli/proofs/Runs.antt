@@ -40,7 +40,7 @@ use Rattle.cw_report.specs.Texts.{totals_text, handed_text, schedule_header, sch
 use Rattle.cw_gen.specs.Emit.{coded_reducers}
 use Rattle.cw_gen.specs.Generates.{Generates}
 use Rattle.cw_compile.specs.Compiled.{IsCompiled}
-use Rattle.cw_compile.specs.Sources.{IsRefused}
+use Rattle.cw_compile.specs.Sources.{IsRejected}
 use Rattle.cw_cli.specs.Analyses as analyses
 use Rattle.cw_cli.specs.Pages.{Input, input_of}
 use Rattle.cw_words.specs.declared.asked.Mode.{Mode}
@@ -597,7 +597,7 @@ out_of_range seen old name bytes args options code compiled m f is same not = su
 
 -- ---- bytes that are rejected
 
-run_refusal : {W : Type 0} (seen : W → Seen) (old : W) (name bytes : List ℕ) (args : List ℤ) (options : Options) (f : Fault) → IsRefused bytes f → analyses.IsUnreported seen old old name bytes args options f
+run_refusal : {W : Type 0} (seen : W → Seen) (old : W) (name bytes : List ℕ) (args : List ℤ) (options : Options) (f : Fault) → IsRejected bytes f → analyses.IsUnreported seen old old name bytes args options f
 run_refusal seen old name bytes args options (fault.Lexical p) h = record { refused = h; untouched = refl }
 run_refusal seen old name bytes args options (fault.Syntax p) h = record { refused = h; untouched = refl }
 run_refusal seen old name bytes args options (fault.Types p) h = record { refused = h; untouched = refl }
@@ -606,7 +606,7 @@ run_refusal seen old name bytes args options (fault.Size p) h = record { refused
 run_refusal seen old name bytes args options fault.Memory h = refl
 run_refusal seen old name bytes args options _ h = absurd h
 
-check_refusal : {W : Type 0} (seen : W → Seen) (old : W) (name bytes : List ℕ) (args : List ℤ) (options : Options) (f : Fault) → IsRefused bytes f → analyses.IsUnchecked seen old old name bytes args options f
+check_refusal : {W : Type 0} (seen : W → Seen) (old : W) (name bytes : List ℕ) (args : List ℤ) (options : Options) (f : Fault) → IsRejected bytes f → analyses.IsUnchecked seen old old name bytes args options f
 check_refusal seen old name bytes args options (fault.Lexical p) h = record { refused = h; untouched = refl }
 check_refusal seen old name bytes args options (fault.Syntax p) h = record { refused = h; untouched = refl }
 check_refusal seen old name bytes args options (fault.Types p) h = record { refused = h; untouched = refl }
@@ -615,7 +615,7 @@ check_refusal seen old name bytes args options (fault.Size p) h = record { refus
 check_refusal seen old name bytes args options fault.Memory h = refl
 check_refusal seen old name bytes args options _ h = absurd h
 
-refused_in : {W : Type 0} (seen : W → Seen) (old : W) (name bytes : List ℕ) (args : List ℤ) (options : Options) (m : Mode) (f : Fault) → IsRefused bytes f
+refused_in : {W : Type 0} (seen : W → Seen) (old : W) (name bytes : List ℕ) (args : List ℤ) (options : Options) (m : Mode) (f : Fault) → IsRejected bytes f
     → analyses.IsAnalysedIn seen old old name bytes args options m (Err f)
 refused_in seen old name bytes args options mode.Check f h = check_refusal seen old name bytes args options f h
 refused_in seen old name bytes args options mode.Run f h = run_refusal seen old name bytes args options f h
@@ -627,10 +627,10 @@ refused_in seen old name bytes args options (mode.Speedup most) f h = run_refusa
 refused_in seen old name bytes args options (mode.Page top most) f h = run_refusal seen old name bytes args options f h
 
 -- bytes that are rejected, in every mode
-pub refusal : {W : Type 0} (seen : W → Seen) (old : W) (name bytes : List ℕ) (args : List ℤ) (options : Options) (f : Fault) → IsRefused bytes f
+pub refusal : {W : Type 0} (seen : W → Seen) (old : W) (name bytes : List ℕ) (args : List ℤ) (options : Options) (f : Fault) → IsRejected bytes f
     → (r : Result (Unit {0}) Fault) → IsErrAnd r (λ x. x ≡ f) → analyses.IsAnalysed seen old old name bytes args options r
 refusal seen old name bytes args options f h (Ok done) e = absurd e
-refusal seen old name bytes args options f h (Err g) e = refused_in seen old name bytes args options options.mode g (subst (IsRefused bytes) (sym e) h)
+refusal seen old name bytes args options f h (Err g) e = refused_in seen old name bytes args options options.mode g (subst (IsRejected bytes) (sym e) h)
 
 -- a crew of at most the maximum size, and a larger one
 pub by_crew : {W : Type 0} (seen : W → Seen) (old new : W) (name bytes : List ℕ) (args : List ℤ) (options : Options) (bodies : ℕ) (r : Result (Unit {0}) Fault)

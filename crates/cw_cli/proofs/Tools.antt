@@ -57,10 +57,10 @@ module _ (bytes : List ℕ) (long : MOST_SOURCE_BYTES < length bytes) where
   no_source : IsSourceText (take most_read bytes) → ⊥
   no_source text = omega (arith, text.short, too_long)
 
-  refused_whole : (f : Fault) → sources.IsRefused (take most_read bytes) f → sources.IsRefused bytes f
+  refused_whole : (f : Fault) → sources.IsRejected (take most_read bytes) f → sources.IsRejected bytes f
   refused_whole (fault.Lexical p) h = absurd (lexical h)
     where
-      lexical : sources.IsLexicallyRefused (take most_read bytes) p.line → ⊥
+      lexical : sources.IsLexicallyRejected (take most_read bytes) p.line → ⊥
       lexical (sources.byte n) = omega (arith, n.short, too_long)
       lexical (sources.token text fault) = no_source text
   refused_whole (fault.Size p) h = size h
@@ -79,7 +79,7 @@ module _ (bytes : List ℕ) (long : MOST_SOURCE_BYTES < length bytes) where
   refused_whole _ h = absurd h
 
   module _ {W : Type 0} (seen : W → Seen) (old new : W) (name : List ℕ) (args : List ℤ) (options : Options) where
-    refused_for : (f : Fault) → analyses.IsRefusedFor seen old new name (take most_read bytes) args options f → analyses.IsRefusedFor seen old new name bytes args options f
+    refused_for : (f : Fault) → analyses.IsRejectedFor seen old new name (take most_read bytes) args options f → analyses.IsRejectedFor seen old new name bytes args options f
     refused_for f h = record { refused = refused_whole f h.refused; untouched = h.untouched }
 
     unreported_whole : (f : Fault) → analyses.IsUnreported seen old new name (take most_read bytes) args options f → analyses.IsUnreported seen old new name bytes args options f

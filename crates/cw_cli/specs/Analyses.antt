@@ -17,7 +17,7 @@ use Rattle.cw_cli.specs.Schedules.{greedy_text, IsScheduledIn, HasTooManyStrands
 use Rattle.cw_cli.specs.Forms.{in_form}
 use Rattle.cw_cli.specs.Speedups.{speedup_text}
 use Rattle.cw_cli.specs.Pages.{Input, input_of, page_text}
-use Rattle.cw_compile.specs.Sources.{Compiles, IsRefused}
+use Rattle.cw_compile.specs.Sources.{Compiles, IsRejected}
 use Rattle.cw_words.specs.declared.asked.Mode.{Mode}
 use Rattle.cw_words.specs.declared.asked.Mode.TheVariants as mode
 use Rattle.cw_words.specs.declared.asked.Options.{Options}
@@ -94,8 +94,8 @@ module _ {W : Type 0} (seen : W → Seen) (old new : W) where
 
   module _ (name bytes : List ℕ) (args : List ℤ) (options : Options) where
     -- the bytes are refused for this reason
-    pub record IsRefusedFor (f : Fault) : Type 0 where
-      pub refused : IsRefused bytes f
+    pub record IsRejectedFor (f : Fault) : Type 0 where
+      pub refused : IsRejected bytes f
       pub untouched : new ≡ old
 
     -- the bytes compile, and the sink took the report
@@ -117,7 +117,7 @@ module _ {W : Type 0} (seen : W → Seen) (old new : W) where
     IsUnchecked fault.Memory = new ≡ old
     IsUnchecked fault.Write = IsCheckCutShort
     IsUnchecked fault.Arguments = ⊥
-    IsUnchecked f = IsRefusedFor f
+    IsUnchecked f = IsRejectedFor f
 
     -- the program that the bytes mean ended within its limit, and the sink took its report
     pub record IsReported : Type 0 where
@@ -171,7 +171,7 @@ module _ {W : Type 0} (seen : W → Seen) (old new : W) where
     IsUnreported fault.Write = IsCutShort
     IsUnreported fault.Arguments = IsMisused
     IsUnreported (fault.Strands told) = HasNoSchedule told
-    IsUnreported f = IsRefusedFor f
+    IsUnreported f = IsRejectedFor f
 
     -- what a mode that runs the program answers
     abbrev pub IsRun : Result (Unit {0}) Fault → Type 0

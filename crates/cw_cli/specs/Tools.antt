@@ -41,7 +41,7 @@ pub record WritesMessage {E : Type 0} (seen : E → Seen) (old new : E) (explain
   pub plain : explain ≡ false → new ≡ between
 
 -- the line of a fault was written to standard error, and the status is its status
-pub record IsRefusal {E : Type 0} (seen : E → Seen) (old new : E) (f : Fault) (status : ℕ) : Type 0 where
+pub record IsFaultReport {E : Type 0} (seen : E → Seen) (old new : E) (f : Fault) (status : ℕ) : Type 0 where
   pub line : TriesText seen old new (fault_line f)
   pub status_is : status ≡ fault_status f
 
@@ -54,7 +54,7 @@ pub record IsFileAnswer {E : Type 0} (seen : E → Seen) (old new : E) (explain 
 -- a source cannot be opened for this reason; out of memory is reported as such
 pub record IsUnreadAnswer {E : Type 0} (seen : E → Seen) (old new : E) (asked : Request) (reason : ErrorKind)
     (status : ℕ) : Type 0 where
-  pub memory : reason ≡ kind.OutOfMemory → IsRefusal seen old new fault.Memory status
+  pub memory : reason ≡ kind.OutOfMemory → IsFaultReport seen old new fault.Memory status
   pub file : reason ≢ kind.OutOfMemory → IsFileAnswer seen old new asked.explain status
 
 -- these are the bytes of a reader, if it reveals its bytes
@@ -75,7 +75,7 @@ module _ {W E : Type 0} (seen : W → Seen) (old new : W) (seen' : E → Seen) (
     pub data IsToolAnswer : ℕ → Type 0 where
       unread : {status : ℕ} → reads_failed_before < reads_failed_after → new ≡ old
           → IsFileAnswer seen' old' new' asked.explain status → IsToolAnswer status
-      starved : {status : ℕ} → new ≡ old → IsRefusal seen' old' new' fault.Memory status → IsToolAnswer status
+      starved : {status : ℕ} → new ≡ old → IsFaultReport seen' old' new' fault.Memory status → IsToolAnswer status
       analysed : (r : Result (Unit {0}) Fault) → IsAnalysedBy seen old new (source_name (string_bytes asked.file)) bytes asked.args.items asked.options bodies r
           → WritesMessage seen' old' new' asked.explain (line_of r) →
           IsToolAnswer (status_of r)
@@ -83,7 +83,7 @@ module _ {W E : Type 0} (seen : W → Seen) (old new : W) (seen' : E → Seen) (
   -- the help was written to standard output; or a prefix of it, and the line of the failed write to standard error
   pub data IsHelpAnswer (text : List ℕ) (status : ℕ) : Type 0 where
     whole : WritesAll (seen old) (seen new) text → new' ≡ old' → status ≡ 0 → IsHelpAnswer text status
-    cut_short : WritesPart (seen old) (seen new) text → IsRefusal seen' old' new' fault.Write status
+    cut_short : WritesPart (seen old) (seen new) text → IsFaultReport seen' old' new' fault.Write status
         → IsHelpAnswer text status
 
   -- the text about the words was written to standard error
@@ -95,7 +95,7 @@ module _ {W E : Type 0} (seen : W → Seen) (old new : W) (seen' : E → Seen) (
   -- the line of the fault was written to standard error
   pub record IsFaultAnswer (f : Fault) (status : ℕ) : Type 0 where
     pub untouched : new ≡ old
-    pub refusal : IsRefusal seen' old' new' f status
+    pub refusal : IsFaultReport seen' old' new' f status
 
   -- the answer if there is nothing to run: the help, a text about the words, or the line of a fault
   abbrev pub IsSaidAnswer : Said → ℕ → Type 0

@@ -5,7 +5,7 @@ ghost use Rattle.std.specs.IoError.{error_kind};
 ghost use Rattle.cw_text.specs.Faults.{fault_status};
 ghost use Rattle.cw_cli.specs.Tools.{
   IsFileAnswer,
-  IsRefusal,
+  IsFaultReport,
   IsSaidAnswer,
   WritesMessage,
   IsToolAnswer,
@@ -19,7 +19,7 @@ use crate::analysis::analyse_named;
 use crate::misuse::misused;
 use crate::paging::source_name;
 use cw_compile::compile;
-use cw_explain::{Named, Refused, explain, explain_unread};
+use cw_explain::{Named, RejectedSource, explain, explain_unread};
 use cw_model::limits::{MOST_SOURCE_BYTES, MOST_STRANDS};
 use cw_pool::crew::Body;
 use cw_pool::gate::Gate;
@@ -121,7 +121,7 @@ fn tell<E: Sink>(alloc: Global, asked: &Request, bytes: &[u8], fault: &Fault, er
     if write_fault(err, fault).is_err() {
         return status;
     }
-    let refused = Refused {
+    let refused = RejectedSource {
         file: asked.file.as_str(),
         bytes,
         args: asked.args.len(),
@@ -247,7 +247,7 @@ pub fn say_why<W: Sink, E: Sink>(
 /// Writes the line of a fault to `err` and returns the exit status. A failed write changes nothing.
 pub fn refuse<E: Sink>(fault: &Fault, err: &mut E) -> u8
     requires { (E.seen err.old).failures < 2 ^ 64 - 1 }
-    ensures { IsRefusal E.seen err.old err.new fault.now result }
+    ensures { IsFaultReport E.seen err.old err.new fault.now result }
 {
     let _ = write_fault(err, fault);
     fault.status()

@@ -9,7 +9,7 @@ use Rattle.cw_code.specs.lemmas.Slots.{not_in_first, whole_slots}
 use Rattle.cw_model.specs.declared.trap.Trap.TheVariants as trap
 use Rattle.cw_model.specs.declared.limits.TheConstants.{MOST_DEPTH}
 use Rattle.cw_model.specs.Ints.{Result, Value, Fails, natural}
-use Rattle.cw_model.specs.Loops.{loop_turns}
+use Rattle.cw_model.specs.Loops.{loop_iterations}
 use Rattle.cw_model.specs.declared.syntax.CallKind.{CallKind}
 use Rattle.cw_model.specs.declared.syntax.CallKind.TheVariants.{Plain, Spawned}
 use Rattle.cw_model.specs.Outcome.{Trace}
@@ -507,7 +507,7 @@ module _ (code : Code) (fits : Fits code) where
         let lead = subst (λ k. FlowsInto table (s.place + 1) (record shape { operands = shape.operands - k })) same l in
         subst (λ o. GoodTransition code fits (start s line passed o)) (sym f.is)
         (subst (λ o. GoodTransition code fits (on_arrays o (λ xs. on_range (arguments_of f.func s.operands)
-        (λ low high captured. looped s line passed f.func xs low captured (loop_turns low high xs))))) (sym given.1)
+        (λ low high captured. looped s line passed f.func xs low captured (loop_iterations low high xs))))) (sym given.1)
         (ranges f.func f.is f.many none_lent keeps given.0 given.2 there lead (arguments_of f.func s.operands)
         (arguments_count f.func (enough_so Plain f.func.params keeps)) (omega (arith, two, same))))
       where
@@ -554,8 +554,8 @@ module _ (code : Code) (fits : Fits code) where
             → nat_le f.params shape.operands ≡ true → (given : List (List ℤ)) → length given ≡ length (passed_by code c.passed)
             → AllThere (passed_by code c.passed) s.arrays
             → FlowsInto table (s.place + 1) (record shape { operands = shape.operands - f.params }) → (arguments : List ℤ) → length arguments ≡ f.params → 2 ≤ f.params
-            → GoodTransition code fits (on_range arguments (λ low high captured. looped s line (passed_by code c.passed) f given low captured (loop_turns low high given)))
+            → GoodTransition code fits (on_range arguments (λ low high captured. looped s line (passed_by code c.passed) f given low captured (loop_iterations low high given)))
         ranges f is many none_lent keeps given e there lead [] n two = absurd (omega (arith, n, two))
         ranges f is many none_lent keeps given e there lead (low ∷ []) n two = absurd (omega (arith, n, two))
         ranges f is many none_lent keeps given e there lead (low ∷ high ∷ captured) n two =
-            loops f is many none_lent keeps given e there lead low captured (omega (arith, n)) (loop_turns low high given)
+            loops f is many none_lent keeps given e there lead low captured (omega (arith, n)) (loop_iterations low high given)

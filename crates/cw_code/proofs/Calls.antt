@@ -6,27 +6,27 @@ use Rattle.cw_code.specs.Run.{Transition, On, Ends, Stops, Stuck, step}
 use Rattle.cw_code.specs.Jobs.{has_come, standing, Job, Effect, Ended, Joined, TrapIn, OverLimit, Memory, JobMeaning}
 use Rattle.cw_code.specs.Strands.{Strand, Going, Waits, Halted, outs_of, Turn, Goes, HandsOut, ComesBack, turn, goes_on, cost_of}
 use Rattle.cw_code.specs.Promises.{IsStrandOf}
-use Rattle.cw_code.specs.Steps.{Ran, finished, turned, went_on, advance, given_to, give, skip, take_back, WaitsFor, AdvanceKeeps, CallsKeep}
+use Rattle.cw_code.specs.Steps.{Ran, finished, turned, went_on, advance, given_to, give, skip, take_back, WaitsFor, AdvancePreservesJob, CallsPreserveJob}
 use Rattle.cw_code.proofs.Rests.{rest_not_ended}
 use Rattle.cw_code.proofs.StrandLaws.{starts, runs, falls, passes, wants_memory, gives, gives_over, gives_stop, drops, arrives, returns, stops}
 
 module _ (code : Code) (job : Job) where
-  advances : (strand : Strand) → IsStrandOf code job strand → AdvanceKeeps code job strand (advance code job strand)
+  advances : (strand : Strand) → IsStrandOf code job strand → AdvancePreservesJob code job strand (advance code job strand)
   advances (Waits s count outs) h = tt
   advances (Halted e []) h = stops code job e [] h
   advances (Halted e (out ∷ outs)) h = tt
   advances (Going s count outs) h = come (has_come job.extent code s) refl
     where
-      ends : (os : List Job) (e : Effect) → (os ≡ [] → JobMeaning code job e) → AdvanceKeeps code job (Going s count outs) (finished os e)
+      ends : (os : List Job) (e : Effect) → (os ≡ [] → JobMeaning code job e) → AdvancePreservesJob code job (Going s count outs) (finished os e)
       ends [] e k = k refl
       ends (out ∷ os) e k = tt
 
       moves : (w : Transition) → has_come job.extent code s ≡ false → step code s ≡ w → job.before + (count + 1) ≤ job.limit
-          → AdvanceKeeps code job (Going s count outs) (went_on (turn code s) s w job.limit job.before (count + 1) outs)
+          → AdvancePreservesJob code job (Going s count outs) (went_on (turn code s) s w job.limit job.before (count + 1) outs)
       moves (On s') c e le = by_turn (turn code s) (runs code job s s' count outs h c e le)
         where
           by_turn : (t : Turn) → IsStrandOf code job (goes_on t s s' job.limit job.before (count + 1) outs)
-              → AdvanceKeeps code job (Going s count outs) (turned t s s' job.limit job.before (count + 1) outs)
+              → AdvancePreservesJob code job (Going s count outs) (turned t s s' job.limit job.before (count + 1) outs)
           by_turn Goes k = (k, refl)
           by_turn (HandsOut target taken) k = (k, refl, le)
           by_turn ComesBack k = (k, refl)
@@ -35,12 +35,12 @@ module _ (code : Code) (job : Job) where
       moves Stuck c e le = tt
 
       test : (b : Bool) → has_come job.extent code s ≡ false → nat_lt job.limit (job.before + (count + 1)) ≡ b
-          → AdvanceKeeps code job (Going s count outs) (if b then Ran (Halted OverLimit outs) else went_on (turn code s) s (step code s) job.limit job.before (count + 1) outs)
+          → AdvancePreservesJob code job (Going s count outs) (if b then Ran (Halted OverLimit outs) else went_on (turn code s) s (step code s) job.limit job.before (count + 1) outs)
       test true c e = (passes code job s count outs h c (lt_of job.limit (job.before + (count + 1)) e), refl)
       test false c e = moves (step code s) c refl (not_lt_of job.limit (job.before + (count + 1)) e)
 
       come : (b : Bool) → has_come job.extent code s ≡ b
-          → AdvanceKeeps code job (Going s count outs) (if b then finished outs (Joined (standing s) s.trace count)
+          → AdvancePreservesJob code job (Going s count outs) (if b then finished outs (Joined (standing s) s.trace count)
           else (if nat_lt job.limit (job.before + (count + 1)) then Ran (Halted OverLimit outs) else went_on (turn code s) s (step code s) job.limit job.before (count + 1) outs))
       come true c = ends outs (Joined (standing s) s.trace count) (λ none. arrives code job s count outs h c)
       come false c = test (nat_lt job.limit (job.before + (count + 1))) c refl
@@ -79,7 +79,7 @@ module _ (code : Code) (job : Job) where
   takes_back_ok (Waits s count (out ∷ outs)) h = (h.0, h.1, h.2.1)
   takes_back_ok (Halted e outs) h = h
 
-pub calls_keep : (code : Code) → CallsKeep code
+pub calls_keep : (code : Code) → CallsPreserveJob code
 calls_keep code = record {
   starting = λ job le. starts code job le;
   advancing = λ job strand h. advances code job strand h;

@@ -7,14 +7,14 @@ use Rattle.cw_code.specs.declared.code.Func.{Func}
 use Rattle.cw_code.specs.declared.code.Loan.{Loan}
 use Rattle.cw_code.specs.Run.{Slots, Results, Readers, Taken, State, is_full, put_in, slot_taken, moved_out, and_array}
 use Rattle.cw_code.specs.Run.{arrays_in, reader, loaned, lent_in, parts_of, restored, and_result, given_back, given}
-use Rattle.cw_code.specs.Fits.{Shape, empty_rows, gone_rows, cleared, CoversEach, LieFrom}
+use Rattle.cw_code.specs.Fits.{Shape, empty_rows, gone_rows, cleared, CoversEach, AreLaidOutFrom}
 use Rattle.cw_code.specs.Good.{slots_in, ints_round, arrays_round, Holds, Good, FitSettles}
 use Rattle.cw_code.proofs.Slots.{covered_row, covered_empty, covered_gone, covered_cuts, slots_in_both}
 use Rattle.cw_code.proofs.Keeps.{AllThere, still_full, with_rows, with_settled, with_joined}
 use Rattle.cw_code.specs.lemmas.Lying.{lie_up}
 
 -- a place in consecutive functions
-pub lie_within : (from : ℕ) (fs : List Func) (to k : ℕ) (f : Func) → LieFrom from fs to → slice_get fs k ≡ Some f → f.end ≤ to
+pub lie_within : (from : ℕ) (fs : List Func) (to k : ℕ) (f : Func) → AreLaidOutFrom from fs to → slice_get fs k ≡ Some f → f.end ≤ to
 lie_within from [] to k f h e = cc
 lie_within from (g ∷ fs) to zero f h e = let same : g ≡ f = cc in omega (arith, lie_up g.end fs to h.2, ap (λ (x : Func). x.end) same)
 lie_within from (g ∷ fs) to (suc k) f h e = lie_within g.end fs to k f h.2 e

@@ -8,7 +8,7 @@ use Rattle.cw_code.specs.Code.{Code}
 use Rattle.cw_code.specs.Jobs.{Job, root_job, Effect, Memory, JobMeaning, Short}
 use Rattle.cw_code.specs.Strands.{Strand, Going, Waits, Halted, outs_of}
 use Rattle.cw_code.specs.Promises.{IsStrandOf}
-use Rattle.cw_code.specs.Steps.{started, give, skip, take_back, out_of_memory, WaitsFor, AdvanceKeeps}
+use Rattle.cw_code.specs.Steps.{started, give, skip, take_back, out_of_memory, WaitsFor, AdvancePreservesJob}
 use Rattle.cw_code.specs.Worlds.{Place, Undecided, Kept, Offered, Runs, Made, Settled, Spent, World, IsUnrun, effect_in, HasStopped, HasEnded, IsWaiting, placed, joined_by, Has, WorldStep, Run}
 use Rattle.cw_code.specs.Worlds.{Spawn, Offer, Inline, Begin, Skip, Resume, End, Settle, Give, Want, GiveUp, After, Now, Later, world_of, WorldsAreSerial, EffectsMean}
 use Rattle.cw_code.proofs.Calls.{calls_keep}
@@ -161,11 +161,11 @@ module _ (code : Code) where
   pub next_ok : (world next : World) → WorldStep code world next → WorldOk code world → WorldOk code next
   next_ok world next (Run _ i worker job strand new numbers has same) ok =
       let now = strand_in world i worker job strand numbers ok has in
-      let kept = subst (AdvanceKeeps code job strand) same ((calls_keep code).advancing job strand now.0) in
+      let kept = subst (AdvancePreservesJob code job strand) same ((calls_keep code).advancing job strand now.0) in
       place_ok world i job (Runs worker strand numbers) (Runs worker new numbers) ok has (kept.0, subst (λ l. Named world.jobs numbers l) (sym kept.1) now.1)
   next_ok world next (Spawn _ i worker job out strand new numbers has same) ok =
       let now = strand_in world i worker job strand numbers ok has in
-      let kept = subst (AdvanceKeeps code job strand) same ((calls_keep code).advancing job strand now.0) in
+      let kept = subst (AdvancePreservesJob code job strand) same ((calls_keep code).advancing job strand now.0) in
       let jobs = world.jobs ++ out ∷ [] in
       let named : Named jobs (length world.jobs ∷ numbers) (out ∷ outs_of strand) = (get_last world.jobs out, named_on world.jobs out numbers (outs_of strand) now.1) in
       set_ok (joined_by world out (Undecided worker)) i job (Runs worker new (length world.jobs ∷ numbers)) (add_ok world out (Undecided worker) ok kept.2)
@@ -182,7 +182,7 @@ module _ (code : Code) where
       (took_back world.jobs job worker n numbers strand ended (strand_in world i worker job strand (n ∷ numbers) ok has))
   next_ok world next (End _ i worker job strand numbers e has same) ok =
       let now = strand_in world i worker job strand numbers ok has in
-      place_ok world i job (Runs worker strand numbers) (Made worker e) ok has (subst (AdvanceKeeps code job strand) same ((calls_keep code).advancing job strand now.0))
+      place_ok world i job (Runs worker strand numbers) (Made worker e) ok has (subst (AdvancePreservesJob code job strand) same ((calls_keep code).advancing job strand now.0))
   next_ok world next (Settle _ i worker job e has) ok = place_ok world i job (Made worker e) (Settled e) ok has (ok.each i job (Made worker e) has)
   next_ok world next (Give _ i n worker job out strand numbers place e has waits has' is) ok =
       set_ok (placed world n Spent) i job (Runs worker (give job strand e) numbers) (spent_ok world n ok) has.job_is

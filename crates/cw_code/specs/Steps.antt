@@ -90,19 +90,19 @@ WaitsFor (Waits s count outs) out others = outs ≡ out ∷ others
 WaitsFor (Halted e outs) out others = outs ≡ out ∷ others
 
 -- the properties after an advance
-abbrev pub AdvanceKeeps : Code → Job → Strand → Advanced → Type 0
-AdvanceKeeps code job old (Ran new) = IsStrandOf code job new × (outs_of new ≡ outs_of old)
-AdvanceKeeps code job old (Handed out new) =
+abbrev pub AdvancePreservesJob : Code → Job → Strand → Advanced → Type 0
+AdvancePreservesJob code job old (Ran new) = IsStrandOf code job new × (outs_of new ≡ outs_of old)
+AdvancePreservesJob code job old (Handed out new) =
     IsStrandOf code job new × (outs_of new ≡ out ∷ outs_of old) × (out.before ≤ out.limit)
-AdvanceKeeps code job old AtSync = Unit {0}
-AdvanceKeeps code job old (Finished e) = JobMeaning code job e
-AdvanceKeeps code job old Unfit = Unit {0}
+AdvancePreservesJob code job old AtSync = Unit {0}
+AdvancePreservesJob code job old (Finished e) = JobMeaning code job e
+AdvancePreservesJob code job old Unfit = Unit {0}
 
 -- the operations on a strand preserve that it is a strand of its job, and its final effect means the job
-pub record CallsKeep (code : Code) : Type 0 where
+pub record CallsPreserveJob (code : Code) : Type 0 where
   pub starting : (job : Job) → job.before ≤ job.limit → IsStrandOf code job (started job)
   pub advancing : (job : Job) (strand : Strand) → IsStrandOf code job strand →
-      AdvanceKeeps code job strand (advance code job strand)
+      AdvancePreservesJob code job strand (advance code job strand)
   pub giving : (job : Job) (strand : Strand) (out : Job) (others : List Job) (e : Effect) → IsStrandOf code job strand →
       WaitsFor strand out others → JobMeaning code out e
       → IsStrandOf code job (give job strand e) × (outs_of (give job strand e) ≡ others)

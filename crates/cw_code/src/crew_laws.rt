@@ -5,7 +5,7 @@ ghost use Rattle.cw_code.specs.Costs.{CostsAreWork};
 ghost use Rattle.cw_code.specs.Events.{PlaysCome};
 ghost use Rattle.cw_code.specs.RestLaws.{Cut, Kept, RootsAreSerial, SchedulesAreSerial};
 ghost use Rattle.cw_code.specs.RestsStay.{RestsStayInside};
-ghost use Rattle.cw_code.specs.Steps.{CallsKeep};
+ghost use Rattle.cw_code.specs.Steps.{CallsPreserveJob};
 ghost use Rattle.cw_code.specs.Executions.{FailingExecutions, PrintingExecutions};
 ghost use Rattle.cw_code.specs.AmpleMemory.{MemoryRanOutBefore};
 ghost use Rattle.cw_code.specs.Worlds.{EffectsMean, NoneIsUnfit, OwnersAreSingle, WorldsAreSerial};
@@ -21,8 +21,8 @@ pub fn serial_run_is_cut_at_a_spawn()
 /// newest handed-out job, to skip that job, to take it back, and to run out of memory. The strand's final effect means
 /// its job.
 #[tactic(auto, using(crate::proofs::Calls::calls_keep))]
-pub fn calls_on_a_strand_keep_its_job()
-    ensures { (code : Code) → CallsKeep code }
+pub fn calls_preserve_strand_job()
+    ensures { (code : Code) → CallsPreserveJob code }
 {}
 
 /// States that, for all jobs that a strand hands out and all effects that it receives, in any order, an effect made for
@@ -91,7 +91,7 @@ pub fn what_is_played_can_come()
 
 /// States that the cost of an effect at the end of its job is the work of its tree.
 #[tactic(auto, using(crate::proofs::Costing::costs_are_work))]
-pub fn cost_is_the_work_that_is_shown()
+pub fn cost_is_the_work_of_the_effect()
     ensures { CostsAreWork }
 {}
 

@@ -36,7 +36,7 @@ plain_heads : (functions : List Function) → map head_of functions ≡ map (λ 
 plain_heads [] = refl
 plain_heads (f ∷ functions) = ap (λ heads. head_of f ∷ heads) (plain_heads functions)
 
-unparsed : (bytes : List ℕ) (ts : List Token) → Sources.HasTokens bytes ts → (f : Fault) → IsUnparsed bytes ts f → Sources.IsRefused bytes f
+unparsed : (bytes : List ℕ) (ts : List Token) → Sources.HasTokens bytes ts → (f : Fault) → IsUnparsed bytes ts f → Sources.IsRejected bytes f
 unparsed bytes ts has (fault.Size p) h = Sources.tokens ts has h
 unparsed bytes ts has (fault.Syntax p) h = record { tokens = ts; has_tokens = has; syntax = h }
 unparsed bytes ts has fault.Memory h = tt
@@ -47,27 +47,27 @@ module _ (bytes text : List ℕ) (ts slice : List Token) (e : text ≡ bytes) (s
   tokens_of : Sources.HasTokens bytes ts
   tokens_of = record { text = subst IsSourceText e valid; cut = subst (λ x. IsTokenCut x ts) e cut }
 
-  pub tree_refused : (f : Fault) → IsUnparsed text slice f → Sources.IsRefused bytes f
+  pub tree_refused : (f : Fault) → IsUnparsed text slice f → Sources.IsRejected bytes f
   tree_refused f h = unparsed bytes ts tokens_of f (subst (λ x. IsUnparsed x ts f) e (subst (λ x. IsUnparsed text x f) s h))
 
   pub source_of : (program : Program) → IsParsed text slice program → Sources.IsSourceOf bytes program
   source_of program tree =
       record { tokens = ts; has_tokens = tokens_of; parsed = subst (λ x. IsParsed x ts program) e (subst (λ x. IsParsed text x program) s tree) }
 
-pub types_refused : (bytes : List ℕ) (program : Program) → Sources.IsSourceOf bytes program → (f : Fault) → IsIllTyped program f → Sources.IsRefused bytes f
+pub types_refused : (bytes : List ℕ) (program : Program) → Sources.IsSourceOf bytes program → (f : Fault) → IsIllTyped program f → Sources.IsRejected bytes f
 types_refused bytes program source (fault.Size p) h = Sources.parts program source h
 types_refused bytes program source (fault.Types p) h = record { program = program; source = source; types = h }
 types_refused bytes program source fault.Memory h = tt
 types_refused bytes program source _ h = absurd h
 
 module _ (bytes : List ℕ) (program : Program) (source : Sources.IsSourceOf bytes program) (tree : Tree) (typed : IsTyped program tree) where
-  ownership_refused : (f : Fault) → BreaksOwnership program f → Sources.IsRefused bytes f
+  ownership_refused : (f : Fault) → BreaksOwnership program f → Sources.IsRejected bytes f
   ownership_refused (fault.Ownership p) h = record { program = program; source = source; within = typed.within; typed = typed.typed; least = h }
   ownership_refused fault.Memory h = tt
   ownership_refused _ h = absurd h
 
   -- a resolved tree that breaks ownership
-  pub tree_disowned : (f : Fault) → BreaksOwnership (program_of tree) f → Sources.IsRefused bytes f
+  pub tree_disowned : (f : Fault) → BreaksOwnership (program_of tree) f → Sources.IsRejected bytes f
   tree_disowned f h = ownership_refused f (subst (λ p. BreaksOwnership p f) typed.same h)
 
   module _ (other : Tree) (same : other ≡ tree) (owned : ownership_faults (program_of other) ≡ []) where
@@ -80,13 +80,13 @@ module _ (bytes : List ℕ) (program : Program) (source : Sources.IsSourceOf byt
     pub numbered : SitesAreNumbered → are_numbered 0 (call_sites (program_of other)) ≡ true
     numbered law = ap (λ p. are_numbered 0 (call_sites p)) is_program ∙ law bytes source.tokens program source.parsed.derived
 
-    loops_refused : (f : Fault) → WhyNotLowered program f → Sources.IsRefused bytes f
+    loops_refused : (f : Fault) → WhyNotLowered program f → Sources.IsRejected bytes f
     loops_refused (fault.Size p) h = Sources.loops program accepted h
     loops_refused fault.Memory h = tt
     loops_refused _ h = absurd h
 
     -- an accepted program that has too many loops
-    pub tree_has_many_loops : (f : Fault) → WhyNotLowered (program_of other) f → Sources.IsRefused bytes f
+    pub tree_has_many_loops : (f : Fault) → WhyNotLowered (program_of other) f → Sources.IsRejected bytes f
     tree_has_many_loops f h = loops_refused f (subst (λ p. WhyNotLowered p f) is_program h)
 
     pub source_like : DerivedIsSourceLike → is_source_like (program_of other) ≡ true
@@ -96,17 +96,17 @@ module _ (bytes : List ℕ) (program : Program) (source : Sources.IsSourceOf byt
       few : loop_faults program ≡ []
       few = sym (ap loop_faults is_program) ∙ few_here
 
-      code_refused : (f : Fault) → gen.IsRefusal program f → Sources.IsRefused bytes f
+      code_refused : (f : Fault) → gen.IsRejection program f → Sources.IsRejected bytes f
       code_refused (fault.Size p) h = Sources.code program accepted few h
       code_refused fault.Memory h = tt
       code_refused _ h = absurd h
 
       -- the code of a lowered tree that exceeds a limit
-      pub tree_too_large : (f : Fault) → gen.IsRefusal (program_of other) f → Sources.IsRefused bytes f
-      tree_too_large f h = code_refused f (subst (λ p. gen.IsRefusal p f) is_program h)
+      pub tree_too_large : (f : Fault) → gen.IsRejection (program_of other) f → Sources.IsRejected bytes f
+      tree_too_large f h = code_refused f (subst (λ p. gen.IsRejection p f) is_program h)
 
       -- generated code is well formed, so the verifier rejects it only if it is out of memory
-      pub not_unfit : (code : declared.Code) → gen.Generates (program_of other) (code_view code) → (f : Fault) → Fails (Fits (code_view code) → ⊥) f → Sources.IsRefused bytes f
+      pub not_unfit : (code : declared.Code) → gen.Generates (program_of other) (code_view code) → (f : Fault) → Fails (Fits (code_view code) → ⊥) f → Sources.IsRejected bytes f
       not_unfit code g fault.Code h = absurd (h g.fits)
       not_unfit code g fault.Memory h = tt
       not_unfit code g _ h = absurd h

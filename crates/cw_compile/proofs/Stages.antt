@@ -138,7 +138,7 @@ module _ (one_cut : HasOneCut) (no_cut : FaultsExcludeCuts) (one_kind : FaultsEx
   compiled : (p : Program) → sources.Compiles bytes p → Answer bytes (Ok p)
   compiled p h = accepted p h.accepted (goes tt h.loops (goes tt h.small refl))
 
-  lexical : (at : Place) → sources.IsLexicallyRefused bytes at.line → Answer bytes (Err (fault.Lexical at))
+  lexical : (at : Place) → sources.IsLexicallyRejected bytes at.line → Answer bytes (Err (fault.Lexical at))
   lexical at (sources.byte h) = goes tt h.short (stops at h)
   lexical at (sources.token valid h) = text valid (stops at h)
 
@@ -150,7 +150,7 @@ module _ (one_cut : HasOneCut) (no_cut : FaultsExcludeCuts) (one_kind : FaultsEx
   size at (sources.loops p given h) = accepted p given (stops at h)
   size at (sources.code p given few h) = accepted p given (goes tt few (stops at h))
 
-  refused : (f : Fault) → sources.IsRefused bytes f → (f ≡ fault.Memory) ⊎ Answer bytes (Err f)
+  refused : (f : Fault) → sources.IsRejected bytes f → (f ≡ fault.Memory) ⊎ Answer bytes (Err f)
   refused (fault.Lexical at) h = inr (lexical at h)
   refused (fault.Syntax at) h = inr (cut h.tokens h.has_tokens (goes tt h.syntax.short (stops at h.syntax.fault)))
   refused (fault.Types at) h = inr (tree h.program h.source (goes tt h.types.within (stops at h.types.least)))
@@ -165,10 +165,10 @@ module _ (one_cut : HasOneCut) (no_cut : FaultsExcludeCuts) (one_kind : FaultsEx
   err_is : (f g : Fault) → failed f ≡ failed g → f ≡ g
   err_is f g e = cc
 
-  pub compiled_apart : (p : Program) (f : Fault) → sources.Compiles bytes p → sources.IsRefused bytes f → f ≡ fault.Memory
+  pub compiled_apart : (p : Program) (f : Fault) → sources.Compiles bytes p → sources.IsRejected bytes f → f ≡ fault.Memory
   compiled_apart p f h k = elim (refused f k) [ inl e ↦ e | inr x ↦ absurd (not_both p f (answer_one (Ok p) (Err f) (compiled p h) x)) ]
 
-  pub one_refusal : (f g : Fault) → sources.IsRefused bytes f → sources.IsRefused bytes g → (f ≡ g) ⊎ (f ≡ fault.Memory) ⊎ (g ≡ fault.Memory)
+  pub one_refusal : (f g : Fault) → sources.IsRejected bytes f → sources.IsRejected bytes g → (f ≡ g) ⊎ (f ≡ fault.Memory) ⊎ (g ≡ fault.Memory)
   one_refusal f g h k = both (refused f h) (refused g k)
     where
       both : (f ≡ fault.Memory) ⊎ Answer bytes (Err f) → (g ≡ fault.Memory) ⊎ Answer bytes (Err g) → (f ≡ g) ⊎ (f ≡ fault.Memory) ⊎ (g ≡ fault.Memory)

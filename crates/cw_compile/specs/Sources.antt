@@ -38,18 +38,18 @@ pub record Compiles (bytes : List ℕ) (program : Program) : Type 0 where
   pub small : program_faults program ≡ []
 
 -- the bytes are no source text, or their first fault is a byte that starts no token or a number that is too large
-pub data IsLexicallyRefused (bytes : List ℕ) (line : ℕ) : Type 0 where
-  byte : IsNotAscii bytes line → IsLexicallyRefused bytes line
-  token : IsSourceText bytes → HasLexicalFault bytes line → IsLexicallyRefused bytes line
+pub data IsLexicallyRejected (bytes : List ℕ) (line : ℕ) : Type 0 where
+  byte : IsNotAscii bytes line → IsLexicallyRejected bytes line
+  token : IsSourceText bytes → HasLexicalFault bytes line → IsLexicallyRejected bytes line
 
 -- the bytes have tokens that exceed no limit and are no source; `line` is the line where a source cannot continue
-pub record IsSyntacticallyRefused (bytes : List ℕ) (line : ℕ) : Type 0 where
+pub record IsSyntacticallyRejected (bytes : List ℕ) (line : ℕ) : Type 0 where
   pub tokens : List Token
   pub has_tokens : HasTokens bytes tokens
   pub syntax : IsUnderivable bytes tokens line
 
 -- no limit is exceeded, and `line` is the least line that breaks a rule of names and types
-pub record IsTypeRefused (bytes : List ℕ) (line : ℕ) : Type 0 where
+pub record IsTypeRejected (bytes : List ℕ) (line : ℕ) : Type 0 where
   pub program : Program
   pub source : IsSourceOf bytes program
   pub types : IsFirstTypeFault program line
@@ -75,11 +75,11 @@ pub data PassesLimit (bytes : List ℕ) (line : ℕ) : Type 0 where
       → IsLeastLine (program_faults program) line → PassesLimit bytes line
 
 -- the condition that the bytes satisfy if compiling them returns this fault: the first stage that rejects them
-abbrev pub IsRefused : List ℕ → Fault → Type 0
-IsRefused bytes (fault.Lexical p) = IsLexicallyRefused bytes p.line
-IsRefused bytes (fault.Syntax p) = IsSyntacticallyRefused bytes p.line
-IsRefused bytes (fault.Types p) = IsTypeRefused bytes p.line
-IsRefused bytes (fault.Ownership p) = IsDisowned bytes p.line
-IsRefused bytes (fault.Size p) = PassesLimit bytes p.line
-IsRefused bytes fault.Memory = Unit {0}
-IsRefused bytes _ = ⊥
+abbrev pub IsRejected : List ℕ → Fault → Type 0
+IsRejected bytes (fault.Lexical p) = IsLexicallyRejected bytes p.line
+IsRejected bytes (fault.Syntax p) = IsSyntacticallyRejected bytes p.line
+IsRejected bytes (fault.Types p) = IsTypeRejected bytes p.line
+IsRejected bytes (fault.Ownership p) = IsDisowned bytes p.line
+IsRejected bytes (fault.Size p) = PassesLimit bytes p.line
+IsRejected bytes fault.Memory = Unit {0}
+IsRejected bytes _ = ⊥

@@ -5,7 +5,7 @@ ghost use Rattle.cw_code.specs.Heads.{head_view};
 ghost use Rattle.cw_tree.specs.ResolvedView.{function_of};
 ghost use Rattle.cw_code.specs.Code.{code_view};
 ghost use Rattle.cw_compile.specs.Compiled.{IsCompiled, IsMade, head_of};
-ghost use Rattle.cw_compile.specs.Sources.{IsRefused};
+ghost use Rattle.cw_compile.specs.Sources.{IsRejected};
 
 use cw_code::head::Head;
 use cw_gen::generate;
@@ -42,7 +42,7 @@ pub struct Compiled {
 /// loops, at the line of the 4,097th by place; and `Size` for the code, at line 1. `Memory` if memory runs out.
 pub fn compile(alloc: Global, bytes: &[u8]) -> Result<Verified, Fault>
     ensures { MatchResult result
-        (λ made. IsCompiled bytes.now (code_view made.code)) (IsRefused bytes.now) }
+        (λ made. IsCompiled bytes.now (code_view made.code)) (IsRejected bytes.now) }
 {
     match compile_with_heads(alloc, bytes) {
         Ok(made) => Ok(made.code),
@@ -56,7 +56,7 @@ pub fn compile(alloc: Global, bytes: &[u8]) -> Result<Verified, Fault>
 ///
 /// Returns the faults of `compile`.
 pub fn compile_with_heads(alloc: Global, bytes: &[u8]) -> Result<Compiled, Fault>
-    ensures { MatchResult result (IsMade bytes.now) (IsRefused bytes.now) }
+    ensures { MatchResult result (IsMade bytes.now) (IsRejected bytes.now) }
 {
     derived_sites_are_numbered();
     derived_is_source_like();

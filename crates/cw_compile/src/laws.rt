@@ -18,8 +18,8 @@ pub fn one_answer()
     ensures refused { HaveOneRefusal }
 {
     cw_lex::laws::one_cut();
-    cw_lex::laws::no_cut_beside_a_fault();
+    cw_lex::laws::no_cut_with_a_fault();
     cw_lex::laws::one_fault();
     cw_parse::laws::one_tree();
-    cw_parse::laws::no_tree_beside_a_fault();
+    cw_parse::laws::no_tree_with_a_fault();
 }

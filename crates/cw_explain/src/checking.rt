@@ -10,7 +10,7 @@ use crate::explaining::MOST_BYTES;
 use crate::hinting::{closed_return, hint_in, near_main};
 use crate::listing::{Listing, Spot};
 use crate::others::Named;
-use crate::refusals::{OfOwnership, OfTypes, Refusal, Refusals};
+use crate::rejections::{OfOwnership, OfTypes, Rejection, Rejections};
 use crate::repairs::{Repairs, add_line_feeds};
 use crate::syntax::Outline;
 use crate::word::Word;
@@ -331,10 +331,10 @@ fn spot_of(outline: &Outline<'_>, line: u32, name: Word<'_>, other: Option<u32>)
 }
 
 // Adds an error of names, types or ownership.
-fn add_refusal(
+fn add_rejection(
     listing: &mut Listing,
     outline: &Outline<'_>,
-    refusal: &Refusal<'_>,
+    refusal: &Rejection<'_>,
 ) -> Result<(), Fault> {
     if !listing.takes() {
         return Ok(());
@@ -367,7 +367,7 @@ fn add_types(
             lines.push(at.line)?;
             if !follows(outline, &at.reason) {
                 if let Some(refusal) = told.at(place) {
-                    add_refusal(listing, outline, &refusal)?;
+                    add_rejection(listing, outline, &refusal)?;
                     if is_first {
                         add_hint(alloc, listing, file, outline, at)?;
                     }
@@ -401,7 +401,7 @@ pub fn add_ownership(
     listing.begin();
     for place in 0..MOST_RECORDED {
         if let Some(refusal) = told.at(place) {
-            add_refusal(listing, outline, &refusal)?;
+            add_rejection(listing, outline, &refusal)?;
         }
     }
     Ok(())

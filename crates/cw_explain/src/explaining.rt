@@ -32,7 +32,7 @@ const MOST_TOKENS: usize = 8_192;
 
 /// A source that is rejected, with the words that it was run with.
 #[derive(Clone, Copy)]
-pub struct Refused<'a> {
+pub struct RejectedSource<'a> {
     /// The path of the source; empty for standard input.
     pub file: &'a str,
     /// The bytes that were read from it.
@@ -53,7 +53,7 @@ pub struct Subject<'a> {
     pub line: u32,
 }
 
-impl<'a> Refused<'a> {
+impl<'a> RejectedSource<'a> {
     // A line of it.
     fn at(&self, line: u32) -> Subject<'a> {
         Subject {
@@ -76,7 +76,11 @@ impl<'a> Refused<'a> {
 /// # Errors
 ///
 /// `Memory` if memory runs out.
-pub fn explain(alloc: Global, refused: &Refused<'_>, fault: &Fault) -> Result<String, Fault> {
+pub fn explain(
+    alloc: Global,
+    refused: &RejectedSource<'_>,
+    fault: &Fault,
+) -> Result<String, Fault> {
     let mut out = String::new(alloc);
     add_reason(alloc, &mut out, refused, fault)?;
     Ok(out)
@@ -86,7 +90,7 @@ pub fn explain(alloc: Global, refused: &Refused<'_>, fault: &Fault) -> Result<St
 fn add_reason(
     alloc: Global,
     out: &mut String,
-    refused: &Refused<'_>,
+    refused: &RejectedSource<'_>,
     fault: &Fault,
 ) -> Result<(), Fault> {
     match fault {
@@ -140,7 +144,11 @@ fn of_trap(
 }
 
 // Explains a wrong number of arguments of main.
-fn of_arguments(alloc: Global, out: &mut String, refused: &Refused<'_>) -> Result<(), Fault> {
+fn of_arguments(
+    alloc: Global,
+    out: &mut String,
+    refused: &RejectedSource<'_>,
+) -> Result<(), Fault> {
     let (_source, tokens) = tokens_of(alloc, refused.bytes)?;
     if let Some((count, line)) = parameters_of_main(refused.bytes, tokens.as_slice()) {
         let given = refused.args;
@@ -158,7 +166,7 @@ fn of_arguments(alloc: Global, out: &mut String, refused: &Refused<'_>) -> Resul
 fn of_source(
     alloc: Global,
     out: &mut String,
-    refused: &Refused<'_>,
+    refused: &RejectedSource<'_>,
     line: Option<u32>,
 ) -> Result<(), Fault> {
     let bytes = refused.bytes;
@@ -177,7 +185,7 @@ fn of_source(
 fn add_scanned(
     alloc: Global,
     listing: &mut Listing,
-    refused: &Refused<'_>,
+    refused: &RejectedSource<'_>,
     scan: &Scan,
 ) -> Result<(), Fault> {
     let bytes = refused.bytes;
@@ -282,7 +290,7 @@ fn add_tokens<'a>(
 fn of_program(
     alloc: Global,
     out: &mut String,
-    refused: &Refused<'_>,
+    refused: &RejectedSource<'_>,
     is_of_types: bool,
 ) -> Result<(), Fault> {
     let bytes = refused.bytes;
@@ -355,7 +363,12 @@ fn typed_until(item: &Item, tokens: &[Token], all: &[Bad], next: usize) -> (usiz
 }
 
 // Explains a limit: of the bytes, a name, the tokens, the program's parts, and its code, in this order.
-fn of_size(alloc: Global, out: &mut String, refused: &Refused<'_>, line: u32) -> Result<(), Fault> {
+fn of_size(
+    alloc: Global,
+    out: &mut String,
+    refused: &RejectedSource<'_>,
+    line: u32,
+) -> Result<(), Fault> {
     let count = refused.bytes.len();
     if count > MOST_SOURCE_BYTES {
         add_place(out, Named { path: refused.file }, 1)?;

@@ -19,7 +19,7 @@ mod near;
 mod others;
 mod owning;
 mod phrase;
-mod refusals;
+mod rejections;
 mod repairs;
 mod scan;
 mod shortened;
@@ -32,7 +32,7 @@ mod unparsed;
 mod word;
 mod words;
 
-pub use explaining::{Refused, explain};
+pub use explaining::{RejectedSource, explain};
 pub use habits::Row;
 pub use others::{Named, explain_unread};
 pub use tables::{all_bytes, all_names, all_rows};

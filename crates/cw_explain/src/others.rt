@@ -1,7 +1,7 @@
 //! Texts for faults of a run, and for sources that cannot be read.
 
 use crate::around::word_of;
-use crate::explaining::Refused;
+use crate::explaining::RejectedSource;
 use crate::word::is_printable;
 use cw_model::limits::MOST_LIMIT;
 use cw_model::token::{Kind, Token};
@@ -39,7 +39,7 @@ fn printable(byte: u8) -> u8 {
 }
 
 // Adds why a run has a fault without a line; nothing if memory ran out or the verifier rejected code.
-pub fn of_run(out: &mut String, refused: &Refused<'_>, fault: &Fault) -> Result<(), Fault> {
+pub fn of_run(out: &mut String, refused: &RejectedSource<'_>, fault: &Fault) -> Result<(), Fault> {
     let file = Named { path: refused.file };
     match fault {
         Fault::OverLimit => {

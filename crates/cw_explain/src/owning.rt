@@ -15,7 +15,7 @@ const PARTS: &str =
 /// Returns the other line that matters, if there is one.
 pub fn other_line(reason: &Disowned<'_>) -> Option<u32> {
     match reason {
-        Disowned::Held(_, _, _, Some(start)) | Disowned::EndsHeld(_, _, Some(start)) => {
+        Disowned::Restrictions(_, _, _, Some(start)) | Disowned::EndsHeld(_, _, Some(start)) => {
             Some(start.line)
         }
         Disowned::OuterWritten(_, head)
@@ -28,7 +28,7 @@ pub fn other_line(reason: &Disowned<'_>) -> Option<u32> {
 /// Returns the rule that a line of a text breaks, in words.
 pub fn phrase_of<'a>(text: &Text<'_>, line: u32, reason: &'a Disowned<'_>) -> Phrase<'a> {
     match reason {
-        Disowned::Held(used, touch, holder, since) => {
+        Disowned::Restrictions(used, touch, holder, since) => {
             let name = name_of(used);
             if matches!(touch, Touch::Read) && text.is_length(line, name, None) {
                 return length(text, name, *holder, line, *since);

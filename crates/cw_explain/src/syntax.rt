@@ -353,11 +353,11 @@ impl<'a> Traversal<'a> {
     // statements outside of functions to the first of them.
     fn is_known(&mut self, around: &Around<'_>, rejected: &Rejected) -> bool {
         if self.is_first {
-            self.note_outside(around, rejected);
+            self.record_outside(around, rejected);
             return false;
         }
         let is_outside = self.outside == rejected.first && !around.is_inside;
-        self.note_outside(around, rejected);
+        self.record_outside(around, rejected);
         is_outside
             || around.is_like("while", "", ";")
             || around.is_like("case", "", "")
@@ -365,7 +365,7 @@ impl<'a> Traversal<'a> {
     }
 
     // Notes where a rejected statement outside of functions ends.
-    fn note_outside(&mut self, around: &Around<'_>, rejected: &Rejected) {
+    fn record_outside(&mut self, around: &Around<'_>, rejected: &Rejected) {
         let kind = self
             .outline
             .tokens

@@ -32,7 +32,7 @@ pub fn trapped(code: Trap, multiplies: bool) -> Phrase<'static> {
             "the length of an array is below 0 or above @1: use a smaller one",
             MOST_ELEMENTS,
         ),
-        Trap::TooManyTurns => {
+        Trap::TooManyIterations => {
             Phrase::numbered(
                 "a cilk_for has more than @1 iterations: divide its range",
                 MOST_TURNS,

@@ -23,7 +23,7 @@ use Rattle.cw_freed.specs.declared.meter.Part.{Part}
 use Rattle.cw_freed.specs.declared.paths.Paths.{Paths}
 use Rattle.cw_freed.specs.FreedRuns.{unless, freed_events, freed_open}
 use Rattle.cw_freed.specs.Paths.{SpawnsBoth, EndsBoth, JoinsBoth, ReadsBoth, TracksRun}
-use Rattle.cw_freed.specs.Freeing.{spawned_behind, IsKept, AreKept, counted_at, CountsIn, FreesIn, BeginsChild, BeginsHalf, BeginsCall, BeginsQuiet, Ends}
+use Rattle.cw_freed.specs.Freeing.{spawned_after_part, IsKept, AreKept, counted_at, CountsIn, FreesIn, BeginsChild, BeginsHalf, BeginsCall, BeginsQuiet, Ends}
 use Rattle.cw_freed.specs.Freeing.{Returns, Syncs, InstructionsNeedNoCall, Settles, Stacks, JoinsBlock, ClosesPart, Leaves, Reads}
 use Rattle.cw_freed.proofs.FreedRuns.{unless-none, unless_within, unless-sum, freed-append, freed_spawned, freed_closed, freed_regrouped}
 use Rattle.cw_freed.proofs.Runs.{both_fit, run_ticked, run_begun, run_ended, run_forked, run_child_ended, run_joined, run_unjoined, run_joined_at_end}
@@ -40,11 +40,11 @@ counted_now count m e =
     let g = ap (λ (k : ℕ). unless m.free k) f ∙ unless-none m.free in omega (arith, g)
 
 -- the enclosing block after the end of a part
-behind_is : (child out : Bool) (t : Tree) → spawned_after out (part_of child t) ≡ spawned_behind child out
+behind_is : (child out : Bool) (t : Tree) → spawned_after out (part_of child t) ≡ spawned_after_part child out
 behind_is true out t = refl
 behind_is false out t = refl
 
-spawned_closed : (o : Open) (es : List Event) → has_spawned (closed o es) ≡ spawned_behind o.spawned (has_spawned o.outer)
+spawned_closed : (o : Open) (es : List Event) → has_spawned (closed o es) ≡ spawned_after_part o.spawned (has_spawned o.outer)
 spawned_closed o es = spawned_append false o.outer (event_of o es ∷ []) ∙ behind_is o.spawned (has_spawned o.outer) (marked o.mark (tree_of es))
 
 kept_pushed : (frees : ℕ → Bool) (o : Open) (os : List Open) (p : Part) (old new : List Part) → new ≡ old ++ p ∷ [] → IsKept frees o os p
@@ -283,7 +283,7 @@ module _ (frees : ℕ → Bool) (burden : Burden) where
           noted = h.noted;
           counted = h.counted;
           free = h.free ∙ ap (λ (x : Open). frees (inside x.mark (here_in 0 os))) first ∙ sym (ap (λ (x : List Open). frees (here_in 0 x)) rest);
-          spawned = none ∙ sym (spawned_closed o es ∙ ap (λ (x : Open). spawned_behind x.spawned (has_spawned x.outer)) first);
+          spawned = none ∙ sym (spawned_closed o es ∙ ap (λ (x : Open). spawned_after_part x.spawned (has_spawned x.outer)) first);
           run = ended_run count (counted_at count m) (counted_at count m) m.paths m.paths refl refl
               (run_ended burden count (counted_at count m) freed_part (freed_open frees os) inner m.paths place (joined_inner m none h.spawned) h.run);
         }

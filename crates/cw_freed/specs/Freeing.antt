@@ -16,14 +16,14 @@ use Rattle.cw_freed.specs.FreedRuns.{unless, freed_events, freed_open}
 use Rattle.cw_freed.specs.Paths.{HaveRoom, TracksRun}
 
 -- whether the enclosing block has spawned after the end of a part
-abbrev pub spawned_behind : (child spawned : Bool) → Bool
-spawned_behind true spawned = true
-spawned_behind false spawned = spawned
+abbrev pub spawned_after_part : (child spawned : Bool) → Bool
+spawned_after_part true spawned = true
+spawned_after_part false spawned = spawned
 
 -- the meter's entry for an open part with these enclosing parts
 pub record IsKept (frees : ℕ → Bool) (o : Open) (os : List Open) (p : Part) : Type 0 where
   pub child : p.child ≡ o.spawned
-  pub spawned : p.spawned ≡ spawned_behind o.spawned (has_spawned o.outer)
+  pub spawned : p.spawned ≡ spawned_after_part o.spawned (has_spawned o.outer)
   pub free : p.free ≡ frees (here_in 0 os)
 
 -- the meter's entries for the open parts, the innermost first; the run's own call of `main` has none

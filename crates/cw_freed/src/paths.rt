@@ -21,7 +21,7 @@ pub(crate) struct Paths {
 
 // Begins a spawned part on one path; `first` says that its block has not spawned since its last join.
 #[inline(always)]
-fn spawn_beside(path: &mut BurdenedPath, counted: u64, first: bool) -> Result<(), AllocError>
+fn spawn_on_path(path: &mut BurdenedPath, counted: u64, first: bool) -> Result<(), AllocError>
     ensures { OnOk result (SpawnsLate path.old path.new counted first) }
 {
     path.note(counted);
@@ -31,7 +31,7 @@ fn spawn_beside(path: &mut BurdenedPath, counted: u64, first: bool) -> Result<()
 
 // Begins the first spawned part of a block since its last join on one path. There must be room for it.
 #[inline(always)]
-fn spawn_first_beside(path: &mut BurdenedPath, counted: u64)
+fn spawn_first_on_path(path: &mut BurdenedPath, counted: u64)
     requires { HasRoomForBlock path.old }
     ensures { SpawnsLate path.old path.new counted true }
 {
@@ -41,7 +41,7 @@ fn spawn_first_beside(path: &mut BurdenedPath, counted: u64)
 
 // Ends the current spawned part, whose block has joined, on one path.
 #[inline(always)]
-fn end_beside(path: &mut BurdenedPath, counted: u64, burden: Burden)
+fn end_on_path(path: &mut BurdenedPath, counted: u64, burden: Burden)
     ensures { EndsLate path.old path.new counted burden }
 {
     path.note(counted);
@@ -50,7 +50,7 @@ fn end_beside(path: &mut BurdenedPath, counted: u64, burden: Burden)
 
 // Joins a block that has spawned since its last join, on one path.
 #[inline(always)]
-fn join_beside(path: &mut BurdenedPath, counted: u64)
+fn join_on_path(path: &mut BurdenedPath, counted: u64)
     ensures { JoinsLate path.old path.new counted }
 {
     path.note(counted);
@@ -78,8 +78,8 @@ impl Paths {
     pub fn spawn(&mut self, counted: u64, first: bool) -> Result<(), AllocError>
         ensures { OnOk result (SpawnsBoth self.old self.new counted first) }
     {
-        spawn_beside(&mut self.plain, counted, first)?;
-        spawn_beside(&mut self.burdened, counted, first)?;
+        spawn_on_path(&mut self.plain, counted, first)?;
+        spawn_on_path(&mut self.burdened, counted, first)?;
         Ok(())
     }
 
@@ -97,8 +97,8 @@ impl Paths {
         requires { HaveRoom self.old }
         ensures { SpawnsBoth self.old self.new counted true }
     {
-        spawn_first_beside(&mut self.plain, counted);
-        spawn_first_beside(&mut self.burdened, counted);
+        spawn_first_on_path(&mut self.plain, counted);
+        spawn_first_on_path(&mut self.burdened, counted);
     }
 
     /// Ends the current spawned part, whose block has joined. It is out of line, so that the loop of a run has room
@@ -111,8 +111,8 @@ impl Paths {
             charge: 0,
             edges: Edges::Spawn,
         };
-        end_beside(&mut self.plain, counted, free);
-        end_beside(&mut self.burdened, counted, self.burden);
+        end_on_path(&mut self.plain, counted, free);
+        end_on_path(&mut self.burdened, counted, self.burden);
     }
 
     /// Joins a block that has spawned since its last join.
@@ -120,8 +120,8 @@ impl Paths {
     pub fn join(&mut self, counted: u64)
         ensures { JoinsBoth self.old self.new counted }
     {
-        join_beside(&mut self.plain, counted);
-        join_beside(&mut self.burdened, counted);
+        join_on_path(&mut self.plain, counted);
+        join_on_path(&mut self.burdened, counted);
     }
 
     /// Returns the weights of the heaviest paths without and with charges, if no part is open and the block has

@@ -57,7 +57,7 @@ static FAULTS: &[(Brief, u8, u8, &str)] = &[
     (Brief::Trap(Trap::DivisionByZero), 8, 3, "trap 2 line 13"),
     (Brief::Trap(Trap::OutOfBounds), 8, 3, "trap 3 line 13"),
     (Brief::Trap(Trap::BadLength), 8, 3, "trap 4 line 13"),
-    (Brief::Trap(Trap::TooManyTurns), 8, 3, "trap 5 line 13"),
+    (Brief::Trap(Trap::TooManyIterations), 8, 3, "trap 5 line 13"),
     (Brief::Trap(Trap::TooDeep), 8, 3, "trap 6 line 13"),
     (Brief::Memory, 9, 6, "memory"),
     (Brief::Write, 10, 7, "write failed"),

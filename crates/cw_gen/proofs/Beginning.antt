@@ -33,7 +33,7 @@ use Rattle.cw_gen.proofs.Stores.{Store, Outside, array_waits, Agrees, Fills, loa
 use Rattle.cw_gen.proofs.Passing.{slots_for, all_usable, own_slots, arrays_found}
 use Rattle.cw_gen.proofs.Codes.{arguments_are, here}
 use Rattle.cw_gen.proofs.Texts.{expr_code, stmt_code, Compiled}
-use Rattle.cw_model.specs.Loops.{loop_turns}
+use Rattle.cw_model.specs.Loops.{loop_iterations}
 use Rattle.cw_gen.proofs.Steps.{one, pays, does}
 use Rattle.cw_gen.proofs.Values.{expr_runs}
 use Rattle.cw_gen.proofs.Simple.{Onwards}
@@ -87,7 +87,7 @@ module _ (code : Code) (fs : List Function) (lists : Lists) (marks : Marks) (dep
       AllWritable marks locals.arrays taken' over → differ over ≡ true → Agrees locals taken' frame store outer → Fills marks store size → left ≤ bound →
       Onwards code marks depth around locals taken' (pc + 1) outer size left next →
       steps code left (at around pc (reverse (low ∷ high ∷ map (int_of frame) captured)) store u)
-      ≡ resume u (then_do (pay_for (and_then (Gives (pos 0) 0) (λ v. loop_turns low high (map (array_of frame) over))) line left)
+      ≡ resume u (then_do (pay_for (and_then (Gives (pos 0) 0) (λ v. loop_iterations low high (map (array_of frame) over))) line left)
       (λ n. turns_known (function_named name fs) captured over line frame low n)) next
   unfolding hands_of_loop
   start_runs around locals taken' level first line pc size name captured over fn low high store outer frame u left next shallow has found passed_is
@@ -104,7 +104,7 @@ module _ (code : Code) (fs : List Function) (lists : Lists) (marks : Marks) (dep
       let none : Readers = [] in
       let arrays = map (λ a. array_of frame a) over in
       let outs = parts_of (natural low) passed arrays in
-      let r = loop_turns low high arrays in
+      let r = loop_iterations low high arrays in
       let n : fn.params ≡ length vs = compiled.params ∙ takes.ints ∙ ap (λ k. suc (suc k)) (sym (length-map captured (int_of frame))) in
       let many : length (reverse vs) ≡ fn.params = length-reverse vs ∙ sym n in
       let next' : ℤ → ℕ → Trace → RunOutcome = λ v l u'. resume u' (turns_known f captured over line frame low v l) next in
@@ -114,10 +114,10 @@ module _ (code : Code) (fs : List Function) (lists : Lists) (marks : Marks) (dep
       ap (start s line (passed_by code c.passed)) found
       ∙ ap (λ p. start s line p (Some fn)) passed_is
       ∙ ap (λ o. on_arrays o (λ given. on_range (arguments_of fn (reverse vs))
-      (λ lo hi along. looped s line numbers fn given lo along (loop_turns lo hi given))))
+      (λ lo hi along. looped s line numbers fn given lo along (loop_iterations lo hi given))))
       (in_owned marks passed store.arrays own ∙ arrays_found locals.arrays taken' frame.arrays store.arrays
       (store.arrived ∷ array_waits outer) over agrees.arrays (all_usable marks locals.arrays taken' over us) apart)
-      ∙ ap (λ ws. on_range ws (λ lo hi along. looped s line numbers fn arrays lo along (loop_turns lo hi arrays))) (arguments_are fn vs n) in
+      ∙ ap (λ ws. on_range ws (λ lo hi along. looped s line numbers fn arrays lo along (loop_iterations lo hi arrays))) (arguments_are fn vs n) in
       does code s line r i left next' go has
       (λ v is.
       let hands = hands_of_loop code fs lists marks locals taken' frame f fn captured over low v compiled takes us apart in
@@ -167,7 +167,7 @@ module _ (code : Code) (fs : List Function) (lists : Lists) (marks : Marks) (dep
       let place : pc + length cf + length ct + length captured + 1 ≡ pc + length (cf ++ (ct ++ (cl ++ i ∷ []))) =
       omega (arith, n_loads, length-append cf (ct ++ (cl ++ i ∷ [])), length-append ct (cl ++ i ∷ []), length-append cl (i ∷ [])) in
       let turned : (lo hi : ℤ) → ℕ → Outcome Completion = λ lo hi l. then_do
-      (pay_for (and_then (Gives (pos 0) 0) (λ v. loop_turns lo hi (map (array_of frame) over))) line l) (λ n. turns_known f captured over line frame lo n) in
+      (pay_for (and_then (Gives (pos 0) 0) (λ v. loop_iterations lo hi (map (array_of frame) over))) line l) (λ n. turns_known f captured over line frame lo n) in
       let loaded : (lo hi : ℤ) → ℕ → Outcome Completion = λ lo hi l. then_do (pay (length captured) l) (λ _. turned lo hi) in
       expr_runs code marks depth around locals taken' from line pc [] store outer frame t left (λ lo l u. resume u (then_do (pay_for (evaluate to frame) line l) (λ hi. loaded lo hi)) next)
       (has_front code.instrs pc cf (ct ++ (cl ++ i ∷ [])) has) from_fine agrees

@@ -18,7 +18,7 @@ use Rattle.cw_loops.specs.Slotted.{slotted_block, slotted_function, lowered_list
 use Rattle.cw_code.specs.declared.code.Func.{Func}
 use Rattle.cw_code.specs.declared.code.Instr.{Instr}
 use Rattle.cw_code.specs.Code.{Code, reducer_names}
-use Rattle.cw_code.specs.Fits.{gives_value, array_params_of, readers_of, are_apart, names_well, Shape, first_shape, FlowsInto, FitsFunc, LieFrom, Fits}
+use Rattle.cw_code.specs.Fits.{gives_value, array_params_of, readers_of, are_apart, names_well, Shape, first_shape, FlowsInto, FitsFunc, AreLaidOutFrom, Fits}
 use Rattle.cw_gen.specs.Emit.{Tables, first_list, most_jump, arrays_in_block, emitted_end, emitted_func, emitted_instrs, emitted_funcs}
 use Rattle.cw_gen.proofs.CodedReducers.{names_kept}
 use Rattle.cw_gen.proofs.Codes.{main_locals}
@@ -262,7 +262,7 @@ module _ (code : Code) (fs : List Function) (lists : Lists) (small : length code
 
   -- the code of consecutive functions is well formed
   record RowFits (start : ℕ) (gs : List Function) : Type 0 where
-    pub lie : LieFrom start (emitted_funcs first start (map (slotted_function lists) gs)) (start + length (emitted_instrs first (map (slotted_function lists) gs)))
+    pub lie : AreLaidOutFrom start (emitted_funcs first start (map (slotted_function lists) gs)) (start + length (emitted_instrs first (map (slotted_function lists) gs)))
     pub each : (k : ℕ) (f : Func) → slice_get (emitted_funcs first start (map (slotted_function lists) gs)) k ≡ Some f → FitsFunc code f
 
   row_fits : (pre : List Instr) (gs : List Function) → code.instrs ≡ pre ++ emitted_instrs first (map (slotted_function lists) gs)
@@ -280,7 +280,7 @@ module _ (code : Code) (fs : List Function) (lists : Lists) (small : length code
         lie = (
           refl,
           not_empty g (length pre) fine.0 stands_here few.0,
-          subst (λ m. LieFrom (length pre + length here) (emitted_funcs first (length pre + length here) (map (slotted_function lists) gs)) m) whole more'.lie,
+          subst (λ m. AreLaidOutFrom (length pre + length here) (emitted_funcs first (length pre + length here) (map (slotted_function lists) gs)) m) whole more'.lie,
         );
         each = λ k f e'. pick k f e' (function_fits g (length pre) fine.0 stands_here few.0) more'.each;
       }
@@ -312,6 +312,6 @@ generated_fits program is_main limits small least functions fine apart =
       reads_none = omega (arith, ap readers_of at, entry.2.readers, (main_locals main.params fine.ints).1);
       reducers = ap are_apart (names_kept program.reducers) ∙ fine.reducers;
       tags = apart;
-      lie = subst (λ m. LieFrom 0 code.funcs m) none_before all.lie;
+      lie = subst (λ m. AreLaidOutFrom 0 code.funcs m) none_before all.lie;
       each = all.each;
     }

@@ -38,10 +38,10 @@ pub record Generates (program : Program) (code : Code) : Type 0 where
   pub small : program_faults program ≡ []
 
 -- the reason why there is no code: the program is too large, or memory ran out
-abbrev pub IsRefusal : Program → Fault → Type 0
-IsRefusal program (fault.Size place) = IsLeastLine (program_faults program) place.line
-IsRefusal program fault.Memory = Unit {0}
-IsRefusal program _ = ⊥
+abbrev pub IsRejection : Program → Fault → Type 0
+IsRejection program (fault.Size place) = IsLeastLine (program_faults program) place.line
+IsRejection program fault.Memory = Unit {0}
+IsRejection program _ = ⊥
 
 -- the source of a lowered program
 abbrev pub source_of : Core → Program
@@ -49,4 +49,4 @@ source_of core = program_of core.source.typed.tree
 
 -- the result is the code of the program, or a reason for its rejection
 abbrev pub Answers : Program → Result made_code.Code Fault → Type 0
-Answers program r = MatchResult r (λ code. Generates program (code_view code)) (IsRefusal program)
+Answers program r = MatchResult r (λ code. Generates program (code_view code)) (IsRejection program)

@@ -22,8 +22,8 @@ use Rattle.cw_greedy.specs.declared.recorder.Part.{Part}
 use Rattle.cw_greedy.specs.declared.recorder.Recorder.{Recorder}
 use Rattle.cw_greedy.specs.Merging.{onto, Same, to_join}
 use Rattle.cw_greedy.specs.Normal.{AreInNormalForm, AreOpenApart, AreApart, IsChild}
-use Rattle.cw_greedy.specs.Recording.{opening, ending, ending_in, codes_in, IsOfKind, out_behind, AreParts, Keeps, IsFromMain, RecordsIn, IsOpen, IsQuiet, BeginsChild, IsPart, out_in}
-use Rattle.cw_greedy.specs.Recording.{BeginsCall, BeginsQuiet, Ends, Returns, Syncs, InstructionsNeedNoCall, Rests, Notes, Stacks, Joins, Closes, IsKept, Reads}
+use Rattle.cw_greedy.specs.Recording.{opening, ending, ending_in, codes_in, IsOfKind, out_after_part, AreParts, Keeps, IsFromMain, RecordsIn, IsOpen, IsQuiet, BeginsChild, IsPart, out_in}
+use Rattle.cw_greedy.specs.Recording.{BeginsCall, BeginsQuiet, Ends, Returns, Syncs, InstructionsNeedNoCall, Rests, RecordsUpTo, Stacks, Joins, Closes, IsKept, Reads}
 use Rattle.cw_greedy.proofs.Merged.{onto-append, same_merged, nothing_behind}
 use Rattle.cw_greedy.proofs.Normals.{append_apart, ticked_apart, synced_apart, call_apart, block_apart, tree_followed, marked_child}
 use Rattle.cw_greedy.proofs.Recordings.{same_cuts, keeps_as, keeps_later, keeps_cut, keeps_noted, keeps_followed, out_more, out_already, out_still, codes_rested, codes_ticked, spawned_ticked}
@@ -31,7 +31,7 @@ use Rattle.cw_greedy.proofs.Recordings.{spawned_synced, codes_begun, codes_synce
 
 -- the instructions up to a count are recorded
 pub noted_now : (old new : Recorder) (count : ℕ) → new.noted ≡ count → new.kept ≡ followed old.kept (Ok (Instructions (count - old.noted) ∷ []))
-    → new.out ≡ old.out → new.parts.items ≡ old.parts.items → Notes old new count []
+    → new.out ≡ old.out → new.parts.items ≡ old.parts.items → RecordsUpTo old new count []
 noted_now old new count n k o p = record {
   noted = λ le. n;
   keeps = λ from before lo hi h.
@@ -43,7 +43,7 @@ noted_now old new count n k o p = record {
   parts = p;
 }
 
-pub noted_already : (r : Recorder) (count : ℕ) → count ≤ r.noted → Notes r r count []
+pub noted_already : (r : Recorder) (count : ℕ) → count ≤ r.noted → RecordsUpTo r r count []
 noted_already r count past = record {
   noted = λ le. omega (arith, le, past);
   keeps = λ from before lo hi h.
@@ -53,8 +53,8 @@ noted_already r count past = record {
   parts = refl;
 }
 
-noted_cut : (old mid new : Recorder) (count : ℕ) (code : Code) → Notes old mid count [] → new.kept ≡ followed mid.kept (Ok (code ∷ []))
-    → new.noted ≡ mid.noted → new.out ≡ mid.out → new.parts.items ≡ mid.parts.items → Notes old new count (code ∷ [])
+noted_cut : (old mid new : Recorder) (count : ℕ) (code : Code) → RecordsUpTo old mid count [] → new.kept ≡ followed mid.kept (Ok (code ∷ []))
+    → new.noted ≡ mid.noted → new.out ≡ mid.out → new.parts.items ≡ mid.parts.items → RecordsUpTo old new count (code ∷ [])
 noted_cut old mid new count code s k n o p = record {
   noted = λ le. n ∙ s.noted le;
   keeps = λ from before lo hi h.
@@ -69,7 +69,7 @@ noted_cut old mid new count code s k n o p = record {
 
 -- instructions and the cut after them are recorded together
 noted_with_cut : (old new : Recorder) (count : ℕ) (code : Code) → new.noted ≡ count
-    → new.kept ≡ followed old.kept (Ok (Instructions (count - old.noted) ∷ code ∷ [])) → new.out ≡ old.out → new.parts.items ≡ old.parts.items → Notes old new count (code ∷ [])
+    → new.kept ≡ followed old.kept (Ok (Instructions (count - old.noted) ∷ code ∷ [])) → new.out ≡ old.out → new.parts.items ≡ old.parts.items → RecordsUpTo old new count (code ∷ [])
 noted_with_cut old new count code n k o p =
     let i = Instructions (count - old.noted) in
     let mid : Recorder = record { kept = followed old.kept (Ok (i ∷ [])); noted = count; out = old.out; parts = old.parts } in
@@ -78,7 +78,7 @@ noted_with_cut old new count code n k o p =
     (k ∙ ap (followed old.kept) (sym both) ∙ sym (followed-regroup old.kept (Ok (i ∷ [])) (Ok (code ∷ [])))) n o p
 
 pub noted_entry : (old new : Recorder) (count : ℕ) (c : Cut) → new.noted ≡ count
-    → new.kept ≡ followed old.kept (Ok (codes_of_entry (entry (count - old.noted) c))) → new.out ≡ old.out → new.parts.items ≡ old.parts.items → Notes old new count (code_of_cut c)
+    → new.kept ≡ followed old.kept (Ok (codes_of_entry (entry (count - old.noted) c))) → new.out ≡ old.out → new.parts.items ≡ old.parts.items → RecordsUpTo old new count (code_of_cut c)
 noted_entry old new count cut.Nothing n k o p = noted_now old new count n k o p
 noted_entry old new count (cut.Spawned first) n k o p = noted_with_cut old new count (Spawned first) n k o p
 noted_entry old new count cut.Ended n k o p = noted_with_cut old new count Ended n k o p
@@ -90,7 +90,7 @@ nothing_between : (a b : List Code) → Same (a ++ Instructions 0 ∷ b) (a ++ b
 nothing_between a b = λ l. onto-append a (Instructions 0 ∷ b) l ∙ sym (onto-append a b l)
 
 -- a cut at this count
-pub cut_here : (old new : Recorder) (count : ℕ) (code : Code) (codes : List Code) → Notes old new count (code ∷ []) → old.noted ≤ count
+pub cut_here : (old new : Recorder) (count : ℕ) (code : Code) (codes : List Code) → RecordsUpTo old new count (code ∷ []) → old.noted ≤ count
     → Keeps (count - old.noted) codes old.kept → (new.noted ≤ count) × Keeps (count - new.noted) (codes ++ code ∷ []) new.kept
 cut_here old new count code codes s le h =
     let n = s.noted le in
@@ -104,7 +104,7 @@ cut_here old new count code codes s le h =
     )
 
 -- a cut after one more instruction
-pub cut_next : (old new : Recorder) (count : ℕ) (code : Code) (codes : List Code) → Notes old new (count + 1) (code ∷ []) → old.noted ≤ count
+pub cut_next : (old new : Recorder) (count : ℕ) (code : Code) (codes : List Code) → RecordsUpTo old new (count + 1) (code ∷ []) → old.noted ≤ count
     → Keeps (count - old.noted) codes old.kept → (new.noted ≤ count + 1) × Keeps (count + 1 - new.noted) (codes ++ Instructions 1 ∷ code ∷ []) new.kept
 cut_next old new count code codes s le h =
     let n = s.noted (omega (arith, le)) in
@@ -123,7 +123,7 @@ one_later noted count codes k le h =
     subst (λ (n : ℕ). Keeps n (codes ++ Instructions 1 ∷ []) k) sum (keeps_later (count - noted) 1 codes k h)
 
 -- a join
-pub joined_now : (old mid : Recorder) (count : ℕ) → old.out ≡ true → Notes old mid count (Joined ∷ []) → (codes : List Code) → old.noted ≤ count
+pub joined_now : (old mid : Recorder) (count : ℕ) → old.out ≡ true → RecordsUpTo old mid count (Joined ∷ []) → (codes : List Code) → old.noted ≤ count
     → Keeps (count - old.noted) codes old.kept → (mid.noted ≤ count) × Keeps (count - mid.noted) (codes ++ to_join old.out) mid.kept
 joined_now old mid count out s codes le h =
     let c = cut_here old mid count Joined codes s le h in
@@ -134,7 +134,7 @@ joined_not old count out codes le h =
     (le, subst (λ (b : Bool). Keeps (count - old.noted) (codes ++ to_join b) old.kept) (sym out) (subst (λ (l : List Code). Keeps (count - old.noted) l old.kept) (sym (append-nil codes)) h))
 
 pub parts_pushed : (from : Origin) (o : Open) (os : List Open) (p : Part) (old new : List Part) → IsOpen from os → new ≡ old ++ p ∷ [] → IsOfKind o p.kind
-    → p.out ≡ out_behind o.spawned (out_in from os o.outer) → AreParts from os (reverse old) → AreParts from (o ∷ os) (reverse new)
+    → p.out ≡ out_after_part o.spawned (out_in from os o.outer) → AreParts from os (reverse old) → AreParts from (o ∷ os) (reverse new)
 parts_pushed from o os p old new open_ e k out h =
     subst (λ (x : List Part). AreParts from (o ∷ os) x) (sym (ap (λ (x : List Part). reverse x) e ∙ reverse_pushed old p)) (at from os open_ (k, out) h)
   where
@@ -253,10 +253,10 @@ quiet_begins old new count s from mark os es quiet small open_ h =
 
 -- the start of a part with cuts
 cut_begins : (old mid new : Recorder) (count : ℕ) (k : PartKind) (code : Code) (out spawned : Bool) (mark : Option Mark) (from : Origin) (os : List Open)
-    (es : List Event) → Notes old mid (count + 1) (code ∷ []) → Stacks mid new k out
+    (es : List Event) → RecordsUpTo old mid (count + 1) (code ∷ []) → Stacks mid new k out
     → IsOfKind (record { spawned = spawned; mark = mark; outer = ticked es }) k
     → (old.out ≡ out_in from os es → opening spawned mark (out_in from os es) ≡ code ∷ [])
-    → (old.out ≡ out_in from os es → out ≡ out_behind spawned (out_in from os (ticked es))) → IsOpen from os → RecordsIn from count os es old
+    → (old.out ≡ out_in from os es → out ≡ out_after_part spawned (out_in from os (ticked es))) → IsOpen from os → RecordsIn from count os es old
     → RecordsIn from (count + 1) (begun spawned mark es os) [] new
 cut_begins old mid new count k code out spawned mark from os es n s is code_is out_is open_ h =
     let p = h.parts in
@@ -278,18 +278,18 @@ cut_begins old mid new count k code out spawned mark from os es n s is code_is o
       apart = begun_apart from o os es open_ refl h.apart;
     }
 
-pub child_begins : (old mid new : Recorder) (count next : ℕ) → Notes old mid next (Spawned (not old.out) ∷ []) → Stacks mid new kind.Child true
+pub child_begins : (old mid new : Recorder) (count next : ℕ) → RecordsUpTo old mid next (Spawned (not old.out) ∷ []) → Stacks mid new kind.Child true
     → (count < MOST_LIMIT → next ≡ count + 1) → BeginsChild old new count
 child_begins old mid new count next n s sat from mark os es small open_ h =
     cut_begins old mid new count kind.Child (Spawned (not old.out)) true true mark from os es
-    (subst (λ (x : ℕ). Notes old mid x (Spawned (not old.out) ∷ [])) (sat small) n) s refl
+    (subst (λ (x : ℕ). RecordsUpTo old mid x (Spawned (not old.out) ∷ [])) (sat small) n) s refl
     (λ e. ap (λ (b : Bool). Spawned (not b) ∷ []) (sym e)) (λ e. refl) open_ h
 
-pub call_begins : (old mid new : Recorder) (count next : ℕ) → Notes old mid next (Called ∷ []) → Stacks mid new kind.Call mid.out
+pub call_begins : (old mid new : Recorder) (count next : ℕ) → RecordsUpTo old mid next (Called ∷ []) → Stacks mid new kind.Call mid.out
     → (count < MOST_LIMIT → next ≡ count + 1) → BeginsCall old new count
 call_begins old mid new count next n s sat from site os es small open_ h =
     cut_begins old mid new count kind.Call Called mid.out false (Some (Invocation site)) from os es
-    (subst (λ (x : ℕ). Notes old mid x (Called ∷ [])) (sat small) n) s (refl, (site, refl)) (λ e. refl) (λ e. n.out ∙ e ∙ sym (spawned_ticked from os es)) open_ h
+    (subst (λ (x : ℕ). RecordsUpTo old mid x (Called ∷ [])) (sat small) n) s (refl, (site, refl)) (λ e. refl) (λ e. n.out ∙ e ∙ sym (spawned_ticked from os es)) open_ h
 
 -- the current block joins
 pub block_joins : (old new : Recorder) (count : ℕ) → Joins old new count → new.out ≡ false → new.parts.items ≡ old.parts.items → Syncs old new count
@@ -355,7 +355,7 @@ call_ends old mid new count next joins out same ends sat from o os es small open
 record Popped (from : Origin) (o : Open) (os : List Open) (part : Part) (left : List Part) : Type 0 where
   inner : IsOpen from os
   is : IsOfKind o part.kind
-  out : part.out ≡ out_behind o.spawned (out_in from os o.outer)
+  out : part.out ≡ out_after_part o.spawned (out_in from os o.outer)
   parts : AreParts from os (reverse left)
 
 popped : (from : Origin) (o : Open) (os : List Open) (part : Part) (old left : List Part) → old ≡ left ++ part ∷ [] → AreParts from (o ∷ os) (reverse old) → Popped from o os part left
@@ -366,11 +366,11 @@ popped from o os part old left e h = at from os (subst (λ (x : List Part). AreP
     at Main (q ∷ os) h = record { inner = tt; is = h.0.0; out = h.0.1; parts = h.1 }
     at (Rest site) os h = record { inner = tt; is = h.0.0; out = h.0.1; parts = h.1 }
 
-behind_is : (spawned out : Bool) (t : Tree) → spawned_after out (part_of spawned t) ≡ out_behind spawned out
+behind_is : (spawned out : Bool) (t : Tree) → spawned_after out (part_of spawned t) ≡ out_after_part spawned out
 behind_is true out t = refl
 behind_is false out t = refl
 
-spawned_closed : (from : Origin) (o : Open) (os : List Open) (es : List Event) → out_in from os (closed o es) ≡ out_behind o.spawned (out_in from os o.outer)
+spawned_closed : (from : Origin) (o : Open) (os : List Open) (es : List Event) → out_in from os (closed o es) ≡ out_after_part o.spawned (out_in from os o.outer)
 spawned_closed from o os es =
     let t = marked o.mark (tree_of es) in
     out_more from os o.outer (part_of o.spawned t ∷ []) ∙ behind_is o.spawned (out_in from os o.outer) t
@@ -396,7 +396,7 @@ ending_quiet from o os open_ e f = ending_inside from o os open_ ∙ ap (λ (b :
 
 -- the end of a part with a cut
 pub closes_cut : (old mid new : Recorder) (count : ℕ) (part : Part) (code : Code) → old.parts.items ≡ mid.parts.items ++ part ∷ []
-    → mid.out ≡ part.out → mid.noted ≡ old.noted → mid.kept ≡ old.kept → Notes mid new count (code ∷ [])
+    → mid.out ≡ part.out → mid.noted ≡ old.noted → mid.kept ≡ old.kept → RecordsUpTo mid new count (code ∷ [])
     → ((from : Origin) (o : Open) (os : List Open) → IsOpen from os → IsOfKind o part.kind → ending_in from o os ≡ code ∷ []) → Closes old new count
 closes_cut old mid new count part code pops out noted kept n ends codes from o os es main joined parts le h =
     let p = popped from o os part old.parts.items mid.parts.items pops parts in
@@ -411,12 +411,12 @@ closes_cut old mid new count part code pops out noted kept n ends codes from o o
     )
 
 pub child_closes : (old mid new : Recorder) (count : ℕ) (part : Part) → part.kind ≡ kind.Child → old.parts.items ≡ mid.parts.items ++ part ∷ []
-    → mid.out ≡ part.out → mid.noted ≡ old.noted → mid.kept ≡ old.kept → Notes mid new count (Ended ∷ []) → Closes old new count
+    → mid.out ≡ part.out → mid.noted ≡ old.noted → mid.kept ≡ old.kept → RecordsUpTo mid new count (Ended ∷ []) → Closes old new count
 child_closes old mid new count part e pops out noted kept n =
     closes_cut old mid new count part Ended pops out noted kept n (λ from o os inner is. ending_child from o os inner (subst (IsOfKind o) e is))
 
 pub call_closes : (old mid new : Recorder) (count : ℕ) (part : Part) → part.kind ≡ kind.Call → old.parts.items ≡ mid.parts.items ++ part ∷ []
-    → mid.out ≡ part.out → mid.noted ≡ old.noted → mid.kept ≡ old.kept → Notes mid new count (Called ∷ []) → Closes old new count
+    → mid.out ≡ part.out → mid.noted ≡ old.noted → mid.kept ≡ old.kept → RecordsUpTo mid new count (Called ∷ []) → Closes old new count
 call_closes old mid new count part e pops out noted kept n =
     closes_cut old mid new count part Called pops out noted kept n (λ from o os inner is. let a = subst (IsOfKind o) e is in ending_call from o os a.1.0 inner a.0 a.1.1)
 
@@ -438,7 +438,7 @@ pub nothing_closes : (old new : Recorder) (count : ℕ) → old.parts.items ≡ 
 nothing_closes old new count none none' out noted kept codes Main o [] es main joined parts le h =
     let at_new = subst (λ (x : ℕ). Keeps (count - x) codes new.kept) (sym noted) (subst (λ (k : Recorded). Keeps (count - old.noted) codes k) (sym kept) h) in
     let spawned : out_in Main [] (closed o es) ≡ false =
-    spawned_closed Main o [] es ∙ ap (λ (b : Bool). out_behind b (out_in Main [] o.outer)) main.1 ∙ ap (λ (x : List Event). out_in Main [] x) main.0 in (
+    spawned_closed Main o [] es ∙ ap (λ (b : Bool). out_after_part b (out_in Main [] o.outer)) main.1 ∙ ap (λ (x : List Event). out_in Main [] x) main.0 in (
       omega (arith, le, noted),
       subst (λ (l : List Code). Keeps (count - new.noted) l new.kept) (sym (append-nil codes)) at_new,
       record { out = out ∙ joined ∙ sym spawned; parts = subst (λ (l : List Part). AreParts Main [] (reverse l)) (sym none') tt },
@@ -451,13 +451,13 @@ rest_apart : (from : Origin) (site : ℕ) (os : List Open) (es fs : List Event) 
 rest_apart from site os es fs open_ h g = with_block from os es (es ++ fs) open_ h (append_apart es fs (block_of_open from os es open_ h) g)
 
 -- all instructions up to this count are recorded
-settled : (old new : Recorder) (count : ℕ) (codes : List Code) → Notes old new count [] → old.noted ≤ count → Keeps (count - old.noted) codes old.kept → Keeps 0 codes new.kept
+settled : (old new : Recorder) (count : ℕ) (codes : List Code) → RecordsUpTo old new count [] → old.noted ≤ count → Keeps (count - old.noted) codes old.kept → Keeps 0 codes new.kept
 settled old new count codes n le h =
     let none : count - count ≡ 0 = omega arith in
     keeps_as 0 (codes ++ Instructions (count - count) ∷ []) codes new.kept
     (λ l. ap (λ (n : ℕ). onto (codes ++ Instructions n ∷ []) l) none ∙ nothing_behind codes l) (n.keeps count codes le (omega arith) h)
 
-pub rest_follows : (old mid rest ready new : Recorder) (count cost : ℕ) → Notes old mid count [] → Notes rest ready cost []
+pub rest_follows : (old mid rest ready new : Recorder) (count cost : ℕ) → RecordsUpTo old mid count [] → RecordsUpTo rest ready cost []
     → new.kept ≡ followed mid.kept ready.kept → (count + cost ≤ MOST_LIMIT → new.noted ≡ count + cost) → new.out ≡ mid.out → new.parts.items ≡ mid.parts.items
     → Rests old rest new count cost
 rest_follows old mid rest ready new count cost n m kept noted out same from site os es fs small open_ spawned no_joins h g =
@@ -488,7 +488,7 @@ kept_of t u (Ok kept) same h =
     let is : Same kept (codes_of AsChild u) = λ l. sym (nothing_behind kept l) ∙ h.1 l ∙ sym (same l) in
     let a = same_cuts kept (codes_of AsChild u) is in (omega (arith, a, h.0), same_merged kept (codes_of AsChild u) is)
 
-pub reads : (old new : Recorder) (count : ℕ) → Notes old new count [] → Reads old count new.kept
+pub reads : (old new : Recorder) (count : ℕ) → RecordsUpTo old new count [] → Reads old count new.kept
 reads old new count n es h =
     let t = Marked (Invocation 0) (tree_of es) in
     let whole = codes_of AsChild t ++ [] in

@@ -4,7 +4,7 @@ use Rattle.cw_greedy.specs.Greedy.{greedy_length}
 use Rattle.cw_greedy.specs.Jumping.{Going, to_do, run, Released}
 use Rattle.cw_greedy.specs.Slots.{slots, EachLeft, RoomFor}
 use Rattle.cw_greedy.specs.Blocks.{block_of}
-use Rattle.cw_greedy.specs.Rounds.{IsAfter, RoundsKeep}
+use Rattle.cw_greedy.specs.Rounds.{IsAfter, RoundsPreserveLength}
 use Rattle.cw_greedy.proofs.Jumps.{jump}
 use Rattle.cw_greedy.proofs.Like.{like_length}
 use Rattle.cw_greedy.proofs.Jumping.{some_left, run_advances, room_advances, released_is_like, nothing_takes_nothing, over_is_done, start_to_do}
@@ -21,7 +21,7 @@ jumps_on p hp g k h r =
     let e = ap (greedy_length p) (run_advances p k g left) in
     omega (arith, all, e)
 
-pub rounds_keep : (p : ℕ) → 1 ≤ p → RoundsKeep p
+pub rounds_keep : (p : ℕ) → 1 ≤ p → RoundsPreserveLength p
 rounds_keep p hp = record {
   begins = λ t. like_length p (like_block t) ∙ like_length p (start_to_do (block_of t));
   takes = as_long p;

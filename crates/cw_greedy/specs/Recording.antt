@@ -79,13 +79,13 @@ IsOfKind o kind.Call = (o.spawned ≡ false) × ((site : ℕ) × (o.mark ≡ Som
 IsOfKind o kind.Quiet = (o.spawned ≡ false) × ((site : ℕ) → o.mark ≡ Some (Invocation site) → ⊥)
 
 -- whether the enclosing block has a child that is not joined after the end of a part
-abbrev pub out_behind : (spawned out : Bool) → Bool
-out_behind true out = true
-out_behind false out = out
+abbrev pub out_after_part : (spawned out : Bool) → Bool
+out_after_part true out = true
+out_after_part false out = out
 
 -- the recorder's entry for an open part with these enclosing parts
 abbrev pub IsPart : Origin → Open → List Open → Part → Type 0
-IsPart from o os p = IsOfKind o p.kind × (p.out ≡ out_behind o.spawned (out_in from os o.outer))
+IsPart from o os p = IsOfKind o p.kind × (p.out ≡ out_after_part o.spawned (out_in from os o.outer))
 
 -- the recorder's entries for the open parts of a run (without the run itself) or of a continuation, the innermost
 -- first
@@ -199,7 +199,7 @@ Rests old rest new count cost =
     → RecordsIn from (count + cost) os (es ++ fs) new
 
 -- all instructions up to `count` are recorded, then these codes; nothing else changes
-pub record Notes (old new : Recorder) (count : ℕ) (codes : List Code) : Type 0 where
+pub record RecordsUpTo (old new : Recorder) (count : ℕ) (codes : List Code) : Type 0 where
   pub noted : old.noted ≤ count → new.noted ≡ count
   pub keeps : (from : ℕ) (before : List Code) → old.noted ≤ from → from ≤ count
       → Keeps (from - old.noted) before old.kept → Keeps 0 (before ++ Instructions (count - from) ∷ codes) new.kept

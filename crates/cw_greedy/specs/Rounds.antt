@@ -11,7 +11,7 @@ abbrev pub IsAfter : (processors steps : ℕ) → (before after : Going) → Typ
 IsAfter p k g g' = greedy_length p (to_do g) ≡ k + greedy_length p (to_do g')
 
 -- the algorithm's loop preserves the length of the schedule
-pub record RoundsKeep (p : ℕ) : Type 0 where
+pub record RoundsPreserveLength (p : ℕ) : Type 0 where
   -- the first state has the length of the tree's schedule
   pub begins : (t : Tree) → greedy_length p t ≡ greedy_length p (to_do (start (block_of t)))
   -- a strand without instructions leaves the board in 0 steps

@@ -70,7 +70,7 @@ pub(crate) fn all_closed(
 /// # Errors
 ///
 /// Returns an `AllocError` if memory runs out. No chunk is kept then.
-pub(crate) fn one_behind(
+pub(crate) fn one_after(
     first: VecDeque<Vec<Entry>>,
     more: VecDeque<Vec<Entry>>,
 ) -> Result<VecDeque<Vec<Entry>>, AllocError>

@@ -12,7 +12,7 @@ ghost use Rattle.cw_model.specs.TreeLaws.{Regrouped};
 ghost use Rattle.cw_greedy.specs.Jumps.{StepsAtOnce};
 ghost use Rattle.cw_greedy.specs.Jumping.{CanBeCounted, Going, JumpsAreGreedy};
 ghost use Rattle.cw_greedy.specs.Slots.{ShowsBoard};
-ghost use Rattle.cw_greedy.specs.Rounds.{RoundsKeep};
+ghost use Rattle.cw_greedy.specs.Rounds.{RoundsPreserveLength};
 
 /// States that the length of a greedy schedule is at least the work per processor and at least the span, and at most
 /// their sum.
@@ -84,6 +84,6 @@ pub fn jumps_end()
 
 /// States the invariant of the algorithm's loop on its board: the number of steps so far, plus the number of steps
 /// from the current state on.
-pub fn rounds_keep_the_length()
-    ensures { (p : ℕ) → 1 ≤ p → RoundsKeep p }
+pub fn rounds_preserve_length()
+    ensures { (p : ℕ) → 1 ≤ p → RoundsPreserveLength p }
 {}

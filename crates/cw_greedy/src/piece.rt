@@ -5,7 +5,7 @@ ghost use Rattle.cw_greedy.specs.Entries.{code_of_cut, codes_kept, codes_of_chun
 ghost use Rattle.cw_greedy.specs.Recorded.{capped, cuts, followed};
 ghost use Rattle.cw_model.specs.declared.limits.TheConstants.{MOST_STRANDS};
 
-use crate::chunks::{all_closed, make_room, one_behind};
+use crate::chunks::{all_closed, make_room, one_after};
 use crate::entry::{Cut, Entry};
 use crate::strands::Strands;
 use cw_model::limits::MOST_STRANDS;
@@ -145,7 +145,7 @@ impl Monoid for Piece {
             return Ok(Piece::too_many(*self.last.allocator(), cuts));
         }
         let first = all_closed(self.chunks, self.last)?;
-        let chunks = one_behind(first, right.chunks)?;
+        let chunks = one_after(first, right.chunks)?;
         Ok(Piece {
             chunks,
             last: right.last,

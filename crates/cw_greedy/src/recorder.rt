@@ -24,7 +24,7 @@
 ghost use Rattle.std.specs.Prelude.{◌≡◌, ◌≤◌, [], ◌∷◌, true, false, not, IfOk, OnOk};
 ghost use Rattle.cw_greedy.specs.Entries.{code_of_cut};
 ghost use Rattle.cw_greedy.specs.Recorded.{followed};
-ghost use Rattle.cw_greedy.specs.Recording.{BeginsCall, BeginsChild, BeginsQuiet, Closes, Ends, Joins, Notes, Reads, Rests, Returns, Stacks, Starts, StartsRest, Syncs};
+ghost use Rattle.cw_greedy.specs.Recording.{BeginsCall, BeginsChild, BeginsQuiet, Closes, Ends, Joins, RecordsUpTo, Reads, Rests, Returns, Stacks, Starts, StartsRest, Syncs};
 
 use crate::entry::Cut;
 use crate::piece::Piece;
@@ -93,7 +93,7 @@ impl Recorder {
 
     // Records the instructions up to `count`.
     fn settle(&mut self, count: u64) -> Result<(), AllocError>
-        ensures { OnOk result (Notes self.old self.new count []) }
+        ensures { OnOk result (RecordsUpTo self.old self.new count []) }
     {
         if self.noted < count {
             self.kept.note(count - self.noted, Cut::Nothing)?;
@@ -104,7 +104,7 @@ impl Recorder {
 
     // Records a cut after `count` instructions.
     fn cut(&mut self, count: u64, cut: Cut) -> Result<(), AllocError>
-        ensures { OnOk result (Notes self.old self.new count (code_of_cut cut)) }
+        ensures { OnOk result (RecordsUpTo self.old self.new count (code_of_cut cut)) }
     {
         self.kept.note(count.saturating_sub(self.noted), cut)?;
         self.noted = count;

@@ -14,7 +14,7 @@ use Rattle.cw_greedy.specs.declared.code.Code.{Code}
 use Rattle.cw_greedy.specs.Records.{IsRecordOf}
 use Rattle.cw_greedy.specs.Jumping.{StrandBlock, Last, Fork, size, Going, Ready, Before, Both, Child, Rest, After, start, to_do, run, on_board, IsOver, Released}
 use Rattle.cw_greedy.specs.Jumping as j
-use Rattle.cw_greedy.specs.Rounds.{IsAfter, RoundsKeep}
+use Rattle.cw_greedy.specs.Rounds.{IsAfter, RoundsPreserveLength}
 use Rattle.cw_greedy.specs.Slots.{Slots, nones, slots, ready_slots, run_slots, EachLeft, RoomFor, ShowsBoard}
 use Rattle.cw_greedy_schedule.specs.Boards.{left_at, Advances, stays, runs}
 use Rattle.cw_greedy_schedule.specs.declared.plan.Begins.{Begins}
@@ -494,7 +494,7 @@ pub still_going : (p : ℕ) (block : StrandBlock) (taken steps : ℕ) (strands :
 still_going p block taken steps strands flags xs l (s.going g h n a) = advanced g h n a
 still_going p block taken steps strands flags xs l (s.ended e d) = absurd (omega (arith, l, e))
 
-pub advances_on : (p : ℕ) (block : StrandBlock) (taken steps more : ℕ) (strands : List Strand) (flags : List Bool) (xs ys : Slots) → ((g : Going) → ShowsBoard g) → RoundsKeep p →
+pub advances_on : (p : ℕ) (block : StrandBlock) (taken steps more : ℕ) (strands : List Strand) (flags : List Bool) (xs ys : Slots) → ((g : Going) → ShowsBoard g) → RoundsPreserveLength p →
     Advanced p block taken steps strands flags xs → Advances p more xs ys → Advanced p block taken (steps + more) strands flags ys
 advances_on p block taken steps more strands flags xs ys shows keep (advanced g h n a) (stays e d) =
     advanced g (subst (λ zs. RepresentsBlock block g strands flags zs) (sym d) h) n (omega (arith, a, e))
@@ -503,7 +503,7 @@ advances_on p block taken steps more strands flags xs ys shows keep (advanced g 
     let jump = keep.jumps g more (subst EachLeft list left) (subst (RoomFor p more) list room) in
     advanced (run p more g) (stands_run block g strands flags xs ys p more shows h e) (omega (arith, n, run_waits p more g)) (omega (arith, a, jump))
 
-pub takes_off : (p : ℕ) (block : StrandBlock) (taken steps : ℕ) (strands : List Strand) (flags flags' : List Bool) (xs ys : Slots) → RoundsKeep p →
+pub takes_off : (p : ℕ) (block : StrandBlock) (taken steps : ℕ) (strands : List Strand) (flags flags' : List Bool) (xs ys : Slots) → RoundsPreserveLength p →
     Advanced p block taken steps strands flags xs → ((g : Going) → RepresentsBlock block g strands flags xs → Takes block g strands flags' ys) →
     Counts p block (taken + 1) steps strands flags' ys
 takes_off p block taken steps strands flags flags' xs ys keep (advanced g h n a) f = by_taking (f g h)
@@ -577,7 +577,7 @@ steps_at_most zero p t = omega arith
 steps_at_most (suc most) p t = if_at_most (work t) (steps most p (step p t)) most (steps_at_most most p (step p t))
 
 -- the first state of the block of a tree
-pub begun_of : (t : Tree) (p : ℕ) (strands : List Strand) (flags : List Bool) (xs : Slots) → RoundsKeep p → strands ≡ strands_of w.Start (block_of t) →
+pub begun_of : (t : Tree) (p : ℕ) (strands : List Strand) (flags : List Bool) (xs : Slots) → RoundsPreserveLength p → strands ≡ strands_of w.Start (block_of t) →
     flags ≡ replicate (length strands) false → xs ≡ set (nones (length strands)) 0 (Some (strand_at strands 0).weight) → work t ≤ MOST_LIMIT →
     Begun p (block_of t) strands flags xs
 begun_of t p strands flags xs keep e d q l = record {

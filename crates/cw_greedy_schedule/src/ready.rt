@@ -17,11 +17,11 @@ const FEW: u64 = 64;
 /// nothing if the strand is not ready.
 #[derive(Drop)]
 pub struct Ready {
-    kept: Kept,
+    kept: ReadyStore,
 }
 
 #[derive(Drop)]
-enum Kept {
+enum ReadyStore {
     // For few processors.
     InLine(ReadyList),
     OnBoard(Board),
@@ -50,10 +50,10 @@ impl Ready {
         ensures { IfOk result (λ r. r ≡ nones places) }
     {
         if processors <= FEW {
-            let kept = Kept::InLine(ReadyList::new(alloc, places)?);
+            let kept = ReadyStore::InLine(ReadyList::new(alloc, places)?);
             return Ok(Ready { kept });
         }
-        let kept = Kept::OnBoard(Board::new(alloc, places)?);
+        let kept = ReadyStore::OnBoard(Board::new(alloc, places)?);
         Ok(Ready { kept })
     }
 
@@ -63,8 +63,8 @@ impl Ready {
         ensures { self.new ≡ slice_set self.old place (Some left) }
     {
         match &mut self.kept {
-            Kept::InLine(line) => line.put(place, left),
-            Kept::OnBoard(board) => board.put(place, left),
+            ReadyStore::InLine(line) => line.put(place, left),
+            ReadyStore::OnBoard(board) => board.put(place, left),
         }
     }
 
@@ -75,8 +75,8 @@ impl Ready {
         ensures taken { self.new ≡ slice_set self.old result None }
     {
         match &mut self.kept {
-            Kept::InLine(line) => line.take(),
-            Kept::OnBoard(board) => board.take(),
+            ReadyStore::InLine(line) => line.take(),
+            ReadyStore::OnBoard(board) => board.take(),
         }
     }
 
@@ -90,8 +90,8 @@ impl Ready {
         ensures advances { Advances processors result self.old self.new }
     {
         match &mut self.kept {
-            Kept::InLine(line) => line.advance(processors),
-            Kept::OnBoard(board) => board.advance(processors),
+            ReadyStore::InLine(line) => line.advance(processors),
+            ReadyStore::OnBoard(board) => board.advance(processors),
         }
     }
 }

@@ -16,7 +16,7 @@ ghost use Rattle.cw_greedy_schedule.specs.State.{flag_at, strand_at, Begun, IsWi
 use crate::plan::{Begins, Strand, plan};
 use crate::ready::Ready;
 use crate::weights::{count_spawns, weigh};
-use cw_greedy::laws::{greedy_is_bounded, lists_show_boards, nobody_waits, rounds_keep_the_length};
+use cw_greedy::laws::{greedy_is_bounded, lists_show_boards, nobody_waits, rounds_preserve_length};
 use cw_greedy::strands::Strands;
 use std::alloc::{AllocError, Global};
 
@@ -82,7 +82,7 @@ fn count_steps(strands: &[Strand], flags: &mut [bool], board: &mut Ready, proces
         → result ≡ greedy_length processors (to_do (start block)) }
 {
     lists_show_boards();
-    rounds_keep_the_length();
+    rounds_preserve_length();
     let mut steps: u64 = 0;
     for _taken in 0..strands.len() {
         steps += board.advance(processors);
@@ -101,7 +101,7 @@ fn count_all(strands: &[Strand], flags: &mut [bool], board: &mut Ready, processo
     ensures { (t : Tree) → strands.now ≡ strands_of Start (block_of t) → work t ≤ MOST_LIMIT
         → result ≡ greedy_length processors t }
 {
-    rounds_keep_the_length();
+    rounds_preserve_length();
     board.put(0, strands[0].weight);
     let steps = count_steps(strands, flags, board, processors);
     steps

@@ -7,7 +7,7 @@ ghost use Rattle.cw_greedy_schedule.specs.Schedules as schedules;
 
 use crate::schedule::greedy;
 use crate::weights::weigh;
-use cw_code::crew_laws::cost_is_the_work_that_is_shown;
+use cw_code::crew_laws::cost_is_the_work_of_the_effect;
 use cw_greedy::strands::Strands;
 use cw_machine::alone::main_takes;
 use cw_machine::recorded::strands_alone;
@@ -82,7 +82,7 @@ pub fn schedule_of_run(
     requires { RecordsAsCode (code_view code.now.code) args.now n ran }
     ensures { schedules.SchedulesAsCode (code_view code.now.code) args.now n processors result }
 {
-    cost_is_the_work_that_is_shown();
+    cost_is_the_work_of_the_effect();
     normal_form_reads_the_same();
     if !is_asked(code, args, n, processors) {
         return Err(Fault::Arguments);

@@ -25,12 +25,12 @@ use Rattle.cw_code.specs.Jobs.{course, IsOf, Same, Passed, Short, Job, job_start
 use Rattle.cw_code.specs.Strands.{Strand, Going, Waits, Halted, Turn, Goes, HandsOut, ComesBack, turn, goes_on, resumed}
 use Rattle.cw_code.specs.Promises.{IsStrandOf}
 use Rattle.cw_code.specs.RestLaws.{RootsAreSerial}
-use Rattle.cw_code.specs.Steps.{AdvanceKeeps, CallsKeep, advance, finished, turned, went_on}
+use Rattle.cw_code.specs.Steps.{AdvancePreservesJob, CallsPreserveJob, advance, finished, turned, went_on}
 use Rattle.cw_code.specs.Steps as steps
 use Rattle.cw_code.specs.lemmas.First.{first_is}
 use Rattle.cw_jobs.specs.Opens.{opens_round, whole, Gauge, IsNotifiedOf}
-use Rattle.cw_jobs.specs.Strands.{site_at, StartsFrom, Metered, Started, Ran, TakenBack, Given, TracksStrand, TracksAll, MeansMeasured, MetersKeep}
-use Rattle.cw_jobs.specs.Strands.{CallsKeepMeters, StrandsTell, MetersTellStrands, IsMeasured, RootsAreMeasured, RestsHaveNoJoins}
+use Rattle.cw_jobs.specs.Strands.{site_at, StartsFrom, Metered, Started, Ran, TakenBack, Given, TracksStrand, TracksAll, MeansMeasured, PreservesMeters}
+use Rattle.cw_jobs.specs.Strands.{CallsPreserveMeters, StrandsTell, MetersTellStrands, IsMeasured, RootsAreMeasured, RestsHaveNoJoins}
 use Rattle.cw_jobs.proofs.Joinless.{Joinless, stays_joinless}
 use Rattle.cw_jobs.proofs.Joinless as joinless
 use Rattle.cw_jobs.specs.lemmas.StepEvents.{After}
@@ -93,12 +93,12 @@ goes_told g from (HandsOut target taken) s s' limit before count outs m spawned 
 goes_told g from ComesBack s s' limit before count outs m spawned h = (h, spawned)
 
 kept_on : (code : Code) (job : Job) (old : Strand) (t : Turn) (s s' : State) (limit before count : ℕ) (outs : List Job)
-    → AdvanceKeeps code job old (turned t s s' limit before count outs) → IsStrandOf code job (goes_on t s s' limit before count outs)
+    → AdvancePreservesJob code job old (turned t s s' limit before count outs) → IsStrandOf code job (goes_on t s s' limit before count outs)
 kept_on code job old Goes s s' limit before count outs h = h.0
 kept_on code job old (HandsOut target taken) s s' limit before count outs h = h.0
 kept_on code job old ComesBack s s' limit before count outs h = h.0
 
-module _ (quiet : InstructionsNeedNoCall) (code : Code) (keep : CallsKeep code) where
+module _ (quiet : InstructionsNeedNoCall) (code : Code) (keep : CallsPreserveJob code) where
   steps_to : (job : Job) (s : State) (count : ℕ) (outs : List Job) (w : Transition) → has_come job.extent code s ≡ false → step code s ≡ w
       → job.before + (count + 1) ≤ job.limit → advance code job (Going s count outs) ≡ went_on (turn code s) s w job.limit job.before (count + 1) outs
   steps_to job s count outs w come e le =
@@ -113,11 +113,11 @@ module _ (quiet : InstructionsNeedNoCall) (code : Code) (keep : CallsKeep code) 
       → IsStrandOf code job (goes_on (turn code s) s s' job.limit job.before (count + 1) outs)
   ran job s s' count outs come e le h =
       kept_on code job (Going s count outs) (turn code s) s s' job.limit job.before (count + 1) outs
-      (subst (AdvanceKeeps code job (Going s count outs)) (steps_to job s count outs (On s') come e le) (keep.advancing job (Going s count outs) h))
+      (subst (AdvancePreservesJob code job (Going s count outs)) (steps_to job s count outs (On s') come e le) (keep.advancing job (Going s count outs) h))
 
   arrived : (job : Job) (t : State) (cost : ℕ) → IsStrandOf code job (Going t cost []) → has_come job.extent code t ≡ true → JobMeaning code job (Joined (standing t) t.trace cost)
   arrived job t cost h come =
-      subst (AdvanceKeeps code job (Going t cost []))
+      subst (AdvancePreservesJob code job (Going t cost []))
       (ap (λ b. if b then finished [] (Joined (standing t) t.trace cost)
       else (if nat_lt job.limit (job.before + (cost + 1)) then steps.Ran (Halted OverLimit [])
       else went_on (turn code t) t (step code t) job.limit job.before (cost + 1) [])) come)
@@ -202,7 +202,7 @@ module _ (quiet : InstructionsNeedNoCall) (code : Code) (keep : CallsKeep code) 
     pub strands_tell : StrandsTell code detail
     strands_tell = record { serial = serial; told = tells }
 
-    pub meters_keep : MetersKeep code detail
+    pub meters_keep : PreservesMeters code detail
     meters_keep = record {
       starting = starting;
       advancing = advancing;
@@ -220,7 +220,7 @@ module _ (quiet : InstructionsNeedNoCall) (code : Code) (keep : CallsKeep code) 
   answers roots f args limit count s v arrays t first is e le =
       let job = root_job f args limit in
       let m : JobMeaning code job (Ended v arrays t (count + 1)) =
-      subst (AdvanceKeeps code job (Going s count [])) (steps_to job s count [] (Ends v arrays t) refl e (omega (arith, le))) (keep.advancing job (Going s count []) is) in
+      subst (AdvancePreservesJob code job (Going s count [])) (steps_to job s count [] (Ends v arrays t) refl e (omega (arith, le))) (keep.advancing job (Going s count []) is) in
       elim (roots code f args limit (Ended v arrays t (count + 1)) first m) [
         | inl short ↦ absurd (cc)
         | inr same ↦ sym same
@@ -241,11 +241,11 @@ module _ (quiet : InstructionsNeedNoCall) (code : Code) (keep : CallsKeep code) 
         measures = reads burden g.tags code.tags t.events (omega (arith, le, small)) (subst IsLight counts g.light) g.named refl (subst M counts meters);
       }
 
-pub calls_keep_meters : InstructionsNeedNoCall → ((code : Code) → CallsKeep code) → CallsKeepMeters
+pub calls_keep_meters : InstructionsNeedNoCall → ((code : Code) → CallsPreserveJob code) → CallsPreserveMeters
 calls_keep_meters quiet keep = λ code detail. meters_keep quiet code (keep code) detail
 
-pub meters_tell : InstructionsNeedNoCall → ((code : Code) → CallsKeep code) → MetersTellStrands
+pub meters_tell : InstructionsNeedNoCall → ((code : Code) → CallsPreserveJob code) → MetersTellStrands
 meters_tell quiet keep = λ code detail. strands_tell quiet code (keep code) detail
 
-pub roots_measured : InstructionsNeedNoCall → ((code : Code) → CallsKeep code) → RootsAreSerial → RootsAreMeasured
+pub roots_measured : InstructionsNeedNoCall → ((code : Code) → CallsPreserveJob code) → RootsAreSerial → RootsAreMeasured
 roots_measured quiet keep roots = λ code g burden f args limit count sites s v arrays t m m' all. root_measured quiet code (keep code) roots g burden f args limit count sites s v arrays t m m' all

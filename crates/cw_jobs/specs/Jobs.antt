@@ -183,10 +183,10 @@ abbrev pub IsRoot : Verified → List ℤ → (n : ℕ) → Burden → Parts →
 IsRoot v args n b p = IsRootOf v args n b (Measures b) p
 
 -- why there is no such job: the request is out of range, or memory ran out
-abbrev pub IsRefused : Code → List ℤ → (n : ℕ) → Burden → Fault → Type 0
-IsRefused code args n burden fault.Arguments = is_request code args n burden ≡ false
-IsRefused code args n burden fault.Memory = is_request code args n burden ≡ true
-IsRefused code args n burden _ = ⊥
+abbrev pub IsRejected : Code → List ℤ → (n : ℕ) → Burden → Fault → Type 0
+IsRejected code args n burden fault.Arguments = is_request code args n burden ≡ false
+IsRejected code args n burden fault.Memory = is_request code args n burden ≡ true
+IsRejected code args n burden _ = ⊥
 
 -- `main` begins: its arguments and zeros are in its cells, its arrays are empty
 pub record IsFirst (f : Func) (args : List ℤ) (r : Frame) : Type 0 where

@@ -20,7 +20,7 @@ use Rattle.cw_jobs.specs.Jobs.{Ok, code_of, IsJob, KeepsHomes, KeepsEmpty, Keeps
 use Rattle.cw_jobs.specs.Totals.{HoldsTotals}
 
 -- a run has printed these lines and counted these totals, in `count` instructions
-pub record HasShown (code : Code) (shown : PieceOutput) (t : Trace) (count : ℕ) : Type 0 where
+pub record HasOutput (code : Code) (shown : PieceOutput) (t : Trace) (count : ℕ) : Type 0 where
   pub cost : shown.cost ≡ count
   pub lines : shown.lines.items ≡ t.lines
   pub totals : HoldsTotals code shown.totals.items t.updates
@@ -33,9 +33,9 @@ IsGivenUp _ = ⊥
 -- an effect represents one of the definitions; a job that was given up is represented like one that ran out of memory
 abbrev pub Tracks : (code : Code) → jobs.Job → Rest → Effect → jobs.Effect → Type 0
 Tracks code j r (effect.Ended value shown) (jobs.Ended x arrays t cost) =
-    (j.extent ≡ jobs.WholeCall) × (value ≡ x) × HasShown code shown t cost
+    (j.extent ≡ jobs.WholeCall) × (value ≡ x) × HasOutput code shown t cost
 Tracks code j r (effect.Joined back replaced shown) (jobs.Joined frame t cost) =
-    HoldsFrame back frame × KeepsEmpty j r back replaced.items × HasShown code shown t cost
+    HoldsFrame back frame × KeepsEmpty j r back replaced.items × HasOutput code shown t cost
 Tracks code j r (effect.Trapped c l lines n back) (jobs.TrapIn trap line lines' cost) =
     (c ≡ trap) × (l ≡ line) × (lines.items ≡ lines') × (n ≡ cost)
 Tracks code j r (effect.OverLimit back) jobs.OverLimit = Unit {0}

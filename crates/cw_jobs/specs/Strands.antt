@@ -72,7 +72,7 @@ pub record MeansMeasured (code : Code) (job : Job) (detail : Detail) (site : ℕ
   pub counts : CountsEffect code detail site e m
 
 -- the operations on a strand and on its meter preserve that the meter represents the run
-pub record MetersKeep (code : Code) (detail : Detail) : Type 0 where
+pub record PreservesMeters (code : Code) (detail : Detail) : Type 0 where
   pub starting : (from : Origin) (job : Job) (m : Meter) → StartsFrom from detail m
       → TracksAll code detail from (Going (job_start job) 0 []) m
   -- an instruction, which the meter receives
@@ -105,9 +105,9 @@ pub record MetersKeep (code : Code) (detail : Detail) : Type 0 where
       → IsNotifiedOf m m' count (slice_get code.instrs s.place)
       → TracksAll code detail Main (Going s count outs) m → Meters g.detail g.tags Main (count + 1) [] (whole t) m'
 
--- for all code and every level of detail, `MetersKeep` holds
-abbrev pub CallsKeepMeters : Type 0
-CallsKeepMeters = (code : Code) (detail : Detail) → MetersKeep code detail
+-- for all code and every level of detail, `PreservesMeters` holds
+abbrev pub CallsPreserveMeters : Type 0
+CallsPreserveMeters = (code : Code) (detail : Detail) → PreservesMeters code detail
 
 -- the reachable states of a strand with a meter: one rule for each step
 pub data Metered (code : Code) (detail : Detail) : (from : Origin) (job : Job) → Strand → Meter → Type 0 where

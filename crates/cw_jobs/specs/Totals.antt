@@ -7,7 +7,7 @@ use Rattle.cw_model.specs.declared.syntax.Reduction.TheVariants.{Sum, Max}
 use Rattle.cw_model.specs.declared.total.Total.{Total}
 use Rattle.cw_model.specs.declared.total.Total.TheVariants as total
 use Rattle.cw_model.specs.Syntax.{Name}
-use Rattle.cw_model.specs.Answers.{or_greater, total_to}
+use Rattle.cw_model.specs.Answers.{or_max, total_to}
 use Rattle.cw_code.specs.declared.code.Reducer.{Reducer}
 use Rattle.cw_code.specs.Code.{Code}
 
@@ -28,7 +28,7 @@ empty_total Max = total.Max None
 -- the maximum of two values, of which either may be absent
 abbrev pub greater : Option ℤ → Option ℤ → Option ℤ
 greater None more = more
-greater (Some v) more = Some (or_greater v more)
+greater (Some v) more = Some (or_max v more)
 
 -- two totals of one reducer combined
 abbrev pub joined_total : Total → Total → Total
@@ -39,7 +39,7 @@ joined_total t _ = t
 -- the total after one more value
 abbrev pub told : Total → ℤ → Total
 told (total.Sum v) w = total.Sum (wrapped (v +ℤ w))
-told (total.Max v) w = total.Max (Some (or_greater w v))
+told (total.Max v) w = total.Max (Some (or_max w v))
 
 -- the totals of reducers before their first values
 abbrev pub empty_totals : List Reducer → List Total

@@ -24,7 +24,7 @@ impl Job {
     ghost use Rattle.cw_code.specs.Code.{code_view};
     ghost use Rattle.cw_model.specs.declared.limits.TheConstants.{MOST_BURDEN};
     ghost use Rattle.cw_meter.specs.Details.{IsLight};
-    ghost use Rattle.cw_jobs.specs.Jobs.{IsRefused, IsRoot, IsRootOf};
+    ghost use Rattle.cw_jobs.specs.Jobs.{IsRejected, IsRoot, IsRootOf};
     ghost use Rattle.cw_jobs.specs.Means.{IsGivenUp, IsMeaningOf};
 
     /// Returns the job of a whole run that counts everything: `main` on these arguments, within `n` instructions.
@@ -43,7 +43,7 @@ impl Job {
         burden: Burden,
     ) -> Result<Job, Fault>
         ensures { MatchResult result (λ job. IsRoot code.value args.now n burden job.parts.value)
-            (IsRefused (code_view code.value.code) args.now n burden) }
+            (IsRejected (code_view code.value.code) args.now n burden) }
     {
         let job = Job::root_of(alloc, code, args, n, burden, Detail::Measures(burden))?;
         Ok(job)
@@ -66,7 +66,7 @@ impl Job {
         requires { burden.charge ≤ MOST_BURDEN → IsLight detail }
         ensures { MatchResult result (λ job. IsRootOf code.value args.now n burden detail
             job.parts.value)
-            (IsRefused (code_view code.value.code) args.now n burden) }
+            (IsRejected (code_view code.value.code) args.now n burden) }
     {
         let verified: &Verified = &code;
         let f = verified.func(verified.code.main as usize);

@@ -6,18 +6,18 @@
 //! is handed out, taken back and given, in any order, the meter of a strand represents the serial run of its job so
 //! far.
 
-ghost use Rattle.cw_jobs.specs.Strands.{CallsKeepMeters, MetersTellStrands, RestsAreOut, RestsHaveNoJoins, RootsAreMeasured};
+ghost use Rattle.cw_jobs.specs.Strands.{CallsPreserveMeters, MetersTellStrands, RestsAreOut, RestsHaveNoJoins, RootsAreMeasured};
 
-use cw_code::crew_laws::{calls_on_a_strand_keep_its_job, the_root_answers_what_the_code_gives};
+use cw_code::crew_laws::{calls_preserve_strand_job, the_root_answers_what_the_code_gives};
 use cw_meter::laws::instructions_need_no_call;
 
 /// States that the operations on a strand and on its meter preserve that the meter represents the serial run of the
 /// strand's job so far.
 pub fn calls_keep_meter_records()
-    ensures { CallsKeepMeters }
+    ensures { CallsPreserveMeters }
 {
     instructions_need_no_call();
-    calls_on_a_strand_keep_its_job();
+    calls_preserve_strand_job();
 }
 
 /// States that, if strands hand out continuations, take them back and receive effects in any order, each strand is a
@@ -26,7 +26,7 @@ pub fn meters_record_strands()
     ensures { MetersTellStrands }
 {
     instructions_need_no_call();
-    calls_on_a_strand_keep_its_job();
+    calls_preserve_strand_job();
 }
 
 /// States that the site with which the continuation of a block is handed out is the site of its strand when the
@@ -48,6 +48,6 @@ pub fn roots_are_measured()
     ensures { RootsAreMeasured }
 {
     instructions_need_no_call();
-    calls_on_a_strand_keep_its_job();
+    calls_preserve_strand_job();
     the_root_answers_what_the_code_gives();
 }

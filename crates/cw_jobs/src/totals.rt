@@ -45,8 +45,8 @@ fn add_up(sum: i128, more: i128) -> i128
 
 // Returns the maximum of a value and another one, if there is another one.
 #[inline(always)]
-fn or_greater(value: i64, other: Option<i64>) -> i64
-    ensures { result ≡ answers.or_greater value other }
+fn or_max(value: i64, other: Option<i64>) -> i64
+    ensures { result ≡ answers.or_max value other }
 {
     match other {
         Some(other) => value.max(other),
@@ -61,7 +61,7 @@ pub fn told(total: Total, v: i64) -> Total
 {
     match total {
         Total::Sum(sum) => Total::Sum(add_up(sum, v as i128)),
-        Total::Max(greatest) => Total::Max(Some(or_greater(v, greatest))),
+        Total::Max(greatest) => Total::Max(Some(or_max(v, greatest))),
     }
 }
 
@@ -70,7 +70,7 @@ fn greater(value: Option<i64>, more: Option<i64>) -> Option<i64>
     ensures { result ≡ totals.greater value more }
 {
     match value {
-        Some(value) => Some(or_greater(value, more)),
+        Some(value) => Some(or_max(value, more)),
         None => more,
     }
 }

@@ -9,7 +9,7 @@ use Rattle.cw_lex.specs.declared.front.Front.TheVariants as front
 use Rattle.cw_lex.specs.declared.reason.Uncut.{Uncut}
 use Rattle.cw_lex.specs.Front.{IsFront}
 use Rattle.cw_lex.specs.Uncut.{IsNoToken}
-use Rattle.cw_lex.specs.Walk.{IsNextToken, IsNextFault}
+use Rattle.cw_lex.specs.Traversal.{IsNextToken, IsNextFault}
 use Rattle.cw_lex.specs.lemmas.Gaps.{gap_rises}
 use Rattle.cw_model.specs.Tokens.{IsLongest, IsToken, IsGap, none, separator, comment, AreTokens, FaultAt, IsTokenCut}
 use Rattle.cw_lex.proofs.Lines.{line_past, line_few}

@@ -5,7 +5,7 @@ use Rattle.cw_model.specs.Tokens.{IsTokenCut, HasLexicalFault, HasNameFault}
 use Rattle.cw_text.specs.declared.reasons.At.{At}
 use Rattle.cw_lex.specs.declared.reason.Uncut.{Uncut}
 use Rattle.cw_lex.specs.declared.reason.Uncut.TheVariants as reason
-use Rattle.cw_lex.specs.Uncut.{IsRefused, IsUncut, fault_of}
+use Rattle.cw_lex.specs.Uncut.{IsRejected, IsUncut, fault_of}
 
 -- a text has at most one token cut
 abbrev pub HasOneCut : Type 0
@@ -31,7 +31,7 @@ NameFaultHasOneLine = (text : List ℕ) (l m : ℕ) → HasNameFault text l → 
 
 -- if bytes are not cut for a reason, they are rejected with the fault of this reason, in its line
 abbrev pub ReasonsAreFaults : Type 0
-ReasonsAreFaults = (bytes : List ℕ) (found : At Uncut) → IsUncut bytes found → IsRefused bytes (fault_of found.reason found.line)
+ReasonsAreFaults = (bytes : List ℕ) (found : At Uncut) → IsUncut bytes found → IsRejected bytes (fault_of found.reason found.line)
 
 -- the number of a reason, with its count or its bytes
 abbrev pub content_of : Uncut → ℕ × List ℕ

@@ -1,6 +1,6 @@
 pub mod Faults
 pub mod Uncut
 pub mod Front
-pub mod Walk
+pub mod Traversal
 pub mod Laws
 pub mod lemmas

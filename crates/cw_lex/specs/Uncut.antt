@@ -37,5 +37,5 @@ fault_of (reason.LargeNumber number) line = fault.Lexical (record { line = line 
 fault_of (reason.LongName name) line = fault.Size (record { line = line })
 
 -- reading the bytes as a source, or cutting their text, returns this fault
-abbrev pub IsRefused : List ℕ → Fault → Type 0
-IsRefused bytes f = IsNoSource bytes f ⊎ (IsSourceText bytes × HasNoCut bytes f)
+abbrev pub IsRejected : List ℕ → Fault → Type 0
+IsRejected bytes f = IsNoSource bytes f ⊎ (IsSourceText bytes × HasNoCut bytes f)

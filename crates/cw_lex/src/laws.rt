@@ -11,7 +11,7 @@ pub fn one_cut()
 {}
 
 /// States that a text with a fault has no token cut.
-pub fn no_cut_beside_a_fault()
+pub fn no_cut_with_a_fault()
     ensures { FaultsExcludeCuts }
 {}
 

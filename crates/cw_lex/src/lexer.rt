@@ -4,7 +4,7 @@ ghost use Rattle.std.specs.Prelude.{MatchResult};
 ghost use Rattle.cw_lex.specs.Faults.{IsCut, HasNoCut};
 
 use crate::reason::fault_of;
-use crate::walk::{Next, next_in};
+use crate::traversal::{Next, next_in};
 use cw_model::token::Token;
 use cw_text::{Fault, Source};
 use std::alloc::Global;

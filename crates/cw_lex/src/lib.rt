@@ -8,7 +8,7 @@ mod lexer;
 mod numbers;
 mod reason;
 mod tables;
-mod walk;
+mod traversal;
 
 pub use front::{Front, front_of};
 pub use lexer::lex;

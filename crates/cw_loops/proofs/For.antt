@@ -25,7 +25,7 @@ use Rattle.cw_loops.proofs.Tables.{keys, find_past, put_past}
 use Rattle.cw_loops.proofs.Arguments.{Fresh, table, keys-append}
 use Rattle.cw_loops.proofs.Cuts.{Half, alike_left, alike_right}
 use Rattle.cw_loops.proofs.Leaf.{entry}
-use Rattle.cw_loops.proofs.HalvesCall.{halves_call}
+use Rattle.cw_loops.proofs.RangeHalvesCall.{halves_call}
 use Rattle.cw_loops.proofs.Fitting.{Good, kept_same, sizes, sizes-put}
 use Rattle.cw_loops.proofs.Statements.{Out, goes, alike_done}
 use Rattle.cw_loops.proofs.Worlds.{World, Rel, related, source, target, reads_same, local_same, local_outer, local_given}

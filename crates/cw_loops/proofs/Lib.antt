@@ -8,7 +8,7 @@ mod Lags
 mod LeafCall
 mod Arguments
 mod Cuts
-mod HalvesCall
+mod RangeHalvesCall
 mod Fitting
 mod Worlds
 mod Statements

@@ -10,7 +10,7 @@ use Rattle.cw_model.specs.Ints.{Result, Value, Fails, natural, fits}
 use Rattle.cw_model.specs.declared.trap.Trap.TheVariants as trap
 use Rattle.cw_model.specs.Expressions.{Evaluated, Gives, Traps, done_at}
 use Rattle.cw_model.specs.Outcome.{Outcome, then_do, pay_for}
-use Rattle.cw_model.specs.Loops.{loop_turns, lies_within}
+use Rattle.cw_model.specs.Loops.{loop_iterations, lies_within}
 use Rattle.cw_loops.proofs.Alike.{Alike, alike_pay, value_pays, both_stop}
 use Rattle.cw_loops.proofs.Cuts.{alike_left, alike_right}
 
@@ -45,11 +45,11 @@ at_most : (z : ℤ) → int_lt (pos MOST_TURNS) z ≡ false → natural z ≤ MO
 at_most (pos n) e = ltb-false MOST_TURNS n e
 at_most (negsuc n) e = omega arith
 
-pub turns_counted : (lo hi : ℤ) (arrays : List (List ℤ)) → fits lo ≡ true → fits hi ≡ true → ResultSuch (Counted lo hi arrays) (loop_turns lo hi arrays)
+pub turns_counted : (lo hi : ℤ) (arrays : List (List ℤ)) → fits lo ≡ true → fits hi ≡ true → ResultSuch (Counted lo hi arrays) (loop_iterations lo hi arrays)
 turns_counted lo hi arrays f g = go (int_le hi lo) (int_lt (pos MOST_TURNS) (hi -ℤ lo)) (lies_within lo hi arrays) refl refl refl
   where
     go : (x y z : Bool) → int_le hi lo ≡ x → int_lt (pos MOST_TURNS) (hi -ℤ lo) ≡ y → lies_within lo hi arrays ≡ z →
-        ResultSuch (Counted lo hi arrays) (if x then Value (pos 0) else (if y then Fails trap.TooManyTurns else (if z then Value (hi -ℤ lo) else Fails trap.OutOfBounds)))
+        ResultSuch (Counted lo hi arrays) (if x then Value (pos 0) else (if y then Fails trap.TooManyIterations else (if z then Value (hi -ℤ lo) else Fails trap.OutOfBounds)))
     go true y z e e' e'' = record { count = 0; is = refl; small = omega arith; end_fits = rw (+ℤ_idr lo) f; lies = λ h. absurd (omega arith) }
     go false true z e e' e'' = tt
     go false false false e e' e'' = tt

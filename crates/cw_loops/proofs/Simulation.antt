@@ -11,7 +11,7 @@ use Rattle.cw_model.specs.Captured.{captured}
 use Rattle.cw_model.specs.Frames.{Frame, array_of, int_of}
 use Rattle.cw_model.specs.Expressions.{evaluate, and_then, Gives}
 use Rattle.cw_model.specs.Outcome.{Outcome}
-use Rattle.cw_model.specs.Loops.{loop_turns}
+use Rattle.cw_model.specs.Loops.{loop_iterations}
 use Rattle.cw_model.specs.Meaning.{Completion, Deeper, Calls, function_named, run, run_all, call}
 use Rattle.cw_loops.specs.Lowered.{is_plain, lower_expr, lower_stmt, lower_block, loop_count, loop_count_in, made_by, made_in, loop_function, loop_name}
 use Rattle.cw_loops.specs.Lowerable.{Surroundings, can_evaluate, can_lower, can_lower_all, can_loop, can_target, can_pass_all, can_write, is_local, new_integers, new_arrays, integers_of, arrays_of}
@@ -79,9 +79,9 @@ module _ (fs fs' : List Function) (calls : Calls) (depth : ℕ) (shallow : nat_l
       value_then (evaluate to f) (evaluate (lower_expr c.over to) g) line l (evaluate_same c fo go Slot w to c2.0 loc fa ga la slot)
       (evaluate_fits to f good (can_fit c to c2.0)) _ _ (λ hi l' hi_fits le'.
       alike_pay (length taken) l' _ _ (λ enough.
-      such_paid (Counted lo hi (map (array_of (source c fo loc fa la)) over)) (loop_turns lo hi (map (array_of (source c fo loc fa la)) over))
-      (and_then (Gives (pos 0) 0) (λ v. loop_turns lo hi (map (array_of g0) over))) line (l' - length taken)
-      (ap (λ xs. and_then (Gives (pos 0) 0) (λ v. loop_turns lo hi xs)) same_arrays) (turns_counted lo hi (map (array_of (source c fo loc fa la)) over) lo_fits hi_fits) _ _ (λ v l'' counted le''.
+      such_paid (Counted lo hi (map (array_of (source c fo loc fa la)) over)) (loop_iterations lo hi (map (array_of (source c fo loc fa la)) over))
+      (and_then (Gives (pos 0) 0) (λ v. loop_iterations lo hi (map (array_of g0) over))) line (l' - length taken)
+      (ap (λ xs. and_then (Gives (pos 0) 0) (λ v. loop_iterations lo hi xs)) same_arrays) (turns_counted lo hi (map (array_of (source c fo loc fa la)) over) lo_fits hi_fits) _ _ (λ v l'' counted le''.
       rw counted.is
       (begun c fo go Slot w ints arrays loc fa ga la slot ki ka good fs fs' calls depth shallow limit line x grain taken over b (lower_block over k b) (loop_name (k + loop_count_in b)) some tests here
       (λ fo' go' Slot' w' f' g' rel' l3 bound' e1 e2. more scope fo' go' Slot' w' fine [] [] can' k inner f' g' rel' l3 bound' e1 (omega arith))

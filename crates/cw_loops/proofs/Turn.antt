@@ -22,7 +22,7 @@ use Rattle.cw_loops.proofs.Tables.{keys}
 use Rattle.cw_loops.proofs.Arguments.{table, keys-append, keys-table, find_at}
 use Rattle.cw_loops.proofs.Cuts.{alike_left}
 use Rattle.cw_loops.proofs.Leaf.{at_turn, NextIteration, Turns}
-use Rattle.cw_loops.proofs.HalvesCall.{Reached, counted, length_of_table}
+use Rattle.cw_loops.proofs.RangeHalvesCall.{Reached, counted, length_of_table}
 use Rattle.cw_loops.proofs.Fitting.{Good, AllFit, fine-put, find_fine, fit-append}
 use Rattle.cw_loops.proofs.Statements.{Out, goes, returns, OutAll, alike_done, length-keys, fine_set}
 use Rattle.cw_loops.proofs.Worlds.{World, Rel, related, source, target, find_in}

@@ -94,8 +94,8 @@ turns_program turns grain =
     ∷ [])
 
 -- a loop with grain 2 that computes the maximum of i * (3 - i)
-abbrev pub greatest_program : (from to : ℕ) → Program
-greatest_program from to = record {
+abbrev pub maximum_program : (from to : ℕ) → Program
+maximum_program from to = record {
   reducers = record { name = example.s; how = Max; line = 1 } ∷ [];
   functions =
       example.main_of (
@@ -157,8 +157,8 @@ pub record LoweredExamples : Type 0 where
   pub past_the_end : TrapsLowered (example.square_program 4 0 5 3) 1000 trap.OutOfBounds
   pub five_squares_cost : CostsLowered (example.square_program 5 0 5 4) 192 (pos 16)
   pub from_9_cost : CostsLowered (example.square_program 4 9 4 3) 22 (pos 0)
-  pub too_many : TrapsLowered (example.idle_loop (Number (pos 0)) 2147483648) 1000 trap.TooManyTurns
-  pub too_many_at_3 : TrapsLowered (example.idle_loop (Number (pos 0)) 2147483648) 3 trap.TooManyTurns
+  pub too_many : TrapsLowered (example.idle_loop (Number (pos 0)) 2147483648) 1000 trap.TooManyIterations
+  pub too_many_at_3 : TrapsLowered (example.idle_loop (Number (pos 0)) 2147483648) 3 trap.TooManyIterations
   pub most_at_3 : serial (lowered (example.idle_loop (Number (pos 0)) 2147483647)) [] 3 ≡ OverLimit
   -- lengths from 0 to 7, odd and even, with each of these grains
   pub grain_1 : all_have_cost 1 8 ≡ true
@@ -167,10 +167,10 @@ pub record LoweredExamples : Type 0 where
   pub sums : Same (example.sum_program 0 4) (1000 ∷ 106 ∷ 105 ∷ 20 ∷ 5 ∷ [])
   pub no_turn : Same (example.sum_program 5 3) (1000 ∷ 19 ∷ 18 ∷ [])
   -- a reducer for the maximum: 2 for the values 0, 2, 2 and 0, and no value without an iteration
-  pub greatest : Same (greatest_program 0 4) (1000 ∷ 122 ∷ 121 ∷ 20 ∷ 5 ∷ [])
-  pub greatest_cost : CostsLowered (greatest_program 0 4) 122 (pos 0)
-  pub greatest_told : totals_answered (serial (lowered (greatest_program 0 4)) [] 122) ≡ total.Max (Some (pos 2)) ∷ []
-  pub none_told : totals_answered (serial (lowered (greatest_program 5 3)) [] 122) ≡ total.Max None ∷ []
+  pub greatest : Same (maximum_program 0 4) (1000 ∷ 122 ∷ 121 ∷ 20 ∷ 5 ∷ [])
+  pub greatest_cost : CostsLowered (maximum_program 0 4) 122 (pos 0)
+  pub greatest_told : totals_answered (serial (lowered (maximum_program 0 4)) [] 122) ≡ total.Max (Some (pos 2)) ∷ []
+  pub none_told : totals_answered (serial (lowered (maximum_program 5 3)) [] 122) ≡ total.Max None ∷ []
   pub squares_printed : Same (example.square_print_program 4) (1000 ∷ 136 ∷ 135 ∷ 60 ∷ [])
   pub squares_past : Same (example.square_print_program 5) (1000 ∷ 5 ∷ 4 ∷ [])
   pub squares : Same (example.square_program 4 0 4 3) (1000 ∷ [])
@@ -185,7 +185,7 @@ pub record LoweredExamples : Type 0 where
   pub together_comes_to : value_answered (serial (lowered readers) [] 5000) ≡ Some (pos 6)
   -- the test says that these programs can be lowered
   pub sums_can : is_lowerable (example.sum_program 0 4) ≡ true
-  pub greatest_can : is_lowerable (greatest_program 0 4) ≡ true
+  pub greatest_can : is_lowerable (maximum_program 0 4) ≡ true
   pub squares_can : is_lowerable (example.square_program 5 0 5 4) ≡ true
   pub fill_can : is_lowerable example.fill_program ≡ true
   pub cut_can : is_lowerable (example.cut_program 3) ≡ true

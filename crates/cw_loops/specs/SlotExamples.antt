@@ -5,7 +5,7 @@ use Rattle.cw_model.specs.ExamplePrograms as example
 use Rattle.cw_tree.specs.Resolved.{resolved}
 use Rattle.cw_loops.specs.Slotted.{Array, Shared, slotted_arguments, slotted_functions}
 use Rattle.cw_loops.specs.Expanded.{lowered_by_slot}
-use Rattle.cw_loops.specs.Examples.{nested, readers, greatest_program}
+use Rattle.cw_loops.specs.Examples.{nested, readers, maximum_program}
 
 -- lowering by slot and lowering by name agree on this program
 abbrev pub LowersBySlot : Program → Type 0
@@ -13,7 +13,7 @@ LowersBySlot program = lowered_by_slot (resolved program) ≡ slotted_functions 
 
 pub record SlotExamples : Type 0 where
   pub sums : LowersBySlot (example.sum_program 0 4)
-  pub greatest : LowersBySlot (greatest_program 0 4)
+  pub greatest : LowersBySlot (maximum_program 0 4)
   pub squares : LowersBySlot (example.square_program 5 0 5 4)
   pub idle : LowersBySlot (example.idle_loop (Number (pos 0)) 4)
   pub fill : LowersBySlot example.fill_program

@@ -3,7 +3,7 @@
 ghost use Rattle.std.specs.Prelude.{◌≡◌, ◌∷◌, [], None};
 ghost use Rattle.cw_model.specs.Lines.{lowest};
 ghost use Rattle.cw_model.specs.Sizes.{loop_faults};
-ghost use Rattle.cw_text.specs.Noted.{Noted, TakesRoom};
+ghost use Rattle.cw_text.specs.AreRecorded.{AreRecorded, TakesRoom};
 ghost use Rattle.cw_tree.specs.ResolvedView.{program_of};
 ghost use Rattle.cw_loops.specs.LoopLines.{lines_in, lines_in_block, loops_past};
 
@@ -22,7 +22,7 @@ pub(crate) fn limits(tree: &Tree) -> LeastLine
 
 // Records the lines of the loops of these functions that exceed the limit.
 fn functions_beyond(functions: &[Function], least: &mut LeastLine)
-    ensures { Noted (loops_past functions.now) least.old least.new }
+    ensures { AreRecorded (loops_past functions.now) least.old least.new }
 {
     let mut room = MOST_LOOPS;
     for function in functions {
@@ -58,7 +58,7 @@ fn statement_beyond(room: usize, line: u32, stmt: &Stmt, least: &mut LeastLine) 
             block_beyond(left, c, least)
         }
         Stmt::For(_, b) => {
-            let left = least.note_past(room, line);
+            let left = least.record_past(room, line);
             block_beyond(left, b, least)
         }
         Stmt::Declare(_, _)

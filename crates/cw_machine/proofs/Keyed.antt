@@ -82,8 +82,8 @@ pub record TagsTowards {X : Type 0} (entries : List (Vec ℕ × X)) (left : List
   pub keys : texts entries ++ left ≡ tags
   pub pairs : named entries ++ zip left rows ≡ zip tags whole
 
-one_behind : {A B : Type 0} (f : A → B) (xs : List A) (x : A) (left : List B) → map f (xs ++ x ∷ []) ++ left ≡ map f xs ++ f x ∷ left
-one_behind f xs x left = ap (λ l. l ++ left) (map-append f xs (x ∷ [])) ∙ append_assoc (map f xs) (f x ∷ []) left
+one_after : {A B : Type 0} (f : A → B) (xs : List A) (x : A) (left : List B) → map f (xs ++ x ∷ []) ++ left ≡ map f xs ++ f x ∷ left
+one_after f xs x left = ap (λ l. l ++ left) (map-append f xs (x ∷ [])) ∙ append_assoc (map f xs) (f x ∷ []) left
 
 -- a map from tags to rows got one more tag
 pub one_tag_more : {X : Type 0} (old new : List (Vec ℕ × X)) (tag : Name) (left : List Name) (row : X) (rows : List X) (tags : List Name) (whole : List X) (key : Vec ℕ)
@@ -92,8 +92,8 @@ pub one_tag_more : {X : Type 0} (old new : List (Vec ℕ × X)) (tag : Name) (le
 one_tag_more old new tag left row rows tags whole key so_far apart is_tag is =
     let e = is ∙ next_tag old key row tag left is_tag (subst (λ l. are_apart l ≡ true) (sym so_far.keys) apart) in
     subst (λ es. TagsTowards es left rows tags whole) (sym e) (record {
-      keys = one_behind (λ p. p.0.items) old (key, row) left ∙ ap (λ t. texts old ++ t ∷ left) is_tag ∙ so_far.keys;
-      pairs = one_behind (λ p. (p.0.items, p.1)) old (key, row) (zip left rows) ∙ ap (λ t. named old ++ (t, row) ∷ zip left rows) is_tag ∙ so_far.pairs;
+      keys = one_after (λ p. p.0.items) old (key, row) left ∙ ap (λ t. texts old ++ t ∷ left) is_tag ∙ so_far.keys;
+      pairs = one_after (λ p. (p.0.items, p.1)) old (key, row) (zip left rows) ∙ ap (λ t. named old ++ (t, row) ∷ zip left rows) is_tag ∙ so_far.pairs;
     })
 
 none_left : {X : Type 0} (left : List Name) (rows : List X) → (length left ≡ 0) ⊎ (length rows ≡ 0) → zip left rows ≡ []

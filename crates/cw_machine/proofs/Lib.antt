@@ -44,7 +44,7 @@ pub mod Totals
 pub mod Updates
 pub mod Metering
 pub mod OpEvents
-pub mod Keeping
+pub mod RecordRelation
 pub mod Strands
 pub mod Keyed
 pub mod FromMain

@@ -32,7 +32,7 @@ use Rattle.cw_jobs.specs.declared.effect.PieceOutput.{PieceOutput}
 use Rattle.cw_jobs.specs.declared.call.Rest.{Rest}
 use Rattle.cw_jobs.specs.declared.job.Job.{Job}
 use Rattle.cw_jobs.specs.Jobs.{Ok, IsJob, IsRoot, IsRootOf}
-use Rattle.cw_jobs.specs.Means.{IsMeaningOf, MeansIt, Tracks, Counts, HasShown}
+use Rattle.cw_jobs.specs.Means.{IsMeaningOf, MeansIt, Tracks, Counts, HasOutput}
 use Rattle.cw_machine.specs.declared.alone.Ended as alone
 use Rattle.cw_machine.specs.Arrays.{IsFit}
 use Rattle.cw_machine.specs.declared.values.Values.{Values}
@@ -127,7 +127,7 @@ module _ (laws : RootsAreSerial) (v : Verified) (ok : IsFit v) (f : Func) (args 
       cases : (w : jobs.Effect) → Tracks (code_view v.code) (root_job f args n) root.parts.value.rest (effect.Ended x shown) w → Few n w
           → (w ≡ jobs.Memory) ⊎ (jobs.answered (code_view v.code) w ≡ code_serial (code_view v.code) args n) → IsGiven e (code_serial (code_view v.code) args n)
       cases (jobs.Ended y arrays t cost) h w (inr s) =
-          let has : HasShown (code_view v.code) shown t cost = h.2 in
+          let has : HasOutput (code_view v.code) shown t cost = h.2 in
           subst (λ o. IsGiven e o) s (
             ap int_given (sym h.1) ∙ sym value,
             same_as t.lines e.lines.items (sym has.lines ∙ sym lines),
@@ -152,7 +152,7 @@ module _ (laws : RootsAreSerial) (v : Verified) (ok : IsFit v) (f : Func) (args 
           → (w ≡ jobs.Memory) ⊎ (jobs.answered (code_view v.code) w ≡ code_serial (code_view v.code) args n)
           → (shown.cost ≤ n) × Finishes (code_view v.code) args n d x shown
       cases (jobs.Ended y arrays t cost) h counts w (inr s) =
-          let has : HasShown (code_view v.code) shown t cost = h.2 in
+          let has : HasOutput (code_view v.code) shown t cost = h.2 in
           let g = gauge_of v ok d light in
           let tree = normal (Marked (Invocation 0) (tree_of t.events)) in
           let totals = totals_are (code_view v.code) shown.totals.items t.updates has.totals (let le = w.0 in omega (arith, le, most)) in (

@@ -13,7 +13,7 @@ use cw_runnable::verified::Verified;
 use std::alloc::AllocError;
 
 // The maximum length of an array, as an operand.
-const GREATEST_LENGTH: i64 = MOST_ELEMENTS as i64;
+const MAX_LENGTH: i64 = MOST_ELEMENTS as i64;
 
 // Whether an index is within an array of length `len`.
 #[inline(always)]
@@ -29,7 +29,7 @@ fn new_length(n: i64) -> Result<usize, Trap>
     ensures length { arrays.IsNewLength n result }
     ensures small { IfOk result (λ len. len < 2 ^ 60) }
 {
-    if n < 0 || n > GREATEST_LENGTH {
+    if n < 0 || n > MAX_LENGTH {
         return Err(Trap::BadLength);
     }
     Ok(n as usize)

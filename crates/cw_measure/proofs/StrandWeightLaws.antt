@@ -10,7 +10,7 @@ use Rattle.cw_measure.specs.OpenParts.{Open, in_fork, marked, closed, has_spawne
 use Rattle.cw_measure.specs.BlockWeights.{BlockWeight, Straight, Split, now_of, gone_on, child_ended, top_of, after, after_all}
 use Rattle.cw_measure.specs.BlockWeights.{enters, block_weight, weight_in, burdened_work_in, WorkAndWeightAreMetered}
 use Rattle.cw_measure.specs.StrandWeights.{StrandWeight, reversed, strand_weight, goes_on, begins, begins_again, spawns, ends, joins, saved_of, Fits, IsStackedOn}
-use Rattle.cw_measure.specs.StrandWeights.{RestsOn, Under, ShowsWeight, TracksWeight, FitsRun, HasGoneOn, noted_at, LatePathsWait, NotesLate}
+use Rattle.cw_measure.specs.StrandWeights.{RestsOn, Under, ShowsWeight, TracksWeight, FitsRun, HasGoneOn, noted_at, LatePathsWait, RecordsLate}
 use Rattle.cw_measure.specs.lemmas.BlockWeights.{top-after_all, child_charge}
 use Rattle.cw_measure.specs.lemmas.OpenParts.{KeptBy, kept_since, has_spawned_since, work_since, work_adds, work_more, sum_begun, left_work}
 use Rattle.cw_measure.specs.lemmas.StrandWeights.{block_more, is_split, split-block, straight, span_marked, ended_weight, weight_meters, work_meters, ShowsBlock}
@@ -203,7 +203,7 @@ late_waits burden os es fs path count since fits h =
           (λ small. ap (λ (x : ℕ). weighs x (reversed path.blocks.items [])) (omega arith)) (omega arith);
     }
 
-pub late_noted : (old new : BurdenedPath) (count : ℕ) → HasGoneOn old new count → new.noted ≡ count → NotesLate old new count
+pub late_noted : (old new : BurdenedPath) (count : ℕ) → HasGoneOn old new count → new.noted ≡ count → RecordsLate old new count
 late_noted old new count gone n = λ burden os es fs since fits h.
     let w = work_in os es in
     let l = h.late in let g = since.goes_on in

@@ -87,7 +87,7 @@ pub record Counts (f : Tree → ℕ) (read : Reading) (picks : Mark → Bool) (b
   pub began_is : Began read picks busy os t.began
 
 -- each step of a run preserves the tally, for every reading and every predicate on marks
-pub record TalliesKeep (f : Tree → ℕ) (read : Reading) (picks : Mark → Bool) (busy : ℕ) : Type 0 where
+pub record TalliesAreOutermost (f : Tree → ℕ) (read : Reading) (picks : Mark → Bool) (busy : ℕ) : Type 0 where
   pub work : (os : List Open) (es : List Event) (t : Tally) (k : ℕ) → Counts f read picks busy os es t
       → Counts f read picks busy os (es ++ Work k ∷ []) t
   pub join : (os : List Open) (es : List Event) (t : Tally) → Counts f read picks busy os es t

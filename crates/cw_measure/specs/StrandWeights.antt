@@ -164,8 +164,8 @@ LatePathsWait =
     → TracksLate burden os es path → TracksLate burden os (es ++ fs) path
 
 -- a late path represents the run after `note`
-abbrev pub NotesLate : BurdenedPath → BurdenedPath → (count : ℕ) → Type 0
-NotesLate old new count =
+abbrev pub RecordsLate : BurdenedPath → BurdenedPath → (count : ℕ) → Type 0
+RecordsLate old new count =
     (burden : Burden) (os : List Open) (es fs : List Event) → Since (work_in os es) count es fs
     → FitsRun burden os (es ++ fs) → TracksLate burden os es old → TracksWeight burden os (es ++ fs) new
 

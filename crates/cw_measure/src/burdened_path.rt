@@ -4,7 +4,7 @@ ghost use Rattle.std.specs.Prelude.{◌≡◌, ℕ, [], true, false, OnOk};
 ghost use Rattle.cw_model.specs.declared.burden.Burden.{Burden};
 ghost use Rattle.cw_measure.specs.PathCalls.{AppendsWithin, BeginsChild, EndsWithin, Lengthens};
 ghost use Rattle.cw_measure.specs.StrandWeights.{begins, begins_again, joins, strand_weight};
-ghost use Rattle.cw_measure.specs.StrandWeights.{AppendsWeight, EndsChildWeight, JoinsWeight, HasGoneOn, HasRoomForBlock, NotesLate, NotesWeight, ReadsWeight, SpawnsWeight, TracksWeight};
+ghost use Rattle.cw_measure.specs.StrandWeights.{AppendsWeight, EndsChildWeight, JoinsWeight, HasGoneOn, HasRoomForBlock, RecordsLate, NotesWeight, ReadsWeight, SpawnsWeight, TracksWeight};
 
 use cw_model::burden::Burden;
 use std::alloc::{AllocError, Global};
@@ -49,7 +49,7 @@ impl BurdenedPath {
     #[inline(always)]
     pub fn note(&mut self, count: u64)
         ensures tells { NotesWeight self.old self.new count }
-        ensures late { NotesLate self.old self.new count }
+        ensures late { RecordsLate self.old self.new count }
         ensures weight { HasGoneOn self.old self.new count }
         ensures noted { self.new.noted ≡ count }
         ensures blocks { self.new.blocks ≡ self.old.blocks }

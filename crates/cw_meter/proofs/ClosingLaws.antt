@@ -7,7 +7,7 @@ use Rattle.cw_model.specs.declared.limits.TheConstants.{MOST_LIMIT, MOST_BURDEN}
 use Rattle.cw_model.specs.Trees.{Mark, Invocation, Execution, Event, Series, Fork, tree_of}
 use Rattle.cw_measure.specs.declared.burdened_path.BurdenedPath.{BurdenedPath}
 use Rattle.cw_measure.specs.OpenParts.{Open, marked, closed, has_spawned}
-use Rattle.cw_measure.specs.StrandWeights.{TracksWeight, LatePathsWait, NotesLate, EndsChildWeight}
+use Rattle.cw_measure.specs.StrandWeights.{TracksWeight, LatePathsWait, RecordsLate, EndsChildWeight}
 use Rattle.cw_measure.specs.lemmas.OpenParts.{spawned_append}
 use Rattle.cw_measure.specs.lemmas.StrandWeights.{series_need_no_call, late_ended}
 use Rattle.cw_sites.specs.declared.table.SiteTable.{SiteTable}
@@ -72,7 +72,7 @@ call_closed t s count part leaves waits e = λ burden tags from o os es is joine
 
 -- the path of a spawned part that ends
 child_path : (burden : Burden) (tags : Tags) (from : Origin) (count : ℕ) (mark : Option Mark) (before : List Event) (os : List Open)
-    (es : List Event) (t : Tables) (m p : BurdenedPath) → NotesLate t.path m count → EndsChildWeight m p count t.burden → t.spawned ≡ false
+    (es : List Event) (t : Tables) (m p : BurdenedPath) → RecordsLate t.path m count → EndsChildWeight m p count t.burden → t.spawned ≡ false
     → count ≤ MOST_LIMIT → burden.charge ≤ MOST_BURDEN → TablesTrackLate burden tags from count (opened true mark before os) es t
     → TracksWeight burden os (closed (record { spawned = true; mark = mark; outer = before }) es) p
 child_path burden tags from count mark before os es t m p notes ends joined small light h =
@@ -85,7 +85,7 @@ child_path burden tags from count mark before os es t m p notes ends joined smal
     (fits_now burden tags from count here es t h small light) refl (joined_now burden tags from count here es t joined h) told)
 
 pub spawned_call_closed : (t : Tables) (s : SiteTable) (m p : BurdenedPath) (count : ℕ) (part : Part) → EndsChild t.sites s count part.site
-    → NotesLate t.path m count → EndsChildWeight m p count t.burden → part.kind ≡ kind.SpawnedCall → Closes t (with_tables t s p true) count part
+    → RecordsLate t.path m count → EndsChildWeight m p count t.burden → part.kind ≡ kind.SpawnedCall → Closes t (with_tables t s p true) count part
 spawned_call_closed t s m p count part ends notes heavier e = λ burden tags from o os es is joined small light.
     let k = kind_of from tags o os part kind.SpawnedCall e is in
     of_mark (Ended t (with_tables t s p true) count burden tags from os es) o true (Some (Invocation k.1.0)) k.0 k.1.1 (λ h.
@@ -103,7 +103,7 @@ spawned_call_closed t s m p count part ends notes heavier e = λ burden tags fro
       spawned_is = has_now mark o.outer es;
     }))
 
-pub half_closed : (t : Tables) (s : SiteTable) (m p : BurdenedPath) (count : ℕ) (part : Part) → EndsHalf t.sites s count → NotesLate t.path m count
+pub half_closed : (t : Tables) (s : SiteTable) (m p : BurdenedPath) (count : ℕ) (part : Part) → EndsHalf t.sites s count → RecordsLate t.path m count
     → EndsChildWeight m p count t.burden → part.kind ≡ kind.Half → Closes t (with_tables t s p true) count part
 half_closed t s m p count part ends notes heavier e = λ burden tags from o os es is joined small light.
     let k = kind_of from tags o os part kind.Half e is in

@@ -11,7 +11,7 @@ use Rattle.cw_meter.specs.declared.detail.Detail.{Detail}
 use Rattle.cw_meter.specs.declared.detail.Detail.TheVariants.{Values, Strands, Measures}
 use Rattle.cw_meter.specs.declared.meter.Meter.{Meter}
 use Rattle.cw_meter.specs.declared.parts.PartKind.TheVariants as kind
-use Rattle.cw_meter.specs.Details.{keeps_values, is_counted, burden_of}
+use Rattle.cw_meter.specs.Details.{records_only_values, is_counted, burden_of}
 use Rattle.cw_meter.specs.Origins.{Origin, base_of, given_open}
 use Rattle.cw_meter.specs.Meters.{Begins, BeginsRegion, Ends, Returns, Syncs, Rests, Starts, StartsRest, IsHere, IsOutside, InstructionsNeedNoCall, KnowsOpen, Tracks, ticked, synced, begun}
 use Rattle.cw_greedy.specs.Recorded.{Recorded}
@@ -34,10 +34,10 @@ differ f d e so not_so same = true≢false (sym so ∙ ap f same ∙ not_so)
 -- the detail is the strands
 pub record Records (d : Detail) : Type 0 where
   pub counts : is_counted d ≡ false
-  pub values : keeps_values d ≡ false
+  pub values : records_only_values d ≡ false
 
 not_values : (d : Detail) → Records d → d ≡ Values → ⊥
-not_values d r e = differ keeps_values Values d refl r.values (sym e)
+not_values d r e = differ records_only_values Values d refl r.values (sym e)
 
 not_measures : (d : Detail) (burden : Burden) → Records d → d ≡ Measures burden → ⊥
 not_measures d burden r e = differ is_counted (Measures burden) d refl r.counts (sym e)
@@ -49,12 +49,12 @@ counted_tells old new count so kept Values tags from os os' es es' f = λ small 
 counted_tells old new count so kept Strands tags from os os' es es' f = λ small light open_ h. absurd (differ is_counted old.detail Strands so refl h.0)
 counted_tells old new count so kept (Measures burden) tags from os os' es es' f = λ small light open_ h. (kept ∙ h.0, f burden small light h.1)
 
-values_tell : (old new : Meter) (count : ℕ) → keeps_values old.detail ≡ true → new.detail ≡ old.detail
+values_tell : (old new : Meter) (count : ℕ) → records_only_values old.detail ≡ true → new.detail ≡ old.detail
     → (d : Detail) (tags : Tags) (from : Origin) (os os' : List Open) (es es' : List Event)
     → (count < MOST_LIMIT → KnowsOpen (given_open from) count os old → KnowsOpen (given_open from) (count + 1) os' new) → Tracks old new count d tags from os os' es es'
 values_tell old new count so kept Values tags from os os' es es' f = λ small light open_ h. (kept ∙ h.0, f small h.1)
-values_tell old new count so kept Strands tags from os os' es es' f = λ small light open_ h. absurd (differ keeps_values old.detail Strands so refl h.0)
-values_tell old new count so kept (Measures burden) tags from os os' es es' f = λ small light open_ h. absurd (differ keeps_values old.detail (Measures burden) so refl h.0)
+values_tell old new count so kept Strands tags from os os' es es' f = λ small light open_ h. absurd (differ records_only_values old.detail Strands so refl h.0)
+values_tell old new count so kept (Measures burden) tags from os os' es es' f = λ small light open_ h. absurd (differ records_only_values old.detail (Measures burden) so refl h.0)
 
 strands_tell : (old new : Meter) (count : ℕ) → Records old.detail → new.detail ≡ old.detail
     → (d : Detail) (tags : Tags) (from : Origin) (os os' : List Open) (es es' : List Event)
@@ -83,12 +83,12 @@ one_more given count o os old new opens few small h =
     let e = opens within in
     record { many = omega (arith, e, m); few = omega (arith, n) }
 
-pub begins_values : (old new : Meter) (count : ℕ) (spawned : Bool) (mark : Option Mark) → keeps_values old.detail ≡ true → IsOpened old new → Begins old new count spawned mark
+pub begins_values : (old new : Meter) (count : ℕ) (spawned : Bool) (mark : Option Mark) → records_only_values old.detail ≡ true → IsOpened old new → Begins old new count spawned mark
 begins_values old new count spawned mark so opens = λ d tags from os es. values_tell old new count so opens.detail d tags from os
     (begun spawned mark es os) es [] (one_more (given_open from) count (record { spawned = spawned; mark = mark; outer = ticked es }) os old new opens.parts
     (few_given from))
 
-pub region_values : (old new : Meter) (count tag : ℕ) → keeps_values old.detail ≡ true → IsOpened old new → BeginsRegion old new count tag
+pub region_values : (old new : Meter) (count tag : ℕ) → records_only_values old.detail ≡ true → IsOpened old new → BeginsRegion old new count tag
 region_values old new count tag so opens = λ d tags from os es known. values_tell old new count so opens.detail d tags from os
     (begun false (Some (Execution (tags.name tag))) es os) es [] (one_more (given_open from) count
     (record { spawned = false; mark = Some (Execution (tags.name tag)); outer = ticked es }) os old new opens.parts (few_given from))
@@ -140,11 +140,11 @@ one_less given count o os old new leaves small h =
     let e = leaves (omega (arith, m)) in
     record { many = omega (arith, e, m); few = omega (arith, n) }
 
-pub ends_values : (old new : Meter) (count : ℕ) → keeps_values old.detail ≡ true → LeavesOne old new → Ends old new count
+pub ends_values : (old new : Meter) (count : ℕ) → records_only_values old.detail ≡ true → LeavesOne old new → Ends old new count
 ends_values old new count so leaves = λ d tags from o os es series. values_tell old new count so leaves.detail d tags from (o ∷ os) os es
     (ticked (closed o es)) (one_less (given_open from) count o os old new leaves.parts)
 
-pub returns_values : (old new : Meter) (count : ℕ) → keeps_values old.detail ≡ true → LeavesOne old new → Returns old new count
+pub returns_values : (old new : Meter) (count : ℕ) → records_only_values old.detail ≡ true → LeavesOne old new → Returns old new count
 returns_values old new count so leaves = λ d tags from o os es. values_tell old new count so leaves.detail d tags from (o ∷ os) os es
     (closed o (synced es)) (one_less (given_open from) count o os old new leaves.parts)
 
@@ -174,7 +174,7 @@ pub syncs_recorded : (old new : Meter) (count : ℕ) → Records old.detail → 
 syncs_recorded old new count r kept same syncs = λ d tags from os es. strands_tell old new count r kept d tags from os os es (synced es)
     (λ small h. let m = h.many in let n = h.few in record { many = same ∙ m; few = omega (arith, n) }) (syncs from os es)
 
-pub syncs_values : (m : Meter) (count : ℕ) → keeps_values m.detail ≡ true → Syncs m m count
+pub syncs_values : (m : Meter) (count : ℕ) → records_only_values m.detail ≡ true → Syncs m m count
 syncs_values m count so = λ d tags from os es. values_tell m m count so refl d tags from os os es (synced es) (λ small h. as_open (given_open from) count 1 os m h)
 
 pub instructions_need_no_call : strands.InstructionsNeedNoCall → InstructionsNeedNoCall
@@ -189,10 +189,10 @@ rests_counted old rest new count cost so kept rests Values tags from os es fs sm
 rests_counted old rest new count cost so kept rests Strands tags from os es fs small light open_ s n h g = absurd (differ is_counted old.detail Strands so refl h.0)
 rests_counted old rest new count cost so kept rests (Measures burden) tags from os es fs small light open_ s n h g = (kept ∙ h.0, rests burden tags from os es fs small light n h.1 g.1)
 
-pub rests_values : (m rest : Meter) (count cost : ℕ) → keeps_values m.detail ≡ true → Rests m rest m count cost
+pub rests_values : (m rest : Meter) (count cost : ℕ) → records_only_values m.detail ≡ true → Rests m rest m count cost
 rests_values m rest count cost so Values tags from os es fs small light open_ s n h g = (h.0, as_open (given_open from) count cost os m h.1)
-rests_values m rest count cost so Strands tags from os es fs small light open_ s n h g = absurd (differ keeps_values m.detail Strands so refl h.0)
-rests_values m rest count cost so (Measures burden) tags from os es fs small light open_ s n h g = absurd (differ keeps_values m.detail (Measures burden) so refl h.0)
+rests_values m rest count cost so Strands tags from os es fs small light open_ s n h g = absurd (differ records_only_values m.detail Strands so refl h.0)
+rests_values m rest count cost so (Measures burden) tags from os es fs small light open_ s n h g = absurd (differ records_only_values m.detail (Measures burden) so refl h.0)
 
 pub rests_recorded : (old rest new : Meter) (count cost : ℕ) → Records old.detail → new.detail ≡ old.detail → new.open_parts ≡ old.open_parts
     → strands.Rests old.recorder rest.recorder new.recorder count cost → Rests old rest new count cost

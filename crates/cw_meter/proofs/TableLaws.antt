@@ -8,11 +8,11 @@ use Rattle.cw_model.specs.declared.limits.TheConstants.{MOST_LIMIT, MOST_BURDEN}
 use Rattle.cw_model.specs.Trees.{Mark, Invocation, Execution, Event, Work, Series, Fork, Join}
 use Rattle.cw_measure.specs.declared.burdened_path.BurdenedPath.{BurdenedPath}
 use Rattle.cw_measure.specs.OpenParts.{Open, closed, has_spawned, IsSince, Since, work_in}
-use Rattle.cw_measure.specs.StrandWeights.{TracksLate, TracksWeight, FitsRun, LatePathsWait, NotesLate, SpawnsWeight, JoinsWeight}
+use Rattle.cw_measure.specs.StrandWeights.{TracksLate, TracksWeight, FitsRun, LatePathsWait, RecordsLate, SpawnsWeight, JoinsWeight}
 use Rattle.cw_measure.specs.lemmas.OpenParts.{spawned_append, has_spawned-work, has_spawned_since}
 use Rattle.cw_measure.specs.lemmas.StrandWeights.{series_need_no_call, told_late, late_begun}
 use Rattle.cw_sites.specs.declared.table.SiteTable.{SiteTable}
-use Rattle.cw_sites.specs.Tables.{Small, Notes, Enters, Spawns, SpawnsHalf, Joins, ReadsPath}
+use Rattle.cw_sites.specs.Tables.{Small, RecordsUpTo, Enters, Spawns, SpawnsHalf, Joins, ReadsPath}
 use Rattle.cw_sites.specs.Tables as sites
 use Rattle.cw_sites.specs.lemmas.Tables.{quiet_parts}
 use Rattle.cw_regions.specs.declared.table.RegionTable.{RegionTable}
@@ -166,7 +166,7 @@ pub told_fits : (burden : Burden) (tags : Tags) (from : Origin) (count : ℕ) (o
 told_fits burden tags from count os es t h small light = let P : List Event → Type 0 = λ x. FitsRun burden os x in subst P (sym h.all) (fits_run burden from count os es small light h.counted)
 
 pub path_told : (burden : Burden) (tags : Tags) (from : Origin) (count : ℕ) (os : List Open) (es : List Event) (t : Tables) (p : BurdenedPath)
-    → NotesLate t.path p count → count ≤ MOST_LIMIT → burden.charge ≤ MOST_BURDEN → TablesTrackLate burden tags from count os es t → TracksWeight burden os es p
+    → RecordsLate t.path p count → count ≤ MOST_LIMIT → burden.charge ≤ MOST_BURDEN → TablesTrackLate burden tags from count os es t → TracksWeight burden os es p
 path_told burden tags from count os es t p notes small light h =
     let P : List Event → Type 0 = λ x. TracksWeight burden os x p in
     subst P h.all (notes burden os h.told h.since h.waits (told_fits burden tags from count os es t h small light) h.path)
@@ -195,7 +195,7 @@ abbrev pub with_regions : Tables → RegionTable → (spawned : Bool) → Tables
 with_regions t r spawned = record { sites = t.sites; path = t.path; regions = r; burden = t.burden; spawned = spawned }
 
 -- all events are included
-pub tables_settled : (t : Tables) (s : SiteTable) (p : BurdenedPath) (count : ℕ) → Notes t.sites s count → NotesLate t.path p count → Settles t (with_tables t s p t.spawned) count
+pub tables_settled : (t : Tables) (s : SiteTable) (p : BurdenedPath) (count : ℕ) → RecordsUpTo t.sites s count → RecordsLate t.path p count → Settles t (with_tables t s p t.spawned) count
 tables_settled t s p count notes heavier = λ burden tags from os es small light h. record {
   sites =
       let P : List Event → Type 0 = λ x. sites.Tracks (base_of from) nothing_open os x s in
@@ -221,7 +221,7 @@ call_opened t s count site enters waits = λ burden tags from os es k small ligh
 
 -- a spawned part begins, by the rule of one table
 spawned_path : (burden : Burden) (tags : Tags) (from : Origin) (count : ℕ) (os : List Open) (es : List Event) (t : Tables) (m p : BurdenedPath)
-    (mark : Option Mark) → NotesLate t.path m count → SpawnsWeight m p count (not t.spawned) → count ≤ MOST_LIMIT → burden.charge ≤ MOST_BURDEN
+    (mark : Option Mark) → RecordsLate t.path m count → SpawnsWeight m p count (not t.spawned) → count ≤ MOST_LIMIT → burden.charge ≤ MOST_BURDEN
     → TablesTrackLate burden tags from count os es t → TracksWeight burden (opened true mark es os) [] p
 spawned_path burden tags from count os es t m p mark notes spawns small light h =
     let P : List Event → Type 0 = λ x. TracksWeight burden (opened true mark x os) [] p in
@@ -230,7 +230,7 @@ spawned_path burden tags from count os es t m p mark notes spawns small light h 
     (fits_now burden tags from count os es t h small light) (sym h.spawned_is ∙ sym (not-not t.spawned)) told)
 
 pub spawned_call_opened : (t : Tables) (s : SiteTable) (m p : BurdenedPath) (count site : ℕ) → Spawns t.sites s count site (not t.spawned)
-    → NotesLate t.path m count → SpawnsWeight m p count (not t.spawned) → Opens t (with_tables t s p false) count true (Some (Invocation site))
+    → RecordsLate t.path m count → SpawnsWeight m p count (not t.spawned) → Opens t (with_tables t s p false) count true (Some (Invocation site))
 spawned_call_opened t s m p count site spawns notes heavier = λ burden tags from os es k small light h.
     let mark : Option Mark = Some (Invocation site) in
     let P : List Event → Type 0 = λ x. sites.Tracks (base_of from) nothing_open (opened true mark x os) [] s in
@@ -247,7 +247,7 @@ spawned_call_opened t s m p count site spawns notes heavier = λ burden tags fro
     })
 
 pub half_opened : (t : Tables) (s : SiteTable) (m p : BurdenedPath) (count : ℕ) → SpawnsHalf t.sites s count (not t.spawned)
-    → NotesLate t.path m count → SpawnsWeight m p count (not t.spawned) → Opens t (with_tables t s p false) count true None
+    → RecordsLate t.path m count → SpawnsWeight m p count (not t.spawned) → Opens t (with_tables t s p false) count true None
 half_opened t s m p count spawns notes heavier = λ burden tags from os es k small light h.
     let P : List Event → Type 0 = λ x. sites.Tracks (base_of from) nothing_open (opened true None x os) [] s in
     tables_told burden tags from count (opened true None es os) [] (with_tables t s p false) (record {
@@ -295,7 +295,7 @@ region_opened t now r count tag path heavy settles reads weighs begins = λ burd
     })
 
 -- the current block joins
-pub tables_joined : (t : Tables) (s : SiteTable) (m p : BurdenedPath) (count : ℕ) → Joins t.sites s count → NotesLate t.path m count
+pub tables_joined : (t : Tables) (s : SiteTable) (m p : BurdenedPath) (count : ℕ) → Joins t.sites s count → RecordsLate t.path m count
     → JoinsWeight m p count → JoinsSpawned t (with_tables t s p false) count
 tables_joined t s m p count joins notes heavier = λ burden tags from os es e small light h.
     let S : List Event → Type 0 = λ x. sites.Tracks (base_of from) nothing_open os (x ++ Join ∷ []) s in

@@ -7,10 +7,10 @@ use Rattle.cw_meter.specs.declared.detail.Detail.{Detail}
 use Rattle.cw_meter.specs.declared.detail.Detail.TheVariants.{Values, Strands, Measures}
 
 -- only values are computed
-abbrev pub keeps_values : Detail → Bool
-keeps_values Values = true
-keeps_values Strands = false
-keeps_values (Measures burden) = false
+abbrev pub records_only_values : Detail → Bool
+records_only_values Values = true
+records_only_values Strands = false
+records_only_values (Measures burden) = false
 
 -- all measures are counted
 abbrev pub is_counted : Detail → Bool

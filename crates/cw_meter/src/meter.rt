@@ -117,8 +117,8 @@ impl Meter {
 
     /// Returns whether only values are computed.
     #[inline(always)]
-    pub fn keeps_values(&self) -> bool
-        ensures { result ≡ details.keeps_values self.now.detail }
+    pub fn records_only_values(&self) -> bool
+        ensures { result ≡ details.records_only_values self.now.detail }
     {
         match self.detail {
             Detail::Values => true,
@@ -149,7 +149,7 @@ impl Meter {
 
     // Ends the innermost part.
     #[inline(always)]
-    pub(crate) fn leave_part(&mut self)
+    pub(crate) fn close_part(&mut self)
         ensures { LeavesOne self.old self.new }
     {
         self.open_parts = self.open_parts.wrapping_sub(1);
@@ -158,7 +158,7 @@ impl Meter {
     /// Begins a part of any kind, after any number of instructions. Call it only in a run that records only values.
     #[inline(always)]
     pub fn open_any(&mut self)
-        requires { details.keeps_values self.old.detail ≡ true }
+        requires { details.records_only_values self.old.detail ≡ true }
         ensures { OpensAny self.old self.new }
     {
         self.count_part();
@@ -166,17 +166,17 @@ impl Meter {
 
     /// Joins the innermost part, of any kind, and ends it. Call it only in a run that records only values.
     #[inline(always)]
-    pub fn leave_any(&mut self)
-        requires { details.keeps_values self.old.detail ≡ true }
+    pub fn close_any(&mut self)
+        requires { details.records_only_values self.old.detail ≡ true }
         ensures { LeavesAny self.old self.new }
     {
-        self.leave_part();
+        self.close_part();
     }
 
     /// Joins the current block, which changes nothing in the meter. Call it only in a run that records only values.
     #[inline(always)]
     pub fn sync_any(&self)
-        requires { details.keeps_values self.now.detail ≡ true }
+        requires { details.records_only_values self.now.detail ≡ true }
         ensures { SyncsAny self.now }
     {}
 

@@ -256,12 +256,12 @@ impl Tables {
         ensures told { OnOk result (JoinsSpawned self.old self.new count) }
         ensures joined { OnOk result (self.new.spawned ≡ false) }
     {
-        if self.sites.note_ready(count) {
+        if self.sites.record_ready(count) {
             // The sites come last, so that no register is kept across the call that takes out a child's steps.
             self.path.note(count);
             self.path.join(count);
             self.spawned = false;
-            self.sites.join_noted();
+            self.sites.join_recorded();
             return Ok(());
         }
         self.join_apart(count)
@@ -340,7 +340,7 @@ impl Tables {
         ensures same { result ≡ false → self.new ≡ self.old }
     {
         late_paths_wait();
-        if self.sites.leave_ready(count, site) {
+        if self.sites.close_ready(count, site) {
             self.spawned = spawned;
             return true;
         }

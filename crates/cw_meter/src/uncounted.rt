@@ -20,7 +20,7 @@ impl Meter {
         ensures { OnOk result (BeginsSpawned self.old self.new count) }
     {
         self.count_part();
-        if !self.keeps_values() {
+        if !self.records_only_values() {
             self.recorder.spawn(count)?;
         }
         Ok(())
@@ -33,7 +33,7 @@ impl Meter {
         ensures { OnOk result (Begins self.old self.new count false (Some (Invocation _site))) }
     {
         self.count_part();
-        if !self.keeps_values() {
+        if !self.records_only_values() {
             self.recorder.call(count)?;
         }
         Ok(())
@@ -47,7 +47,7 @@ impl Meter {
         ensures region { OnOk result (BeginsRegions self.old self.new count) }
     {
         self.count_part();
-        if !self.keeps_values() {
+        if !self.records_only_values() {
             self.recorder.begin(count)?;
         }
         Ok(())
@@ -59,8 +59,8 @@ impl Meter {
         requires { details.is_counted self.old.detail ≡ false }
         ensures { OnOk result (Ends self.old self.new count) }
     {
-        self.leave_part();
-        if !self.keeps_values() {
+        self.close_part();
+        if !self.records_only_values() {
             self.recorder.end(count)?;
         }
         Ok(())
@@ -72,8 +72,8 @@ impl Meter {
         requires { details.is_counted self.old.detail ≡ false }
         ensures { OnOk result (Returns self.old self.new count) }
     {
-        self.leave_part();
-        if !self.keeps_values() {
+        self.close_part();
+        if !self.records_only_values() {
             self.recorder.give_back(count)?;
         }
         Ok(())
@@ -85,7 +85,7 @@ impl Meter {
         requires { details.is_counted self.old.detail ≡ false }
         ensures { OnOk result (Syncs self.old self.new count) }
     {
-        if !self.keeps_values() {
+        if !self.records_only_values() {
             self.recorder.sync(count)?;
         }
         Ok(())
@@ -102,7 +102,7 @@ impl Meter {
         requires { details.is_counted self.old.detail ≡ false }
         ensures { OnOk result (Rests self.old rest self.new count cost) }
     {
-        if !self.keeps_values() {
+        if !self.records_only_values() {
             self.recorder.rest(count, rest.recorder, cost)?;
         }
         Ok(())

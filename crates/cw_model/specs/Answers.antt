@@ -26,20 +26,20 @@ sum_to s [] = pos 0
 sum_to s (a ∷ updates) = if same_name s a.0 then a.1 +ℤ sum_to s updates else sum_to s updates
 
 -- the maximum of a value and an optional value
-abbrev pub or_greater : ℤ → Option ℤ → ℤ
-or_greater v None = v
-or_greater v (Some w) = int_max v w
+abbrev pub or_max : ℤ → Option ℤ → ℤ
+or_max v None = v
+or_max v (Some w) = int_max v w
 
 -- the maximum of all updates of a reducer, if there are any
-abbrev pub greatest_to : Name → List (Name × ℤ) → Option ℤ
-greatest_to s [] = None
-greatest_to s (a ∷ updates) =
-    if same_name s a.0 then Some (or_greater a.1 (greatest_to s updates)) else greatest_to s updates
+abbrev pub maximum_to : Name → List (Name × ℤ) → Option ℤ
+maximum_to s [] = None
+maximum_to s (a ∷ updates) =
+    if same_name s a.0 then Some (or_max a.1 (maximum_to s updates)) else maximum_to s updates
 
 -- the total of a reducer, according to its reduction
 abbrev pub total_to : Reduction → Name → List (Name × ℤ) → Total
 total_to Sum s updates = total.Sum (sum_to s updates)
-total_to Max s updates = total.Max (greatest_to s updates)
+total_to Max s updates = total.Max (maximum_to s updates)
 
 -- the value that `main` returned; a well-typed `main` always returns one
 abbrev pub int_given : Option ℤ → ℤ

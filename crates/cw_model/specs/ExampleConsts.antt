@@ -83,8 +83,8 @@ beside_reader st =
     with_names (Then 1 (spawn 1 f (Variable a ∷ [])) (Then 1 (spawn 2 g (Variable b ∷ [])) (Then 2 st (joined_at 3))))
 
 -- the ownership of the program is rejected
-abbrev pub IsRefused : Stmt → Type 0
-IsRefused st = BreaksOwnership (beside_reader st) (2 ∷ [])
+abbrev pub IsRejected : Stmt → Type 0
+IsRejected st = BreaksOwnership (beside_reader st) (2 ∷ [])
 
 -- the program is accepted
 abbrev pub IsFine : Stmt → Type 0
@@ -132,14 +132,14 @@ pub record FrozenExamples : Type 0 where
   pub frozen_twice : IsFine (spawn 3 f (Variable a ∷ []))
   pub passed_twice_to_be_read : IsFine (call 3 q (Variable a ∷ Variable a ∷ []))
   pub passed_twice_by_a_spawn : IsFine (spawn 3 q (Variable a ∷ Variable a ∷ []))
-  pub written : IsRefused (AssignElement a (number 0) (number 1))
-  pub given_away : IsRefused (call 3 g (Variable a ∷ []))
-  pub given_away_by_a_spawn : IsRefused (spawn 3 g (Variable a ∷ []))
-  pub cut : IsRefused (Cut a (number 0) l r End)
-  pub looped_over : IsRefused (For i i i (number 0) (number 1) 64 (a ∷ []) End)
-  pub taken_passed_to_be_read : IsRefused (call 3 f (Variable b ∷ []))
-  pub taken_passed_to_be_read_by_a_spawn : IsRefused (spawn 3 f (Variable b ∷ []))
-  pub taken_beside_a_frozen_one : IsRefused (call 3 q (Variable a ∷ Variable b ∷ []))
+  pub written : IsRejected (AssignElement a (number 0) (number 1))
+  pub given_away : IsRejected (call 3 g (Variable a ∷ []))
+  pub given_away_by_a_spawn : IsRejected (spawn 3 g (Variable a ∷ []))
+  pub cut : IsRejected (Cut a (number 0) l r End)
+  pub looped_over : IsRejected (For i i i (number 0) (number 1) 64 (a ∷ []) End)
+  pub taken_passed_to_be_read : IsRejected (call 3 f (Variable b ∷ []))
+  pub taken_passed_to_be_read_by_a_spawn : IsRejected (spawn 3 f (Variable b ∷ []))
+  pub taken_beside_a_frozen_one : IsRejected (call 3 q (Variable a ∷ Variable b ∷ []))
   pub call_freezes_nothing : IsAccepted (before_write (call 1 f (Variable a ∷ [])))
   pub spawn_freezes : BreaksOwnership (before_write (spawn 1 f (Variable a ∷ []))) (3 ∷ [])
   pub spawn_takes_its_target :

@@ -232,13 +232,13 @@ sum_program from to =
     (For i i i (number from) (number to) 2 [] (block (Reduce Sum s (Variable i) ∷ [])) ∷ give (number 0) ∷ []) ∷ [])
 
 -- a program with one reducer, for the maximum
-abbrev pub with_greatest : List Function → Program
-with_greatest functions = record { reducers = record { name = s; how = Max; line = 1 } ∷ []; functions = functions }
+abbrev pub with_maximum : List Function → Program
+with_maximum functions = record { reducers = record { name = s; how = Max; line = 1 } ∷ []; functions = functions }
 
 -- a loop over i with grain 2 that updates a reducer with i * (3 - i)
-abbrev pub greatest_program : ℕ → ℕ → Program
-greatest_program from to =
-    with_greatest (main_of
+abbrev pub maximum_program : ℕ → ℕ → Program
+maximum_program from to =
+    with_maximum (main_of
     (For i i i (number from) (number to) 2 []
     (block (Reduce Max s (Binary Times (Variable i) (minus (number 3) (Variable i))) ∷ [])) ∷ give (number 0) ∷ [])
     ∷ [])

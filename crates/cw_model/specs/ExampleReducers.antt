@@ -10,7 +10,7 @@ use Rattle.cw_model.specs.Sizes.{limit_faults, static_size}
 use Rattle.cw_model.specs.Examples.{IsAccepted, BreaksTypes, BreaksOwnership, Writes, Costs}
 use Rattle.cw_model.specs.ExamplePrograms.{a, f, i, p, s, v, x, y, number, int_param, void_function, block, give, spawn}
 use Rattle.cw_model.specs.ExamplePrograms.{spawn_into, int_function, main, main_of, same_function, with_sum}
-use Rattle.cw_model.specs.ExamplePrograms.{with_greatest, least}
+use Rattle.cw_model.specs.ExamplePrograms.{with_maximum, least}
 
 -- these values update one reducer, and 0 is returned
 abbrev pub telling : Reduction → List Expr → List Stmt
@@ -23,7 +23,7 @@ adding es = with_sum (main_of (telling Sum es) ∷ [])
 
 -- a program with the maximum of these values
 abbrev pub keeping : List Expr → Program
-keeping es = with_greatest (main_of (telling Max es) ∷ [])
+keeping es = with_maximum (main_of (telling Max es) ∷ [])
 
 -- the totals of reducers: sums are exact beyond 64 bits in both directions, and each 64-bit value can be a maximum
 pub record TotalExamples : Type 0 where
@@ -45,7 +45,7 @@ pub record TotalExamples : Type 0 where
       (codes "max s = 9223372036854775807" ∷ codes "return 0" ∷ [])
   -- a spawned call updates the reducer with -7, and the continuation of its block with -9
   pub greatest_of_a_spawned_call :
-      Writes (with_greatest (
+      Writes (with_maximum (
       void_function p (int_param v ∷ []) (block (Reduce Max s (Variable v) ∷ []))
       ∷ main_of
       (spawn 1 p (Negative (number 7) ∷ []) ∷ Reduce Max s (Negative (number 9)) ∷ Sync ∷ give (number 0) ∷ [])
@@ -54,14 +54,14 @@ pub record TotalExamples : Type 0 where
 
 -- a statement on line 2 of a main with an integer x and an array a; s is a reducer for the maximum
 abbrev pub amid : Stmt → Program
-amid st = with_greatest (
+amid st = with_maximum (
     int_function main 1 [] (Then 1 (Declare x (number 0)) (Then 1 (DeclareArray a (number 1))
     (Then 2 st (Then 3 (give (number 0)) End))))
     ∷ [])
 
 -- a spawn into x on line 1, and then these statements; s is a reducer for the maximum
 abbrev pub behind_spawn : Block → Program
-behind_spawn body = with_greatest (
+behind_spawn body = with_maximum (
     same_function
     ∷ int_function main 1 [] (Then 1 (Declare x (number 0)) (Then 1 (spawn_into x 1 f (number 1 ∷ [])) body)) ∷ [])
 

@@ -10,7 +10,7 @@ use Rattle.cw_model.specs.Report.{Check, Run, Scale, Sites, report_text, csv_fie
 use Rattle.cw_model.specs.Examples.{serial, Scales, ScalesBoth, Attributes}
 use Rattle.cw_model.specs.ExamplePrograms.{f, i, n, p, r, t, v, main, number, minus, int_param, int_function}
 use Rattle.cw_model.specs.ExamplePrograms.{void_function, of_functions, block, give, call, call_into, spawn, main_of}
-use Rattle.cw_model.specs.ExamplePrograms.{alone, first_program, fib_program, greatest_program, idle_and}
+use Rattle.cw_model.specs.ExamplePrograms.{alone, first_program, fib_program, maximum_program, idle_and}
 use Rattle.cw_model.specs.ExamplePrograms.{once_in_every_block}
 
 -- a region in a recursion
@@ -89,7 +89,7 @@ pub record RowExamples : Type 0 where
       ∷ main_of (Region r (block (spawn 1 p (number 1 ∷ []) ∷ Print (number 2) ∷ [])) ∷ give (number 0) ∷ []) ∷ []))
       [] 10
       (codes ",11,9,1.222,19,0.578" ∷ codes "r,7,5,1.400,15,0.466" ∷ [])
-  pub rows_of_a_greatest : Scales (greatest_program 0 4) [] 0 (codes ",122,74,1.648,74,1.648" ∷ [])
+  pub rows_of_a_greatest : Scales (maximum_program 0 4) [] 0 (codes ",122,74,1.648,74,1.648" ∷ [])
   pub two_tags :
       Scales two_tags_program [] 0
       (codes ",10,10,1.000,10,1.000" ∷ codes "t,6,6,1.000,6,1.000" ∷ codes "r,2,2,1.000,2,1.000" ∷ [])

@@ -20,7 +20,7 @@ use Rattle.cw_model.specs.Examples.{serial, Writes, Scales, Attributes, TrapsAt,
 use Rattle.cw_model.specs.ExamplePrograms.{a, b, f, g, h, i, j, l, n, p, r, s, t, v, x, y, z, main, number, plus}
 use Rattle.cw_model.specs.ExamplePrograms.{minus, int_param, array_param, int_function, void_function, of_functions}
 use Rattle.cw_model.specs.ExamplePrograms.{on_line, block, give, call, call_into, spawn, spawn_into, main_of, alone}
-use Rattle.cw_model.specs.ExamplePrograms.{with_sum, with_greatest, greatest_program, least, in_every_block}
+use Rattle.cw_model.specs.ExamplePrograms.{with_sum, with_maximum, maximum_program, least, in_every_block}
 
 -- a declaration in a line, and its value printed
 abbrev pub declared_and_printed : ℕ → Block
@@ -112,10 +112,10 @@ pub record EffectExamples : Type 0 where
       })
       [] 1000
       (codes "sum s = 2" ∷ codes "sum t = 4" ∷ codes "return 0" ∷ [])
-  pub greatest : Costs (greatest_program 0 4) [] 122 (codes "max s = 2" ∷ codes "return 0" ∷ [])
-  pub greatest_of_nothing : Writes (greatest_program 5 3) [] 1000 (codes "max s = none" ∷ codes "return 0" ∷ [])
+  pub greatest : Costs (maximum_program 0 4) [] 122 (codes "max s = 2" ∷ codes "return 0" ∷ [])
+  pub greatest_of_nothing : Writes (maximum_program 5 3) [] 1000 (codes "max s = none" ∷ codes "return 0" ∷ [])
   pub greatest_below_zero :
-      Writes (with_greatest (main_of
+      Writes (with_maximum (main_of
       (Reduce Max s (Negative (number 5)) ∷ Reduce Max s (Negative (number 3)) ∷ Reduce Max s (Negative (number 4))
       ∷ give (number 0) ∷ []) ∷ [])) [] 1000
       (codes "max s = -3" ∷ codes "return 0" ∷ [])

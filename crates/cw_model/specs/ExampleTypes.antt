@@ -9,7 +9,7 @@ use Rattle.cw_model.specs.Examples.{IsAccepted, BreaksTypes}
 use Rattle.cw_model.specs.ExamplePrograms.{a, b, f, g, h, i, l, q, r, s, t, v, x, y, main, number, plus, int_param}
 use Rattle.cw_model.specs.ExamplePrograms.{array_param, int_function, void_function, of_functions, on_line, block}
 use Rattle.cw_model.specs.ExamplePrograms.{give, call, call_into, main_of, alone, same_function, with_sum}
-use Rattle.cw_model.specs.ExamplePrograms.{with_greatest, once_in_every_block}
+use Rattle.cw_model.specs.ExamplePrograms.{with_maximum, once_in_every_block}
 
 -- int f(int v) { return v; } void g(int a[]) { } void h() { } int q(int v, int b[]) { return v; } before main
 abbrev pub with_callees : Function → Program
@@ -72,9 +72,9 @@ pub record WriteTypeExamples : Type 0 where
   pub greatest_of_a_variable : IsMistyped (Reduce Max x (number 1))
   pub greatest_of_a_sum : IsMistyped (Reduce Max s (number 1))
   pub sum_of_a_greatest :
-      BreaksTypes (with_greatest (main_of (Reduce Sum s (number 1) ∷ give (number 0) ∷ []) ∷ [])) (1 ∷ [])
+      BreaksTypes (with_maximum (main_of (Reduce Sum s (number 1) ∷ give (number 0) ∷ []) ∷ [])) (1 ∷ [])
   pub greatest_of_a_greatest :
-      BreaksTypes (with_greatest (main_of (Reduce Max s (number 1) ∷ give (number 0) ∷ []) ∷ [])) []
+      BreaksTypes (with_maximum (main_of (Reduce Max s (number 1) ∷ give (number 0) ∷ []) ∷ [])) []
   pub sum_of_a_function : IsMistyped (Reduce Sum f (number 1))
   pub unknown_addition : IsMistyped (Reduce Sum s (Variable y))
   pub every_write :

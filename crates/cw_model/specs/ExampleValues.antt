@@ -112,7 +112,7 @@ pub record TrapExamples : Type 0 where
   pub range_before_the_start : TrapsWithin (For i i i (below_0 1) (number 2) 64 (a ∷ []) End) 6 trap.OutOfBounds 2
   -- the trap for too many iterations precedes the trap for a range outside an array
   pub too_many_turns_first :
-      TrapsWithin (For i i i (number 0) (number 2147483648) 64 (a ∷ []) End) 5 trap.TooManyTurns 2
+      TrapsWithin (For i i i (number 0) (number 2147483648) 64 (a ∷ []) End) 5 trap.TooManyIterations 2
   pub cut_past_the_end : TrapsWithin (Cut a (number 3) l r End) 4 trap.OutOfBounds 2
   pub cut_before_the_start : TrapsWithin (Cut a (below_0 1) l r End) 5 trap.OutOfBounds 2
   -- the line is that of the innermost statement
@@ -124,5 +124,5 @@ pub record TrapExamples : Type 0 where
   pub number_of_a_zero_divisor : trap_number trap.DivisionByZero ≡ 2
   pub number_of_a_place_outside : trap_number trap.OutOfBounds ≡ 3
   pub number_of_a_bad_length : trap_number trap.BadLength ≡ 4
-  pub number_of_too_many_turns : trap_number trap.TooManyTurns ≡ 5
+  pub number_of_too_many_turns : trap_number trap.TooManyIterations ≡ 5
   pub number_of_too_deep : trap_number trap.TooDeep ≡ 6

@@ -195,12 +195,12 @@ pub record ArrayExamples : Type 0 where
   -- an odd range: leaves of 2, 1 and 2 iterations
   pub five_squares : Costs (example.square_program 5 0 5 4) [] 192 (codes "return 16" ∷ [])
   pub squares_from_9 : Costs (example.square_program 4 9 4 3) [] 22 (codes "return 0" ∷ [])
-  pub too_many_turns : TrapsAt (example.idle_loop (example.number 0) 2147483648) [] USUAL_LIMIT trap.TooManyTurns 1
-  pub too_many_turns_at_3 : TrapsAt (example.idle_loop (example.number 0) 2147483648) [] 3 trap.TooManyTurns 1
+  pub too_many_turns : TrapsAt (example.idle_loop (example.number 0) 2147483648) [] USUAL_LIMIT trap.TooManyIterations 1
+  pub too_many_turns_at_3 : TrapsAt (example.idle_loop (example.number 0) 2147483648) [] 3 trap.TooManyIterations 1
   pub most_turns : IsOver (example.idle_loop (example.number 0) 2147483647) [] 3
   pub widest_range : TrapsAt (example.idle_loop
       (example.minus (Negative (example.number 9223372036854775807)) (example.number 1)) 9223372036854775807) []
-      USUAL_LIMIT trap.TooManyTurns 1
+      USUAL_LIMIT trap.TooManyIterations 1
   pub highest_turn : Costs (example.idle_loop (example.number 9223372036854775806) 9223372036854775807) [] 30
       (codes "return 0" ∷ [])
 

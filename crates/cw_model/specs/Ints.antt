@@ -15,7 +15,7 @@ trap_number trap.Overflow = 1
 trap_number trap.DivisionByZero = 2
 trap_number trap.OutOfBounds = 3
 trap_number trap.BadLength = 4
-trap_number trap.TooManyTurns = 5
+trap_number trap.TooManyIterations = 5
 trap_number trap.TooDeep = 6
 
 -- the integer is in the range of 64 bits

@@ -6,7 +6,7 @@ use Rattle.cw_model.specs.Syntax.{Name, Expr, For, Block, Function}
 use Rattle.cw_model.specs.Trees.{Tree, Series, work, tree_of, normal}
 use Rattle.cw_model.specs.Frames.{Frame, array_of, new_int, inside_loop, leave}
 use Rattle.cw_model.specs.Outcome.{Trace, Done, Trapped, Piece, ◌>>=◌, gives, pay_for, pay, as_one}
-use Rattle.cw_model.specs.Loops.{Turn, TurnsLead, loop_turns, halves, loop_cost, loop_tree}
+use Rattle.cw_model.specs.Loops.{Turn, TurnsLead, loop_iterations, halves, loop_cost, loop_tree}
 use Rattle.cw_model.specs.Meaning.{Calls, Completion, going, run, run_all, call, frame_of}
 use Rattle.cw_model.specs.Captured.{captured}
 use Rattle.cw_model.specs.Expressions.{evaluate, and_then, Gives}
@@ -40,7 +40,7 @@ for_piece x from to grain over b line fs calls frame = do
   lo ← pay_for (evaluate from frame) line
   hi ← pay_for (evaluate to frame) line
   _ ← pay k
-  n ← pay_for (and_then (Gives (pos 0) 0) (λ v. loop_turns lo hi (map (array_of frame) over))) line
+  n ← pay_for (and_then (Gives (pos 0) 0) (λ v. loop_iterations lo hi (map (array_of frame) over))) line
   frame' ← as_one Series
       (halves (suc (natural n)) grain k (length over) (natural n) lo (for_body x over b fs calls) frame)
   going frame'

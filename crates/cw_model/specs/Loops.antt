@@ -15,10 +15,10 @@ lies_within from to (xs ∷ rest) = int_le (pos 0) from && int_le to (pos (lengt
 
 -- the number of iterations of a loop over these arrays, or its trap: first too many iterations, then a range out of
 -- bounds
-abbrev pub loop_turns : (from to : ℤ) → List (List ℤ) → Result
-loop_turns from to arrays =
+abbrev pub loop_iterations : (from to : ℤ) → List (List ℤ) → Result
+loop_iterations from to arrays =
     if int_le to from then Value (pos 0)
-    else (if int_lt (pos MOST_TURNS) (to -ℤ from) then Fails trap.TooManyTurns
+    else (if int_lt (pos MOST_TURNS) (to -ℤ from) then Fails trap.TooManyIterations
     else (if lies_within from to arrays then Value (to -ℤ from) else Fails trap.OutOfBounds))
 
 -- The cost of a loop without the bodies of its iterations, for k captured integers and q arrays. A leaf costs

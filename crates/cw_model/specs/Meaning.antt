@@ -16,7 +16,7 @@ use Rattle.cw_model.specs.Frames.{inside_loop, leave, set_result}
 use Rattle.cw_model.specs.Expressions.{Evaluated, Gives, and_then, dearer, written, index_cost, evaluate}
 use Rattle.cw_model.specs.Trees.{Tree, Invocation, Execution, Marked, Event, Series, Fork, Join}
 use Rattle.cw_model.specs.Outcome.{shows, Trapped, Over, Piece, ◌>>=◌, gives, show, pay, pay_for, as_one}
-use Rattle.cw_model.specs.Loops.{loop_turns, halves}
+use Rattle.cw_model.specs.Loops.{loop_iterations, halves}
 
 -- how a statement completes: normally, or by a return from its call
 pub data Completion : Type 0 where
@@ -190,7 +190,7 @@ abbrev mutual
     lo ← pay_for (evaluate from frame) line
     hi ← pay_for (evaluate to frame) line
     _ ← pay (length captured)
-    n ← pay_for (and_then (Gives (pos 0) 0) (λ v. loop_turns lo hi (map (array_of frame) over))) line
+    n ← pay_for (and_then (Gives (pos 0) 0) (λ v. loop_iterations lo hi (map (array_of frame) over))) line
     let f = function_named callee fs
     let given =
         loop_frame f.params (lo ∷ (lo +ℤ n) ∷ map (int_of frame) captured)
@@ -222,7 +222,7 @@ abbrev mutual
     lo ← pay_for (evaluate from frame) line
     hi ← pay_for (evaluate to frame) line
     _ ← pay k
-    n ← pay_for (and_then (Gives (pos 0) 0) (λ v. loop_turns lo hi (map (array_of frame) over))) line
+    n ← pay_for (and_then (Gives (pos 0) 0) (λ v. loop_iterations lo hi (map (array_of frame) over))) line
     frame' ← as_one Series (halves (suc (natural n)) grain k (length over) (natural n) lo (λ i now. do
       way ← as_one Series (run_all b fs calls (inside_loop over (new_int x i now)))
       gives (leave now (frame_of way))) frame)

@@ -72,7 +72,7 @@ pub fn call_takes_its_work()
 
 /// States that a `cilk_for` is a divide-and-conquer loop, and that its body satisfies the premise of the laws of
 /// these loops: it is one part in series, and leaves at most the budget that it was given.
-pub fn for_is_by_halves()
+pub fn for_is_divide_and_conquer()
     ensures meaning { ForsAreByHalves }
     ensures body { ForsHaveBodies }
 {}

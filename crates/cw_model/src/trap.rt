@@ -15,7 +15,7 @@ pub enum Trap {
     /// The length of an array is below 0 or above 16,777,216.
     BadLength,
     /// A loop has more than 2,147,483,647 iterations.
-    TooManyTurns,
+    TooManyIterations,
     /// The depth of a call is above 10,000.
     TooDeep,
 }
@@ -30,7 +30,7 @@ impl Trap {
             Trap::DivisionByZero => 2,
             Trap::OutOfBounds => 3,
             Trap::BadLength => 4,
-            Trap::TooManyTurns => 5,
+            Trap::TooManyIterations => 5,
             Trap::TooDeep => 6,
         }
     }

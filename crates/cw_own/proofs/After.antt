@@ -24,7 +24,7 @@ use Rattle.cw_tree.specs.Resolved.{Locals, Lists, slot_of, use_of, resolved_expr
 use Rattle.cw_tree.specs.Resolved as spec
 use Rattle.cw_tree.specs.lemmas.Names.{called_is}
 use Rattle.cw_own.specs.Sets.{Slots, with_slot, Row, no_local, either_row, both_rows}
-use Rattle.cw_own.specs.Taken.{Held, none_held, taking_int, taking_array, freezing, either_held, held_within, with_target, with_arrays, known_after, after, after_all, gain, cuts_after, cuts_after_all}
+use Rattle.cw_own.specs.Taken.{Restrictions, no_restrictions, taking_int, taking_array, freezing, either_restrictions, restrictions_within, with_target, with_arrays, known_after, after, after_all, gain, cuts_after, cuts_after_all}
 use Rattle.cw_own.proofs.Words.{or_swap, none_of_both}
 use Rattle.cw_own.proofs.Keeping.{same_rows, same_held, turn_law, cuts_stay, no_more, no_more_all}
 use Rattle.cw_own.proofs.Holding.{held, held_without}
@@ -45,13 +45,13 @@ abbrev pub AtTop : Returns → Outside → Slots → Type 0
 AtTop returns outside cuts = (returns ≡ Nowhere) ⊎ (((p : Holder → Bool) → outside p ≡ no_local) × ((k : ℕ) → cuts k ≡ false))
 
 -- taking an integer commutes with passing arrays
-int_later : (es : List spec.Argument) (slot : ℕ) (row : Held) → with_arrays es (taking_int slot row) ≡ taking_int slot (with_arrays es row)
+int_later : (es : List spec.Argument) (slot : ℕ) (row : Restrictions) → with_arrays es (taking_int slot row) ≡ taking_int slot (with_arrays es row)
 int_later [] slot row = refl
 int_later (spec.Int e ∷ es) slot row = int_later es slot row
 int_later (spec.Array u ∷ es) slot row = int_later es slot (taking_array u.slot row)
 int_later (spec.Shared u ∷ es) slot row = int_later es slot (freezing u.slot row)
 
-array_later : (es : List spec.Argument) (slot : ℕ) (row : Held) → with_arrays es (taking_array slot row) ≡ taking_array slot (with_arrays es row)
+array_later : (es : List spec.Argument) (slot : ℕ) (row : Restrictions) → with_arrays es (taking_array slot row) ≡ taking_array slot (with_arrays es row)
 array_later [] slot row = refl
 array_later (spec.Int e ∷ es) slot row = array_later es slot row
 array_later (spec.Array u ∷ es) slot row =
@@ -60,7 +60,7 @@ array_later (spec.Array u ∷ es) slot row =
     ∙ array_later es slot (taking_array u.slot row)
 array_later (spec.Shared u ∷ es) slot row = array_later es slot (freezing u.slot row)
 
-frozen_later : (es : List spec.Argument) (slot : ℕ) (row : Held) → with_arrays es (freezing slot row) ≡ freezing slot (with_arrays es row)
+frozen_later : (es : List spec.Argument) (slot : ℕ) (row : Restrictions) → with_arrays es (freezing slot row) ≡ freezing slot (with_arrays es row)
 frozen_later [] slot row = refl
 frozen_later (spec.Int e ∷ es) slot row = frozen_later es slot row
 frozen_later (spec.Array u ∷ es) slot row = frozen_later es slot (taking_array u.slot row)
@@ -87,7 +87,7 @@ abbrev pub param : Name → NameKind → Param
 param name kind = record { name = name; kind = kind }
 
 -- a taken name may be recorded before the frozen names
-holds_among : (locals : Locals) (depth : ℕ) (outside : Outside) (xs : List Name) (t : Name × Holder) (taken : Taken) (here : Held) (cuts : Slots) →
+holds_among : (locals : Locals) (depth : ℕ) (outside : Outside) (xs : List Name) (t : Name × Holder) (taken : Taken) (here : Restrictions) (cuts : Slots) →
     Holds locals depth outside (t ∷ frozen_by depth xs taken) here cuts → Holds locals depth outside (frozen_by depth xs (t ∷ taken)) here cuts
 holds_among locals depth outside xs t taken here cuts h p =
     shows_as locals (held p (t ∷ frozen_by depth xs taken)) (held p (frozen_by depth xs (t ∷ taken))) _ (moved xs) (h p)
@@ -98,7 +98,7 @@ holds_among locals depth outside xs t taken here cuts h p =
         ap (λ b. (same_name z x && p (ReaderIn depth)) || b) (moved xs z)
         ∙ or_swap (same_name z x && p (ReaderIn depth)) (same_name z t.0 && p t.1) (held p (frozen_by depth xs taken) z)
 
-holds_given : (known : Known) (locals : Locals) (depth : ℕ) (outside : Outside) (ps : List Param) (es : List Expr) (taken : Taken) (here : Held) (cuts : Slots) → Knows known locals →
+holds_given : (known : Known) (locals : Locals) (depth : ℕ) (outside : Outside) (ps : List Param) (es : List Expr) (taken : Taken) (here : Restrictions) (cuts : Slots) → Knows known locals →
     are_arguments known ps es ≡ true → Holds locals depth outside taken here cuts →
     Holds locals depth outside (frozen_by depth (arrays_lent ps es) (taken_by depth (arrays_given ps es) taken)) (with_arrays (resolved_arguments locals ps es) here) cuts
 holds_given known locals depth outside [] [] taken here cuts k h held = held
@@ -147,7 +147,7 @@ holds_given known locals depth outside (p ∷ ps) (e ∷ es) taken here cuts k h
     by name_kind.Const (Binary o d e) h more = cc
 
 holds_call : (known : Known) (locals : Locals) (depth : ℕ) (outside : Outside) (fs : List Function) (target : Option Name) (f : Name)
-    (es : List Expr) (taken : Taken) (here : Held) (cuts : Slots) → Knows known locals →
+    (es : List Expr) (taken : Taken) (here : Restrictions) (cuts : Slots) → Knows known locals →
     is_call known target (called f fs) es ≡ true → Holds locals depth outside taken here cuts →
     Holds locals depth outside (frozen_by depth (lent fs f es) (taken_by depth (target_names target ++ given fs f es) taken))
     (with_arrays (resolved_arguments locals (function_named f fs).params es) (with_target (option_map (use_of locals.ints) target) here)) cuts
@@ -205,14 +205,14 @@ masked_arrays k n r q h d f c u free none = by (nat_lt k n) refl
 
 -- the names of a block are not held after it
 pub holds_end : (program : Program) (returns : Returns) (known : Known) (locals : Locals) (depth : ℕ) (outside : Outside) (b : Block)
-    (before : Taken) (here : Held) (cuts : Slots) (taken : Taken) (row : Held) (less : Slots) →
+    (before : Taken) (here : Restrictions) (cuts : Slots) (taken : Taken) (row : Restrictions) (less : Slots) →
     Knows known locals → faults_in_block program returns known b ≡ [] → Holds locals depth outside before here cuts → ((k : ℕ) → less k ≡ true → cuts k ≡ true) →
-    Holds (all_locals locals b) depth outside taken row less → Holds locals depth outside (without (own_names b) taken) (held_within (known_row locals) row) less
+    Holds (all_locals locals b) depth outside taken row less → Holds locals depth outside (without (own_names b) taken) (restrictions_within (known_row locals) row) less
 holds_end program returns known locals depth outside b before here cuts taken row less k fine entry fewer last p =
     shows_as locals (λ x. not (is_among x (own_names b)) && held p taken x) (held p (without (own_names b) taken)) _ (held_without (own_names b) p taken)
     (shows_row locals (λ x. not (is_among x (own_names b)) && held p taken x) (both_rows (known_row locals) (all_of p depth outside row less))
-    (all_of p depth outside (held_within (known_row locals) row) less)
-    (same_rows (both_rows (known_row locals) (all_of p depth outside row less)) (all_of p depth outside (held_within (known_row locals) row) less)
+    (all_of p depth outside (restrictions_within (known_row locals) row) less)
+    (same_rows (both_rows (known_row locals) (all_of p depth outside row less)) (all_of p depth outside (restrictions_within (known_row locals) row) less)
     (λ k. masked_ints k (length locals.ints) ((outside p).ints k) (p (SpawnIn depth)) (row.ints k) (λ le. neither_first ((outside p).ints k) _ ((entry p).ints_end k le)))
     (λ k. masked_arrays k (length locals.arrays) ((outside p).arrays k) (p (SpawnIn depth)) (row.arrays k) (p (ReaderIn depth)) (row.frozen k) (p CutOf) (less k)
     (λ le. neither_first ((outside p).arrays k) _ ((entry p).arrays_end k le))
@@ -220,12 +220,12 @@ holds_end program returns known locals depth outside b before here cuts taken ro
     (drop_block program returns known locals b (held p taken) (all_of p depth outside row less) k fine (last p)))
 
 -- the locals held after a branch
-pub holds_goes : (program : Program) (lists : Lists) (returns : Returns) (known : Known) (locals : Locals) (depth : ℕ) (outside : Outside) (b : Block) (here : Held) (cuts : Slots) (taken : Taken) →
+pub holds_goes : (program : Program) (lists : Lists) (returns : Returns) (known : Known) (locals : Locals) (depth : ℕ) (outside : Outside) (b : Block) (here : Restrictions) (cuts : Slots) (taken : Taken) →
     AtTop returns outside cuts → faults_in_block program returns known b ≡ [] →
-    Holds locals depth outside taken (held_within (known_row locals) (after_all (known_row locals) (spec.resolved_block lists locals b) here))
+    Holds locals depth outside taken (restrictions_within (known_row locals) (after_all (known_row locals) (spec.resolved_block lists locals b) here))
     (cuts_after_all (spec.resolved_block lists locals b) cuts) →
     Holds locals depth outside (where_it_goes_on (block_returns b) taken)
-    (held_within (known_row locals) (after_all (known_row locals) (spec.resolved_block lists locals b) here))
+    (restrictions_within (known_row locals) (after_all (known_row locals) (spec.resolved_block lists locals b) here))
     (cuts_after_all (spec.resolved_block lists locals b) cuts)
 holds_goes program lists returns known locals depth outside b here cuts taken top fine last = by (block_returns b) refl
   where
@@ -233,15 +233,15 @@ holds_goes program lists returns known locals depth outside b here cuts taken to
     none_and q d n c = ap (λ x. ((q && x) || (d && x)) || (c && false)) (and-false n) ∙ all_none q d c
 
     nothing : block_returns b ≡ true → ((p : Holder → Bool) → outside p ≡ no_local) × ((k : ℕ) → cuts k ≡ false) →
-        Holds locals depth outside [] (held_within (known_row locals) (after_all (known_row locals) (spec.resolved_block lists locals b) here))
+        Holds locals depth outside [] (restrictions_within (known_row locals) (after_all (known_row locals) (spec.resolved_block lists locals b) here))
         (cuts_after_all (spec.resolved_block lists locals b) cuts)
     nothing e none p =
         let row = after_all (known_row locals) (spec.resolved_block lists locals b) here in
         let less = cuts_after_all (spec.resolved_block lists locals b) cuts in
-        shows_row locals (λ x. false) no_local (all_of p depth outside (held_within (known_row locals) row) less)
-        (sym (ap (λ r. either_row r (part p depth (held_within (known_row locals) row) less)) (none.0 p)
-        ∙ ap (λ r. either_row no_local (part p depth (held_within (known_row locals) r) less)) (none_after_all lists locals (known_row locals) here b e)
-        ∙ same_rows (either_row no_local (part p depth (held_within (known_row locals) none_held) less)) no_local
+        shows_row locals (λ x. false) no_local (all_of p depth outside (restrictions_within (known_row locals) row) less)
+        (sym (ap (λ r. either_row r (part p depth (restrictions_within (known_row locals) row) less)) (none.0 p)
+        ∙ ap (λ r. either_row no_local (part p depth (restrictions_within (known_row locals) r) less)) (none_after_all lists locals (known_row locals) here b e)
+        ∙ same_rows (either_row no_local (part p depth (restrictions_within (known_row locals) no_restrictions) less)) no_local
         (λ k. none_of_both (p (SpawnIn depth)) (nat_lt k (length locals.ints)))
         (λ k. ap (λ u. ((p (SpawnIn depth) && (nat_lt k (length locals.arrays) && false))
         || (p (ReaderIn depth) && (nat_lt k (length locals.arrays) && false))) || (p CutOf && u))
@@ -250,7 +250,7 @@ holds_goes program lists returns known locals depth outside b here cuts taken to
         (shows_none locals)
 
     by : (r : Bool) → block_returns b ≡ r → Holds locals depth outside (where_it_goes_on r taken)
-        (held_within (known_row locals) (after_all (known_row locals) (spec.resolved_block lists locals b) here))
+        (restrictions_within (known_row locals) (after_all (known_row locals) (spec.resolved_block lists locals b) here))
         (cuts_after_all (spec.resolved_block lists locals b) cuts)
     by false e = last
     by true e = ⊎_elim
@@ -364,12 +364,12 @@ knows_cut program known locals a l r k c =
     (fresh_name program ((l, name_kind.Array) ∷ known) (spec.with_array l locals) r one (new_beside program known l r c.right c.apart)) one
 
 -- the locals held after a branch that continues
-pub branch_after : (program : Program) (lists : Lists) (returns : Returns) (known : Known) (locals : Locals) (depth : ℕ) (outside : Outside) (b : Block) (taken : Taken) (here : Held) (cuts : Slots) →
+pub branch_after : (program : Program) (lists : Lists) (returns : Returns) (known : Known) (locals : Locals) (depth : ℕ) (outside : Outside) (b : Block) (taken : Taken) (here : Restrictions) (cuts : Slots) →
     Knows known locals → Steady depth outside → AtTop returns outside cuts → faults_in_block program returns known b ≡ [] → Holds locals depth outside taken here cuts →
     Holds (all_locals locals b) depth outside (taken_after_all program.functions depth b taken)
     (after_all (known_row locals) (spec.resolved_block lists locals b) here) (cuts_after_all (spec.resolved_block lists locals b) cuts) →
     Holds locals depth outside (where_it_goes_on (block_returns b) (without (own_names b) (taken_after_all program.functions depth b taken)))
-    (held_within (known_row locals) (after_all (known_row locals) (spec.resolved_block lists locals b) here)) (cuts_after_all (spec.resolved_block lists locals b) cuts)
+    (restrictions_within (known_row locals) (after_all (known_row locals) (spec.resolved_block lists locals b) here)) (cuts_after_all (spec.resolved_block lists locals b) cuts)
 branch_after program lists returns known locals depth outside b taken here cuts k steady top fine h last =
     holds_goes program lists returns known locals depth outside b here cuts (without (own_names b) (taken_after_all program.functions depth b taken)) top fine
     (holds_end program returns known locals depth outside b taken here cuts (taken_after_all program.functions depth b taken)
@@ -378,37 +378,37 @@ branch_after program lists returns known locals depth outside b taken here cuts 
 
 -- the locals held after any number of iterations
 pub while_after : (program : Program) (lists : Lists) (returns : Returns) (known : Known) (locals : Locals) (depth : ℕ) (outside : Outside)
-    (e : Expr) (b : Block) (taken : Taken) (here : Held) (cuts : Slots) →
+    (e : Expr) (b : Block) (taken : Taken) (here : Restrictions) (cuts : Slots) →
     Knows known locals → Steady depth outside → AtTop returns outside cuts → faults_in_block program returns known b ≡ [] → Holds locals depth outside taken here cuts →
     Holds (all_locals locals b) depth outside (taken_after_all program.functions depth b taken)
     (after_all (known_row locals) (spec.resolved_block lists locals b) here) (cuts_after_all (spec.resolved_block lists locals b) cuts) →
-    Holds locals depth outside (taken_after program.functions depth (While e b) taken) (either_held here (gain (known_row locals) (spec.resolved_block lists locals b))) cuts
+    Holds locals depth outside (taken_after program.functions depth (While e b) taken) (either_restrictions here (gain (known_row locals) (spec.resolved_block lists locals b))) cuts
 while_after program lists returns known locals depth outside e b taken here cuts k steady top fine h last =
     let b' = spec.resolved_block lists locals b in
-    let row = held_within (known_row locals) (after_all (known_row locals) b' here) in
+    let row = restrictions_within (known_row locals) (after_all (known_row locals) b' here) in
     subst (λ r. Holds locals depth outside (taken_after program.functions depth (While e b) taken) r cuts) (turn_law (known_row locals) b' here)
-    (subst (λ c. Holds locals depth outside (taken_after program.functions depth (While e b) taken) (either_held here row) c)
+    (subst (λ c. Holds locals depth outside (taken_after program.functions depth (While e b) taken) (either_restrictions here row) c)
     (λ i. λ n. (or_comm (cuts n) (cuts_after_all b' cuts n) ∙ cuts_stay b' cuts n) i)
     (holds_either locals depth outside taken _ here row cuts (cuts_after_all b' cuts) h
     (branch_after program lists returns known locals depth outside b taken here cuts k steady top fine h last)))
 
 -- the locals held after a sync block without names of its own before it
-pub scope_after : (program : Program) (lists : Lists) (known : Known) (locals : Locals) (depth : ℕ) (outside : Outside) (b : Block) (taken : Taken) (here : Held) (cuts : Slots) →
+pub scope_after : (program : Program) (lists : Lists) (known : Known) (locals : Locals) (depth : ℕ) (outside : Outside) (b : Block) (taken : Taken) (here : Restrictions) (cuts : Slots) →
     Knows known locals → Steady depth outside → faults_in_block program Nowhere known b ≡ [] → Holds locals depth outside taken here cuts →
     Holds (all_locals locals b) (depth + 1) (entered outside depth here) (taken_after_all program.functions (depth + 1) b taken)
-    (after_all (known_row locals) (spec.resolved_block lists locals b) none_held) (cuts_after_all (spec.resolved_block lists locals b) cuts) →
+    (after_all (known_row locals) (spec.resolved_block lists locals b) no_restrictions) (cuts_after_all (spec.resolved_block lists locals b) cuts) →
     Holds locals depth outside (freed (depth + 1) (without (own_names b) (taken_after_all program.functions (depth + 1) b taken))) here (cuts_after_all (spec.resolved_block lists locals b) cuts)
 scope_after program lists known locals depth outside b taken here cuts k steady fine h last =
     let b' = spec.resolved_block lists locals b in
     holds_left locals depth outside here (without (own_names b) (taken_after_all program.functions (depth + 1) b taken))
-    (held_within (known_row locals) (after_all (known_row locals) b' none_held)) (cuts_after_all b' cuts) steady
-    (holds_end program Nowhere known locals (depth + 1) (entered outside depth here) b taken none_held cuts
-    (taken_after_all program.functions (depth + 1) b taken) (after_all (known_row locals) b' none_held) (cuts_after_all b' cuts)
+    (restrictions_within (known_row locals) (after_all (known_row locals) b' no_restrictions)) (cuts_after_all b' cuts) steady
+    (holds_end program Nowhere known locals (depth + 1) (entered outside depth here) b taken no_restrictions cuts
+    (taken_after_all program.functions (depth + 1) b taken) (after_all (known_row locals) b' no_restrictions) (cuts_after_all b' cuts)
     k fine (holds_inside locals depth outside taken here cuts h) (no_more_all b' cuts) last)
 
 mutual
   pub after_stmt : (program : Program) (lists : Lists) → lists.callees ≡ program.functions
-      → (returns : Returns) (known : Known) (locals : Locals) (depth : ℕ) (outside : Outside) (line : ℕ) (s : Stmt) (taken : Taken) (here : Held) (cuts : Slots) →
+      → (returns : Returns) (known : Known) (locals : Locals) (depth : ℕ) (outside : Outside) (line : ℕ) (s : Stmt) (taken : Taken) (here : Restrictions) (cuts : Slots) →
       Knows known locals → Steady depth outside → AtTop returns outside cuts → faults_in program returns known line s ≡ [] → Holds locals depth outside taken here cuts →
       Holds (spec.locals_after locals s) depth outside (taken_after program.functions depth s taken)
       (after (known_row locals) (spec.resolved_stmt lists locals s) here) (cuts_after (spec.resolved_stmt lists locals s) cuts)
@@ -431,8 +431,8 @@ mutual
   after_stmt program lists same returns known locals depth outside line (If e b) taken here cuts k steady top fine h =
       let rest = right_none (unless (is_fine known e) line) (faults_in_block program returns known b) fine in
       let b' = spec.resolved_block lists locals b in
-      let row = held_within (known_row locals) (after_all (known_row locals) b' here) in
-      subst (λ c. Holds locals depth outside (taken_after program.functions depth (If e b) taken) (either_held row here) c) (λ i. λ n. cuts_stay b' cuts n i)
+      let row = restrictions_within (known_row locals) (after_all (known_row locals) b' here) in
+      subst (λ c. Holds locals depth outside (taken_after program.functions depth (If e b) taken) (either_restrictions row here) c) (λ i. λ n. cuts_stay b' cuts n i)
       (holds_either locals depth outside _ taken row here (cuts_after_all b' cuts) cuts
       (branch_after program lists returns known locals depth outside b taken here cuts k steady top rest h
       (after_block program lists same returns known locals depth outside b taken here cuts k steady top rest h)) h)
@@ -440,8 +440,8 @@ mutual
       let rest = right_none (unless (is_fine known e) line) (faults_in_block program returns known b ++ faults_in_block program returns known c) fine in
       let first = left_none (faults_in_block program returns known b) (faults_in_block program returns known c) rest in
       let second = right_none (faults_in_block program returns known b) (faults_in_block program returns known c) rest in
-      holds_either locals depth outside _ _ (held_within (known_row locals) (after_all (known_row locals) (spec.resolved_block lists locals b) here))
-      (held_within (known_row locals) (after_all (known_row locals) (spec.resolved_block lists locals c) here))
+      holds_either locals depth outside _ _ (restrictions_within (known_row locals) (after_all (known_row locals) (spec.resolved_block lists locals b) here))
+      (restrictions_within (known_row locals) (after_all (known_row locals) (spec.resolved_block lists locals c) here))
       (cuts_after_all (spec.resolved_block lists locals b) cuts) (cuts_after_all (spec.resolved_block lists locals c) cuts)
       (branch_after program lists returns known locals depth outside b taken here cuts k steady top first h
       (after_block program lists same returns known locals depth outside b taken here cuts k steady top first h))
@@ -458,18 +458,18 @@ mutual
       let inner = holds_inside locals depth outside taken here cuts h in
       let b' = spec.resolved_block lists (spec.with_int x locals) b in
       holds_left locals depth outside here _ _ (cuts_after_all b' cuts) steady
-      (holds_end program Nowhere known locals (depth + 1) (entered outside depth here) (for_block x b) taken none_held cuts _ _
+      (holds_end program Nowhere known locals (depth + 1) (entered outside depth here) (for_block x b) taken no_restrictions cuts _ _
       (cuts_after_all b' cuts) k (for_fine program known x b new rest) inner (no_more_all b' cuts)
-      (after_block program lists same Nowhere ((x, name_kind.Integer) ∷ known) (spec.with_int x locals) (depth + 1) (entered outside depth here) b taken none_held cuts
+      (after_block program lists same Nowhere ((x, name_kind.Integer) ∷ known) (spec.with_int x locals) (depth + 1) (entered outside depth here) b taken no_restrictions cuts
       (knows_int known locals x (fresh_name program known locals x k new) k) (steady_inside depth outside here steady) (inl refl) rest
-      (holds_push_int locals (depth + 1) (entered outside depth here) taken none_held cuts x inner)))
+      (holds_push_int locals (depth + 1) (entered outside depth here) taken no_restrictions cuts x inner)))
   after_stmt program lists same returns known locals depth outside line (Scope b) taken here cuts k steady top fine h =
       scope_after program lists known locals depth outside b taken here cuts k steady fine h
-      (after_block program lists same Nowhere known locals (depth + 1) (entered outside depth here) b taken none_held cuts k
+      (after_block program lists same Nowhere known locals (depth + 1) (entered outside depth here) b taken no_restrictions cuts k
       (steady_inside depth outside here steady) (inl refl) fine (holds_inside locals depth outside taken here cuts h))
   after_stmt program lists same returns known locals depth outside line (Region tag b) taken here cuts k steady top fine h =
       scope_after program lists known locals depth outside b taken here cuts k steady fine h
-      (after_block program lists same Nowhere known locals (depth + 1) (entered outside depth here) b taken none_held cuts k
+      (after_block program lists same Nowhere known locals (depth + 1) (entered outside depth here) b taken no_restrictions cuts k
       (steady_inside depth outside here steady) (inl refl) fine (holds_inside locals depth outside taken here cuts h))
   after_stmt program lists same returns known locals depth outside line (Cut a e l r b) taken here cuts k steady top fine h =
       let c = is_cut program known a e l r in
@@ -482,15 +482,15 @@ mutual
       let inner = holds_inside locals depth outside taken' here more (holds_cut locals depth outside taken here cuts a (k.arrays a keeps.array) h) in
       holds_uncut locals depth outside _ here (cuts_after_all b' more) a steady (k.arrays a keeps.array)
       (holds_left locals depth outside here _ _ (cuts_after_all b' more) steady
-      (holds_end program Nowhere known locals (depth + 1) (entered outside depth here) (cut_block l r b) taken' none_held more _ _
+      (holds_end program Nowhere known locals (depth + 1) (entered outside depth here) (cut_block l r b) taken' no_restrictions more _ _
       (cuts_after_all b' more) k (cut_fine program known l r b keeps.left keeps.right keeps.apart rest) inner (no_more_all b' more)
-      (after_block program lists same Nowhere ((r, name_kind.Array) ∷ (l, name_kind.Array) ∷ known) locals' (depth + 1) (entered outside depth here) b taken' none_held more
+      (after_block program lists same Nowhere ((r, name_kind.Array) ∷ (l, name_kind.Array) ∷ known) locals' (depth + 1) (entered outside depth here) b taken' no_restrictions more
       (knows_cut program known locals a l r k keeps) (steady_inside depth outside here steady) (inl refl) rest
-      (holds_push_array (spec.with_array l locals) (depth + 1) (entered outside depth here) taken' none_held more r
-      (holds_push_array locals (depth + 1) (entered outside depth here) taken' none_held more l inner)))))
+      (holds_push_array (spec.with_array l locals) (depth + 1) (entered outside depth here) taken' no_restrictions more r
+      (holds_push_array locals (depth + 1) (entered outside depth here) taken' no_restrictions more l inner)))))
 
   pub after_block : (program : Program) (lists : Lists) → lists.callees ≡ program.functions
-      → (returns : Returns) (known : Known) (locals : Locals) (depth : ℕ) (outside : Outside) (b : Block) (taken : Taken) (here : Held) (cuts : Slots) →
+      → (returns : Returns) (known : Known) (locals : Locals) (depth : ℕ) (outside : Outside) (b : Block) (taken : Taken) (here : Restrictions) (cuts : Slots) →
       Knows known locals → Steady depth outside → AtTop returns outside cuts → faults_in_block program returns known b ≡ [] → Holds locals depth outside taken here cuts →
       Holds (all_locals locals b) depth outside (taken_after_all program.functions depth b taken)
       (after_all (known_row locals) (spec.resolved_block lists locals b) here) (cuts_after_all (spec.resolved_block lists locals b) cuts)

@@ -11,28 +11,28 @@ use Rattle.cw_tree.specs.Resolved.{Locals, slot_of}
 use Rattle.cw_tree.specs.Resolved as spec
 use Rattle.cw_tree.specs.lemmas.NamedSlots.{one_slot}
 use Rattle.cw_own.specs.Sets.{Slots, with_slot, without_slot, either, Row, with_int, with_array, either_row}
-use Rattle.cw_own.specs.Taken.{Held, none_held, taking_int, taking_array, freezing, either_held}
+use Rattle.cw_own.specs.Taken.{Restrictions, no_restrictions, taking_int, taking_array, freezing, either_restrictions}
 use Rattle.cw_own.proofs.Words.{four_or}
 use Rattle.cw_own.proofs.Keeping.{same_rows}
 use Rattle.cw_own.proofs.Holding.{held, is_cut, but_spawn, but_cut, held_append, held_freed, uncut_test, held_uncut, held_same}
 use Rattle.cw_own.proofs.Showing.{Shows, shows_as, shows_row, shows_either, shows_int, shows_array, shows_push_int, shows_push_array}
 
 -- the arrays held by holders of a kind, among spawns of a sync block
-abbrev pub spun : (Holder → Bool) → ℕ → Held → Slots
+abbrev pub spun : (Holder → Bool) → ℕ → Restrictions → Slots
 spun p depth here = λ k. (p (SpawnIn depth) && here.arrays k) || (p (ReaderIn depth) && here.frozen k)
 
 -- the locals that holders of a kind hold, among spawns of a sync block and cuts
-abbrev pub part : (Holder → Bool) → ℕ → Held → Slots → Row
+abbrev pub part : (Holder → Bool) → ℕ → Restrictions → Slots → Row
 part p depth here cuts = record {
   ints = λ k. p (SpawnIn depth) && here.ints k;
   arrays = λ k. spun p depth here k || (p CutOf && cuts k);
 }
 
 -- the locals that holders of a kind hold, including those from outside
-abbrev pub all_of : (Holder → Bool) → ℕ → ((Holder → Bool) → Row) → Held → Slots → Row
+abbrev pub all_of : (Holder → Bool) → ℕ → ((Holder → Bool) → Row) → Restrictions → Slots → Row
 all_of p depth outside here cuts = either_row (outside p) (part p depth here cuts)
 
-abbrev pub Holds : Locals → ℕ → ((Holder → Bool) → Row) → Taken → Held → Slots → Type 0
+abbrev pub Holds : Locals → ℕ → ((Holder → Bool) → Row) → Taken → Restrictions → Slots → Type 0
 Holds locals depth outside taken here cuts = (p : Holder → Bool) → Shows locals (held p taken) (all_of p depth outside here cuts)
 
 -- no spawn from this depth on, and no cut, holds what is held from outside
@@ -83,7 +83,7 @@ by_none true false r e = refl
 by_none false false r e = refl
 by_none s true r e = cc
 
-pub holds_int : (locals : Locals) (depth : ℕ) (outside : (Holder → Bool) → Row) (taken : Taken) (here : Held) (cuts : Slots) (x : Name) →
+pub holds_int : (locals : Locals) (depth : ℕ) (outside : (Holder → Bool) → Row) (taken : Taken) (here : Restrictions) (cuts : Slots) (x : Name) →
     is_among x locals.ints ≡ true → Holds locals depth outside taken here cuts →
     Holds locals depth outside ((x, SpawnIn depth) ∷ taken) (taking_int (slot_of x locals.ints) here) cuts
 holds_int locals depth outside taken here cuts x there h p = by (p (SpawnIn depth)) refl
@@ -105,7 +105,7 @@ holds_int locals depth outside taken here cuts x there h p = by (p (SpawnIn dept
         (λ k. put_off (p (SpawnIn depth)) ((outside p).ints k) (here.ints k) ((k == slot_of x locals.ints) || here.ints k) e) (λ k. refl))
         (h p))
 
-pub holds_array : (locals : Locals) (depth : ℕ) (outside : (Holder → Bool) → Row) (taken : Taken) (here : Held) (cuts : Slots) (x : Name) →
+pub holds_array : (locals : Locals) (depth : ℕ) (outside : (Holder → Bool) → Row) (taken : Taken) (here : Restrictions) (cuts : Slots) (x : Name) →
     is_among x locals.arrays ≡ true → Holds locals depth outside taken here cuts →
     Holds locals depth outside ((x, SpawnIn depth) ∷ taken) (taking_array (slot_of x locals.arrays) here) cuts
 holds_array locals depth outside taken here cuts x there h p = by (p (SpawnIn depth)) refl
@@ -129,7 +129,7 @@ holds_array locals depth outside taken here cuts x there h p = by (p (SpawnIn de
         (h p))
 
 -- a spawn that only reads an array freezes it
-pub holds_frozen : (locals : Locals) (depth : ℕ) (outside : (Holder → Bool) → Row) (taken : Taken) (here : Held) (cuts : Slots) (x : Name) →
+pub holds_frozen : (locals : Locals) (depth : ℕ) (outside : (Holder → Bool) → Row) (taken : Taken) (here : Restrictions) (cuts : Slots) (x : Name) →
     is_among x locals.arrays ≡ true → Holds locals depth outside taken here cuts →
     Holds locals depth outside ((x, ReaderIn depth) ∷ taken) (freezing (slot_of x locals.arrays) here) cuts
 holds_frozen locals depth outside taken here cuts x there h p = by (p (ReaderIn depth)) refl
@@ -179,12 +179,12 @@ two_arrays r q a b d m n c u v =
     ∙ ap (λ x. r || (((q && (a || b)) || x) || ((c && u) || (c && v)))) (shared d m n)
     ∙ ap (λ x. r || (((q && (a || b)) || (d && (m || n))) || x)) (shared c u v)
 
-pub holds_either : (locals : Locals) (depth : ℕ) (outside : (Holder → Bool) → Row) (s t : Taken) (a b : Held) (u v : Slots) →
-    Holds locals depth outside s a u → Holds locals depth outside t b v → Holds locals depth outside (s ++ t) (either_held a b) (either u v)
+pub holds_either : (locals : Locals) (depth : ℕ) (outside : (Holder → Bool) → Row) (s t : Taken) (a b : Restrictions) (u v : Slots) →
+    Holds locals depth outside s a u → Holds locals depth outside t b v → Holds locals depth outside (s ++ t) (either_restrictions a b) (either u v)
 holds_either locals depth outside s t a b u v f g p =
     shows_as locals (λ z. held p s z || held p t z) (held p (s ++ t)) _ (λ z. held_append p s t z)
-    (shows_row locals (λ z. held p s z || held p t z) (either_row (all_of p depth outside a u) (all_of p depth outside b v)) (all_of p depth outside (either_held a b) (either u v))
-    (same_rows (either_row (all_of p depth outside a u) (all_of p depth outside b v)) (all_of p depth outside (either_held a b) (either u v))
+    (shows_row locals (λ z. held p s z || held p t z) (either_row (all_of p depth outside a u) (all_of p depth outside b v)) (all_of p depth outside (either_restrictions a b) (either u v))
+    (same_rows (either_row (all_of p depth outside a u) (all_of p depth outside b v)) (all_of p depth outside (either_restrictions a b) (either u v))
     (λ k. two_ints ((outside p).ints k) (p (SpawnIn depth)) (a.ints k) (b.ints k))
     (λ k. two_arrays ((outside p).arrays k) (p (SpawnIn depth)) (a.arrays k) (b.arrays k) (p (ReaderIn depth)) (a.frozen k) (b.frozen k) (p CutOf) (u k) (v k)))
     (shows_either locals (held p s) (held p t) (all_of p depth outside a u) (all_of p depth outside b v) (f p) (g p)))
@@ -211,14 +211,14 @@ freed_arrays r q a d m c u n e =
     ∙ ap (λ x. r || (((q && false) || (d && false)) || (x && u))) (and-true c)
 
 -- a join frees what the spawns of its sync block hold
-pub holds_freed : (locals : Locals) (depth : ℕ) (outside : (Holder → Bool) → Row) (taken : Taken) (here : Held) (cuts : Slots) → Steady depth outside →
-    Holds locals depth outside taken here cuts → Holds locals depth outside (freed depth taken) none_held cuts
+pub holds_freed : (locals : Locals) (depth : ℕ) (outside : (Holder → Bool) → Row) (taken : Taken) (here : Restrictions) (cuts : Slots) → Steady depth outside →
+    Holds locals depth outside taken here cuts → Holds locals depth outside (freed depth taken) no_restrictions cuts
 holds_freed locals depth outside taken here cuts steady h p =
     let left = but_spawn depth p in
     let same = steady.spawns depth (omega arith) p in
     shows_as locals (held left taken) (held p (freed depth taken)) _ (λ z. held_freed depth p taken z)
-    (shows_row locals (held left taken) (all_of left depth outside here cuts) (all_of p depth outside none_held cuts)
-    (same_rows (all_of left depth outside here cuts) (all_of p depth outside none_held cuts)
+    (shows_row locals (held left taken) (all_of left depth outside here cuts) (all_of p depth outside no_restrictions cuts)
+    (same_rows (all_of left depth outside here cuts) (all_of p depth outside no_restrictions cuts)
     (λ k. ap (λ (r : Row). r.ints k || ((p (SpawnIn depth) && not (depth == depth)) && here.ints k)) same
     ∙ freed_ints ((outside p).ints k) (p (SpawnIn depth)) (here.ints k) (depth == depth) (equal depth depth refl))
     (λ k. ap (λ (r : Row). r.arrays k || ((((p (SpawnIn depth) && not (depth == depth)) && here.arrays k)
@@ -227,7 +227,7 @@ holds_freed locals depth outside taken here cuts steady h p =
     (h left))
 
 -- the locals held from outside at the start of a sync block
-abbrev pub entered : ((Holder → Bool) → Row) → ℕ → Held → (Holder → Bool) → Row
+abbrev pub entered : ((Holder → Bool) → Row) → ℕ → Restrictions → (Holder → Bool) → Row
 entered outside depth here p = record {
   ints = λ k. (outside p).ints k || (p (SpawnIn depth) && here.ints k);
   arrays = λ k. (outside p).arrays k || spun p depth here k;
@@ -236,7 +236,7 @@ entered outside depth here p = record {
 apart_depth : (d e : ℕ) → d + 1 ≤ e → (d == e) ≡ false
 apart_depth d e le = grind (arith, nat_tests)
 
-pub steady_inside : (depth : ℕ) (outside : (Holder → Bool) → Row) (here : Held) → Steady depth outside → Steady (depth + 1) (entered outside depth here)
+pub steady_inside : (depth : ℕ) (outside : (Holder → Bool) → Row) (here : Restrictions) → Steady depth outside → Steady (depth + 1) (entered outside depth here)
 steady_inside depth outside here s = record {
   spawns = λ d le p.
       let same = s.spawns d (omega (arith, le)) p in
@@ -264,11 +264,11 @@ entered_arrays r x n m c =
     sym (or_assoc r x c) ∙ ap (λ b. (r || x) || (b || c)) (sym (ap (λ a. a || (m && false)) (and-false n) ∙ and-false m))
 
 -- the start of a sync block
-pub holds_inside : (locals : Locals) (depth : ℕ) (outside : (Holder → Bool) → Row) (taken : Taken) (here : Held) (cuts : Slots) →
-    Holds locals depth outside taken here cuts → Holds locals (depth + 1) (entered outside depth here) taken none_held cuts
+pub holds_inside : (locals : Locals) (depth : ℕ) (outside : (Holder → Bool) → Row) (taken : Taken) (here : Restrictions) (cuts : Slots) →
+    Holds locals depth outside taken here cuts → Holds locals (depth + 1) (entered outside depth here) taken no_restrictions cuts
 holds_inside locals depth outside taken here cuts h p =
-    shows_row locals (held p taken) (all_of p depth outside here cuts) (all_of p (depth + 1) (entered outside depth here) none_held cuts)
-    (same_rows (all_of p depth outside here cuts) (all_of p (depth + 1) (entered outside depth here) none_held cuts)
+    shows_row locals (held p taken) (all_of p depth outside here cuts) (all_of p (depth + 1) (entered outside depth here) no_restrictions cuts)
+    (same_rows (all_of p depth outside here cuts) (all_of p (depth + 1) (entered outside depth here) no_restrictions cuts)
     (λ k. entered_ints ((outside p).ints k) (p (SpawnIn depth)) (here.ints k) (p (SpawnIn (depth + 1))))
     (λ k. entered_arrays ((outside p).arrays k) (spun p depth here k) (p (SpawnIn (depth + 1))) (p (ReaderIn (depth + 1))) (p CutOf && cuts k)))
     (h p)
@@ -289,7 +289,7 @@ left_arrays r x m b d f c u n e =
     ∙ ap (λ y. (r || x) || (y && u)) (and-true c)
     ∙ or_assoc r x (c && u)
 
-pub holds_left : (locals : Locals) (depth : ℕ) (outside : (Holder → Bool) → Row) (here : Held) (taken : Taken) (inner : Held) (cuts : Slots) → Steady depth outside →
+pub holds_left : (locals : Locals) (depth : ℕ) (outside : (Holder → Bool) → Row) (here : Restrictions) (taken : Taken) (inner : Restrictions) (cuts : Slots) → Steady depth outside →
     Holds locals (depth + 1) (entered outside depth here) taken inner cuts → Holds locals depth outside (freed (depth + 1) taken) here cuts
 holds_left locals depth outside here taken inner cuts steady h p =
     let left = but_spawn (depth + 1) p in
@@ -315,11 +315,11 @@ holds_left locals depth outside here taken inner cuts steady h p =
     (h left))
 
 -- the agreement holds after a name is added to the known locals
-pub holds_push_int : (locals : Locals) (depth : ℕ) (outside : (Holder → Bool) → Row) (taken : Taken) (here : Held) (cuts : Slots) (y : Name) →
+pub holds_push_int : (locals : Locals) (depth : ℕ) (outside : (Holder → Bool) → Row) (taken : Taken) (here : Restrictions) (cuts : Slots) (y : Name) →
     Holds locals depth outside taken here cuts → Holds (spec.with_int y locals) depth outside taken here cuts
 holds_push_int locals depth outside taken here cuts y h p = shows_push_int locals y (held p taken) (all_of p depth outside here cuts) (h p)
 
-pub holds_push_array : (locals : Locals) (depth : ℕ) (outside : (Holder → Bool) → Row) (taken : Taken) (here : Held) (cuts : Slots) (y : Name) →
+pub holds_push_array : (locals : Locals) (depth : ℕ) (outside : (Holder → Bool) → Row) (taken : Taken) (here : Restrictions) (cuts : Slots) (y : Name) →
     Holds locals depth outside taken here cuts → Holds (spec.with_array y locals) depth outside taken here cuts
 holds_push_array locals depth outside taken here cuts y h p = shows_push_array locals y (held p taken) (all_of p depth outside here cuts) (h p)
 
@@ -336,7 +336,7 @@ put_off_last true r h u v e = cc
 put_off_last false r h u v e = refl
 
 -- a cut takes its array
-pub holds_cut : (locals : Locals) (depth : ℕ) (outside : (Holder → Bool) → Row) (taken : Taken) (here : Held) (cuts : Slots) (a : Name) →
+pub holds_cut : (locals : Locals) (depth : ℕ) (outside : (Holder → Bool) → Row) (taken : Taken) (here : Restrictions) (cuts : Slots) (a : Name) →
     is_among a locals.arrays ≡ true → Holds locals depth outside taken here cuts →
     Holds locals depth outside ((a, CutOf) ∷ taken) here (with_slot (slot_of a locals.arrays) cuts)
 holds_cut locals depth outside taken here cuts a there h p = by (p CutOf) refl
@@ -373,7 +373,7 @@ freed_cut r x c u n e = ap (λ y. r || (x || y)) (by c) ∙ sym (ap (λ n. r || 
     by false = refl
 
 -- the end of a cut frees its array
-pub holds_uncut : (locals : Locals) (depth : ℕ) (outside : (Holder → Bool) → Row) (taken : Taken) (here : Held) (cuts : Slots) (a : Name) → Steady depth outside →
+pub holds_uncut : (locals : Locals) (depth : ℕ) (outside : (Holder → Bool) → Row) (taken : Taken) (here : Restrictions) (cuts : Slots) (a : Name) → Steady depth outside →
     is_among a locals.arrays ≡ true → Holds locals depth outside taken here cuts →
     Holds locals depth outside (cut_ended a taken) here (without_slot (slot_of a locals.arrays) cuts)
 holds_uncut locals depth outside taken here cuts a steady there h p = record {

@@ -6,80 +6,80 @@ use Rattle.cw_model.specs.declared.syntax.CallKind.TheVariants.{Plain, Spawned}
 use Rattle.cw_tree.specs.Resolved.{Use, Argument, Int, Array, Shared, Stmt, Declare, DeclareArray, Assign, AssignElement, Reduce, Call}
 use Rattle.cw_tree.specs.Resolved.{Sync, If, IfElse, While, For, Scope, Cut, Region, Print, Return, Block, End, Then}
 use Rattle.cw_own.specs.Sets.{Slots, with_slot, both, Row}
-use Rattle.cw_own.specs.Taken.{Held, none_held, taking_int, taking_array, freezing, either_held, held_within, with_target, with_arrays, known_after, after, after_all, gain, cuts_after, cuts_after_all}
+use Rattle.cw_own.specs.Taken.{Restrictions, no_restrictions, taking_int, taking_array, freezing, either_restrictions, restrictions_within, with_target, with_arrays, known_after, after, after_all, gain, cuts_after, cuts_after_all}
 use Rattle.cw_own.proofs.Words.{two_steps, two_ways, turn_adds, masked, or_none_of}
 
 pub same_rows : (r s : Row) → ((k : ℕ) → r.ints k ≡ s.ints k) → ((k : ℕ) → r.arrays k ≡ s.arrays k) → r ≡ s
 same_rows r s f g = λ i. record { ints = λ k. f k i; arrays = λ k. g k i }
 
-pub same_held : (h g : Held) → ((k : ℕ) → h.ints k ≡ g.ints k) → ((k : ℕ) → h.arrays k ≡ g.arrays k) → ((k : ℕ) → h.frozen k ≡ g.frozen k) → h ≡ g
+pub same_held : (h g : Restrictions) → ((k : ℕ) → h.ints k ≡ g.ints k) → ((k : ℕ) → h.arrays k ≡ g.arrays k) → ((k : ℕ) → h.frozen k ≡ g.frozen k) → h ≡ g
 same_held h g p q r = λ i. record { ints = λ k. p k i; arrays = λ k. q k i; frozen = λ k. r k i }
 
-abbrev every : Held
+abbrev every : Restrictions
 every = record { ints = λ k. true; arrays = λ k. true; frozen = λ k. true }
 
 -- the intersection of what two hold
-abbrev both_held : Held → Held → Held
-both_held h g = record { ints = both h.ints g.ints; arrays = both h.arrays g.arrays; frozen = both h.frozen g.frozen }
+abbrev both_restrictions : Restrictions → Restrictions → Restrictions
+both_restrictions h g = record { ints = both h.ints g.ints; arrays = both h.arrays g.arrays; frozen = both h.frozen g.frozen }
 
 -- a step holds what it holds without anything held before, and keeps a part of what was held before
-pub record Acts (f : Held → Held) : Type 0 where
-  pub kept : Held
-  pub law : (here : Held) → f here ≡ either_held (f none_held) (both_held here kept)
+pub record Acts (f : Restrictions → Restrictions) : Type 0 where
+  pub kept : Restrictions
+  pub law : (here : Restrictions) → f here ≡ either_restrictions (f no_restrictions) (both_restrictions here kept)
 
 all_stays : Acts (λ here. here)
 all_stays = record {
   kept = every;
-  law = λ here. same_held here (either_held none_held (both_held here every)) (λ k. sym (and-true (here.ints k))) (λ k. sym (and-true (here.arrays k))) (λ k. sym (and-true (here.frozen k)));
+  law = λ here. same_held here (either_restrictions no_restrictions (both_restrictions here every)) (λ k. sym (and-true (here.ints k))) (λ k. sym (and-true (here.arrays k))) (λ k. sym (and-true (here.frozen k)));
 }
 
-none_stays : (r : Held) → Acts (λ here. r)
+none_stays : (r : Restrictions) → Acts (λ here. r)
 none_stays r = record {
-  kept = none_held;
-  law = λ here. same_held r (either_held r (both_held here none_held)) (λ k. or_none_of (r.ints k) (here.ints k))
+  kept = no_restrictions;
+  law = λ here. same_held r (either_restrictions r (both_restrictions here no_restrictions)) (λ k. or_none_of (r.ints k) (here.ints k))
       (λ k. or_none_of (r.arrays k) (here.arrays k)) (λ k. or_none_of (r.frozen k) (here.frozen k));
 }
 
-pub one_after_another : (f g : Held → Held) → Acts f → Acts g → Acts (λ here. g (f here))
+pub one_after_another : (f g : Restrictions → Restrictions) → Acts f → Acts g → Acts (λ here. g (f here))
 one_after_another f g a b = record {
-  kept = both_held a.kept b.kept;
+  kept = both_restrictions a.kept b.kept;
   law = λ here.
       b.law (f here)
-      ∙ ap (λ r. either_held (g none_held) (both_held r b.kept)) (a.law here)
+      ∙ ap (λ r. either_restrictions (g no_restrictions) (both_restrictions r b.kept)) (a.law here)
       ∙ same_held
-      (either_held (g none_held) (both_held (either_held (f none_held) (both_held here a.kept)) b.kept))
-      (either_held (either_held (g none_held) (both_held (f none_held) b.kept)) (both_held here (both_held a.kept b.kept)))
-      (λ k. two_steps ((g none_held).ints k) ((f none_held).ints k) (here.ints k) (a.kept.ints k) (b.kept.ints k))
-      (λ k. two_steps ((g none_held).arrays k) ((f none_held).arrays k) (here.arrays k) (a.kept.arrays k) (b.kept.arrays k))
-      (λ k. two_steps ((g none_held).frozen k) ((f none_held).frozen k) (here.frozen k) (a.kept.frozen k) (b.kept.frozen k))
-      ∙ ap (λ r. either_held r (both_held here (both_held a.kept b.kept))) (sym (b.law (f none_held)));
+      (either_restrictions (g no_restrictions) (both_restrictions (either_restrictions (f no_restrictions) (both_restrictions here a.kept)) b.kept))
+      (either_restrictions (either_restrictions (g no_restrictions) (both_restrictions (f no_restrictions) b.kept)) (both_restrictions here (both_restrictions a.kept b.kept)))
+      (λ k. two_steps ((g no_restrictions).ints k) ((f no_restrictions).ints k) (here.ints k) (a.kept.ints k) (b.kept.ints k))
+      (λ k. two_steps ((g no_restrictions).arrays k) ((f no_restrictions).arrays k) (here.arrays k) (a.kept.arrays k) (b.kept.arrays k))
+      (λ k. two_steps ((g no_restrictions).frozen k) ((f no_restrictions).frozen k) (here.frozen k) (a.kept.frozen k) (b.kept.frozen k))
+      ∙ ap (λ r. either_restrictions r (both_restrictions here (both_restrictions a.kept b.kept))) (sym (b.law (f no_restrictions)));
 }
 
-pub either_way : (f g : Held → Held) → Acts f → Acts g → Acts (λ here. either_held (f here) (g here))
+pub either_way : (f g : Restrictions → Restrictions) → Acts f → Acts g → Acts (λ here. either_restrictions (f here) (g here))
 either_way f g a b = record {
-  kept = either_held a.kept b.kept;
+  kept = either_restrictions a.kept b.kept;
   law = λ here.
-      ap (λ r. either_held r (g here)) (a.law here)
-      ∙ ap (λ r. either_held (either_held (f none_held) (both_held here a.kept)) r) (b.law here)
+      ap (λ r. either_restrictions r (g here)) (a.law here)
+      ∙ ap (λ r. either_restrictions (either_restrictions (f no_restrictions) (both_restrictions here a.kept)) r) (b.law here)
       ∙ same_held
-      (either_held (either_held (f none_held) (both_held here a.kept)) (either_held (g none_held) (both_held here b.kept)))
-      (either_held (either_held (f none_held) (g none_held)) (both_held here (either_held a.kept b.kept)))
-      (λ k. two_ways ((f none_held).ints k) ((g none_held).ints k) (here.ints k) (a.kept.ints k) (b.kept.ints k))
-      (λ k. two_ways ((f none_held).arrays k) ((g none_held).arrays k) (here.arrays k) (a.kept.arrays k) (b.kept.arrays k))
-      (λ k. two_ways ((f none_held).frozen k) ((g none_held).frozen k) (here.frozen k) (a.kept.frozen k) (b.kept.frozen k));
+      (either_restrictions (either_restrictions (f no_restrictions) (both_restrictions here a.kept)) (either_restrictions (g no_restrictions) (both_restrictions here b.kept)))
+      (either_restrictions (either_restrictions (f no_restrictions) (g no_restrictions)) (both_restrictions here (either_restrictions a.kept b.kept)))
+      (λ k. two_ways ((f no_restrictions).ints k) ((g no_restrictions).ints k) (here.ints k) (a.kept.ints k) (b.kept.ints k))
+      (λ k. two_ways ((f no_restrictions).arrays k) ((g no_restrictions).arrays k) (here.arrays k) (a.kept.arrays k) (b.kept.arrays k))
+      (λ k. two_ways ((f no_restrictions).frozen k) ((g no_restrictions).frozen k) (here.frozen k) (a.kept.frozen k) (b.kept.frozen k));
 }
 
-pub within : (known : Row) (f : Held → Held) → Acts f → Acts (λ here. held_within known (f here))
+pub within : (known : Row) (f : Restrictions → Restrictions) → Acts f → Acts (λ here. restrictions_within known (f here))
 within known f a = record {
-  kept = held_within known a.kept;
+  kept = restrictions_within known a.kept;
   law = λ here.
-      ap (held_within known) (a.law here)
+      ap (restrictions_within known) (a.law here)
       ∙ same_held
-      (held_within known (either_held (f none_held) (both_held here a.kept)))
-      (either_held (held_within known (f none_held)) (both_held here (held_within known a.kept)))
-      (λ k. masked (known.ints k) ((f none_held).ints k) (here.ints k) (a.kept.ints k))
-      (λ k. masked (known.arrays k) ((f none_held).arrays k) (here.arrays k) (a.kept.arrays k))
-      (λ k. masked (known.arrays k) ((f none_held).frozen k) (here.frozen k) (a.kept.frozen k));
+      (restrictions_within known (either_restrictions (f no_restrictions) (both_restrictions here a.kept)))
+      (either_restrictions (restrictions_within known (f no_restrictions)) (both_restrictions here (restrictions_within known a.kept)))
+      (λ k. masked (known.ints k) ((f no_restrictions).ints k) (here.ints k) (a.kept.ints k))
+      (λ k. masked (known.arrays k) ((f no_restrictions).arrays k) (here.arrays k) (a.kept.arrays k))
+      (λ k. masked (known.arrays k) ((f no_restrictions).frozen k) (here.frozen k) (a.kept.frozen k));
 }
 
 one_slot_more : (a h : Bool) → (a || h) ≡ ((a || false) || (h && true))
@@ -90,21 +90,21 @@ one_slot_more false false = refl
 int_more : (slot : ℕ) → Acts (taking_int slot)
 int_more slot = record {
   kept = every;
-  law = λ here. same_held (taking_int slot here) (either_held (taking_int slot none_held) (both_held here every))
+  law = λ here. same_held (taking_int slot here) (either_restrictions (taking_int slot no_restrictions) (both_restrictions here every))
       (λ k. one_slot_more (k == slot) (here.ints k)) (λ k. sym (and-true (here.arrays k))) (λ k. sym (and-true (here.frozen k)));
 }
 
 array_more : (slot : ℕ) → Acts (taking_array slot)
 array_more slot = record {
   kept = every;
-  law = λ here. same_held (taking_array slot here) (either_held (taking_array slot none_held) (both_held here every))
+  law = λ here. same_held (taking_array slot here) (either_restrictions (taking_array slot no_restrictions) (both_restrictions here every))
       (λ k. sym (and-true (here.ints k))) (λ k. one_slot_more (k == slot) (here.arrays k)) (λ k. sym (and-true (here.frozen k)));
 }
 
 frozen_more : (slot : ℕ) → Acts (freezing slot)
 frozen_more slot = record {
   kept = every;
-  law = λ here. same_held (freezing slot here) (either_held (freezing slot none_held) (both_held here every))
+  law = λ here. same_held (freezing slot here) (either_restrictions (freezing slot no_restrictions) (both_restrictions here every))
       (λ k. sym (and-true (here.ints k))) (λ k. sym (and-true (here.arrays k))) (λ k. one_slot_more (k == slot) (here.frozen k));
 }
 
@@ -127,10 +127,10 @@ mutual
   stmt_acts known (Reduce how s e) = all_stays
   stmt_acts known (Call Plain site target f es) = all_stays
   stmt_acts known (Call Spawned site target f es) = one_after_another (with_target target) (with_arrays es) (target_acts target) (arrays_act es)
-  stmt_acts known Sync = none_stays none_held
-  stmt_acts known (If e b) = either_way (λ here. held_within known (after_all known b here)) (λ here. here) (within known (after_all known b) (block_acts known b)) all_stays
+  stmt_acts known Sync = none_stays no_restrictions
+  stmt_acts known (If e b) = either_way (λ here. restrictions_within known (after_all known b here)) (λ here. here) (within known (after_all known b) (block_acts known b)) all_stays
   stmt_acts known (IfElse e b c) =
-      either_way (λ here. held_within known (after_all known b here)) (λ here. held_within known (after_all known c here))
+      either_way (λ here. restrictions_within known (after_all known b here)) (λ here. restrictions_within known (after_all known c here))
       (within known (after_all known b) (block_acts known b)) (within known (after_all known c) (block_acts known c))
   stmt_acts known (While e b) = either_way (λ here. here) (λ here. gain known b) all_stays (none_stays (gain known b))
   stmt_acts known (For head b) = all_stays
@@ -138,19 +138,19 @@ mutual
   stmt_acts known (Cut parts b) = all_stays
   stmt_acts known (Region tag b) = all_stays
   stmt_acts known (Print e) = all_stays
-  stmt_acts known (Return e) = none_stays none_held
+  stmt_acts known (Return e) = none_stays no_restrictions
 
   pub block_acts : (known : Row) (b : Block) → Acts (after_all known b)
   block_acts known End = all_stays
   block_acts known (Then line s b) = one_after_another (after known s) (after_all (known_after known s) b) (stmt_acts known s) (block_acts (known_after known s) b)
 
 -- any number of iterations hold what was held before and what one iteration holds that begins with nothing held
-pub turn_law : (known : Row) (b : Block) (here : Held) →
-    either_held here (held_within known (after_all known b here)) ≡ either_held here (gain known b)
+pub turn_law : (known : Row) (b : Block) (here : Restrictions) →
+    either_restrictions here (restrictions_within known (after_all known b here)) ≡ either_restrictions here (gain known b)
 turn_law known b here =
     let a = within known (after_all known b) (block_acts known b) in
-    ap (either_held here) (a.law here)
-    ∙ same_held (either_held here (either_held (gain known b) (both_held here a.kept))) (either_held here (gain known b))
+    ap (either_restrictions here) (a.law here)
+    ∙ same_held (either_restrictions here (either_restrictions (gain known b) (both_restrictions here a.kept))) (either_restrictions here (gain known b))
     (λ k. turn_adds ((gain known b).ints k) (here.ints k) (a.kept.ints k))
     (λ k. turn_adds ((gain known b).arrays k) (here.arrays k) (a.kept.arrays k))
     (λ k. turn_adds ((gain known b).frozen k) (here.frozen k) (a.kept.frozen k))

@@ -25,7 +25,7 @@ use Rattle.cw_tree.specs.lemmas.NamedSlots.{among_push}
 use Rattle.cw_tree.specs.lemmas.Names.{among_more}
 use Rattle.cw_own.specs.Sets.{Slots, no_slot, with_slot, Row, with_int, with_array}
 use Rattle.cw_own.specs.Taken as rows
-use Rattle.cw_own.specs.Taken.{Held, none_held, either_held, int_taken, array_held, known_after, after, after_all, cuts_after, cuts_after_all, gain}
+use Rattle.cw_own.specs.Taken.{Restrictions, no_restrictions, either_restrictions, int_taken, array_held, known_after, after, after_all, cuts_after, cuts_after_all, gain}
 use Rattle.cw_own.specs.Rules as rules
 use Rattle.cw_own.specs.Rules.{Loop, with_uses, keeps, left_line, left_lines, left_at_end, seen_by, lines_within, lines_in}
 use Rattle.cw_own.proofs.Words.{if_or, four_or}
@@ -239,22 +239,22 @@ over_shown known locals xs k h =
     shows_as locals (λ y. is_among y xs || false) (λ y. is_among y xs) _ (λ y. sym (or-false (is_among y xs))) (uses_shown known locals xs (λ y. false) no_slot k h (shows_none locals))
 
 -- the locals held, in three parts
-abbrev pub taken_rows : Held → Held → Slots → rows.Taken
+abbrev pub taken_rows : Restrictions → Restrictions → Slots → rows.Taken
 taken_rows outer here cuts = record { outer = outer; here = here; cuts = cuts }
 
 -- the locals held from outside, by holders and by slots
-pub record Stands (depth : ℕ) (outside : Outside) (outer : Held) : Type 0 where
+pub record Stands (depth : ℕ) (outside : Outside) (outer : Restrictions) : Type 0 where
   pub steady : Steady depth outside
   pub taken : outside no_reader ≡ record { ints = outer.ints; arrays = outer.arrays }
   pub held : outside any_holder ≡ record { ints = outer.ints; arrays = λ k. outer.arrays k || outer.frozen k }
 
-pub stands_inside : (depth : ℕ) (outside : Outside) (outer here : Held) → Stands depth outside outer → Stands (depth + 1) (entered outside depth here) (either_held outer here)
+pub stands_inside : (depth : ℕ) (outside : Outside) (outer here : Restrictions) → Stands depth outside outer → Stands (depth + 1) (entered outside depth here) (either_restrictions outer here)
 stands_inside depth outside outer here s = record {
   steady = steady_inside depth outside here s.steady;
-  taken = same_rows (entered outside depth here no_reader) (record { ints = (either_held outer here).ints; arrays = (either_held outer here).arrays })
+  taken = same_rows (entered outside depth here no_reader) (record { ints = (either_restrictions outer here).ints; arrays = (either_restrictions outer here).arrays })
       (λ k. ap (λ (r : Row). r.ints k || here.ints k) s.taken)
       (λ k. ap (λ (r : Row). r.arrays k || (here.arrays k || false)) s.taken ∙ ap (λ b. outer.arrays k || b) (or-false (here.arrays k)));
-  held = same_rows (entered outside depth here any_holder) (record { ints = (either_held outer here).ints; arrays = λ k. (either_held outer here).arrays k || (either_held outer here).frozen k })
+  held = same_rows (entered outside depth here any_holder) (record { ints = (either_restrictions outer here).ints; arrays = λ k. (either_restrictions outer here).arrays k || (either_restrictions outer here).frozen k })
       (λ k. ap (λ (r : Row). r.ints k || here.ints k) s.held)
       (λ k. ap (λ (r : Row). r.arrays k || (here.arrays k || here.frozen k)) s.held ∙ four_or (outer.arrays k) (outer.frozen k) (here.arrays k) (here.frozen k));
 }
@@ -270,7 +270,7 @@ all_held false false false true false = refl
 all_held false false false false true = refl
 all_held false false false false false = refl
 
-pub sees : (locals : Locals) (depth : ℕ) (outside : Outside) (outer : Held) (taken : Taken) (here : Held) (cuts : Slots) → Stands depth outside outer
+pub sees : (locals : Locals) (depth : ℕ) (outside : Outside) (outer : Restrictions) (taken : Taken) (here : Restrictions) (cuts : Slots) → Stands depth outside outer
     → Holds locals depth outside taken here cuts → Sees locals taken (taken_rows outer here cuts)
 sees locals depth outside outer taken here cuts s h = record {
   taken_so =
@@ -290,10 +290,10 @@ sees locals depth outside outer taken here cuts s h = record {
 }
 
 -- the locals held at the end of a block
-ended : (locals : Locals) (depth : ℕ) (outside : Outside) (outer : Held) (closing : Closing) (taken : Taken) (here : Held) (cuts : Slots)
+ended : (locals : Locals) (depth : ℕ) (outside : Outside) (outer : Restrictions) (closing : Closing) (taken : Taken) (here : Restrictions) (cuts : Slots)
     → Stands depth outside outer → Holds locals depth outside taken here cuts →
     Sees locals (own.at_end closing depth taken) (rules.at_end closing (taken_rows outer here cuts))
-ended locals depth outside outer Joins taken here cuts s h = sees locals depth outside outer (freed depth taken) none_held cuts s (holds_freed locals depth outside taken here cuts s.steady h)
+ended locals depth outside outer Joins taken here cuts s h = sees locals depth outside outer (freed depth taken) no_restrictions cuts s (holds_freed locals depth outside taken here cuts s.steady h)
 ended locals depth outside outer Leaves taken here cuts s h = sees locals depth outside outer taken here cuts s h
 
 left_int : (x : Name) (slot : ℕ) (locals : Locals) (taken : Taken) (t : rows.Taken) (line : ℕ) → is_among x locals.arrays ≡ false → slot_of x locals.ints ≡ slot → Sees locals taken t →
@@ -361,8 +361,8 @@ rule_and : (a b : Bool) (line : ℕ) (xs ys : List ℕ) → a ≡ b → Same xs 
 rule_and a b line xs ys e f = same_append (unless a line) (unless b line) xs ys (record { at = λ o. ap (λ c. lowest o (unless c line)) e }) f
 
 -- a block without declarations before it
-pub block_whole : (program : Program) (lists : Lists) (names : List Name) (locals : Locals) (depth : ℕ) (outer : Held) (around : Around)
-    (l : Option Loop) (closing : Closing) (b : Block) (taken : Taken) (here : Held) (cuts : Slots) →
+pub block_whole : (program : Program) (lists : Lists) (names : List Name) (locals : Locals) (depth : ℕ) (outer : Restrictions) (around : Around)
+    (l : Option Loop) (closing : Closing) (b : Block) (taken : Taken) (here : Restrictions) (cuts : Slots) →
     Same (owner_faults_in program.functions around names depth closing taken [] b)
     (lines_in l (known_row locals) (taken_rows outer here cuts) (spec.resolved_block lists locals b)
     ++ (left_at_end closing (known_row locals) (taken_rows outer here cuts) (spec.resolved_block lists locals b)
@@ -424,8 +424,8 @@ head_keeps program known x y z from to grain over h =
 
 mutual
   pub stmt_lines : (program : Program) (lists : Lists) → lists.callees ≡ program.functions
-      → (returns : Returns) (known : Known) (names : List Name) (locals : Locals) (depth : ℕ) (outside : Outside) (outer : Held) (around : Around)
-      (l : Option Loop) (line : ℕ) (s : Stmt) (taken : Taken) (here : Held) (cuts : Slots) →
+      → (returns : Returns) (known : Known) (names : List Name) (locals : Locals) (depth : ℕ) (outside : Outside) (outer : Restrictions) (around : Around)
+      (l : Option Loop) (line : ℕ) (s : Stmt) (taken : Taken) (here : Restrictions) (cuts : Slots) →
       Knows known locals → Names locals names → Stands depth outside outer → AtTop returns outside cuts → Rounds locals around l
       → faults_in program returns known line s ≡ [] → Holds locals depth outside taken here cuts →
       Same (owner_faults program.functions around names depth taken line s)
@@ -497,7 +497,7 @@ mutual
   stmt_lines program lists same returns known names locals depth outside outer around l line (While e b) taken here cuts k n steady top r fine h =
       let rest = right_none (unless (is_fine known e) line) (faults_in_block program returns known b) fine in
       let test = kept (is_fine known e) line (left_none (unless (is_fine known e) line) (faults_in_block program returns known b) fine) in
-      let more = either_held here (gain (known_row locals) (spec.resolved_block lists locals b)) in
+      let more = either_restrictions here (gain (known_row locals) (spec.resolved_block lists locals b)) in
       let turns = after_stmt program lists same returns known locals depth outside line (While e b) taken here cuts k steady.steady top fine h in
       rule_and _ _ line _ _ (read_same known locals around l (taken_after program.functions depth (While e b) taken)
       (taken_rows outer more cuts) e k test r (sees locals depth outside outer (taken_after program.functions depth (While e b) taken) more cuts steady turns))
@@ -505,14 +505,14 @@ mutual
       (block_lines program lists same returns known names locals depth outside outer around l Leaves b
       (taken_after program.functions depth (While e b) taken) more cuts [] k n steady top r rest turns))
   stmt_lines program lists same returns known names locals depth outside outer around l line (Scope b) taken here cuts k n steady top r fine h =
-      block_whole program lists names locals (depth + 1) (either_held outer here) around l Joins b taken none_held cuts
+      block_whole program lists names locals (depth + 1) (either_restrictions outer here) around l Joins b taken no_restrictions cuts
       (block_lines program lists same Nowhere known names locals (depth + 1) (entered outside depth here)
-      (either_held outer here) around l Joins b taken none_held cuts [] k n (stands_inside depth outside outer here steady) (inl refl) r fine
+      (either_restrictions outer here) around l Joins b taken no_restrictions cuts [] k n (stands_inside depth outside outer here steady) (inl refl) r fine
       (holds_inside locals depth outside taken here cuts h))
   stmt_lines program lists same returns known names locals depth outside outer around l line (Region tag b) taken here cuts k n steady top r fine h =
-      block_whole program lists names locals (depth + 1) (either_held outer here) around l Joins b taken none_held cuts
+      block_whole program lists names locals (depth + 1) (either_restrictions outer here) around l Joins b taken no_restrictions cuts
       (block_lines program lists same Nowhere known names locals (depth + 1) (entered outside depth here)
-      (either_held outer here) around l Joins b taken none_held cuts [] k n (stands_inside depth outside outer here steady) (inl refl) r fine
+      (either_restrictions outer here) around l Joins b taken no_restrictions cuts [] k n (stands_inside depth outside outer here steady) (inl refl) r fine
       (holds_inside locals depth outside taken here cuts h))
   stmt_lines program lists same returns known names locals depth outside outer around l line (Cut a e left right b) taken here cuts k n steady top r fine h =
       let c = is_cut program known a e left right in
@@ -531,17 +531,17 @@ mutual
       (read_same known locals around l taken (taken_rows outer here cuts) e k (cut_at program known a e left right whole) r s)
       (pass_same known locals around l taken (taken_rows outer here cuts) a k keeps.array r s))
       (subst (λ m. Same (owner_faults_in program.functions around (right ∷ left ∷ names) (depth + 1) Joins taken' [] b)
-      (lines_in l m (taken_rows (either_held outer here) none_held more) (spec.resolved_block lists locals' b)
-      ++ left_at_end Joins m (taken_rows (either_held outer here) none_held more) (spec.resolved_block lists locals' b)))
+      (lines_in l m (taken_rows (either_restrictions outer here) no_restrictions more) (spec.resolved_block lists locals' b)
+      ++ left_at_end Joins m (taken_rows (either_restrictions outer here) no_restrictions more) (spec.resolved_block lists locals' b)))
       (known_array (spec.with_array left locals) right ∙ ap (λ m. with_array (length (locals.arrays ++ left ∷ [])) m) (known_array locals left))
-      (block_whole program lists (right ∷ left ∷ names) locals' (depth + 1) (either_held outer here) around l Joins b taken' none_held more
+      (block_whole program lists (right ∷ left ∷ names) locals' (depth + 1) (either_restrictions outer here) around l Joins b taken' no_restrictions more
       (block_lines program lists same Nowhere ((right, name_kind.Array) ∷ (left, name_kind.Array) ∷ known) (right ∷ left ∷ names) locals'
-      (depth + 1) (entered outside depth here) (either_held outer here) around l Joins b taken' none_held more []
+      (depth + 1) (entered outside depth here) (either_restrictions outer here) around l Joins b taken' no_restrictions more []
       (knows_cut program known locals a left right k keeps) (names_with_array (spec.with_array left locals) right (left ∷ names) two
       (names_with_array locals left names one n)) (stands_inside depth outside outer here steady) (inl refl)
       (rounds_array (spec.with_array left locals) around l right (rounds_array locals around l left r)) rest
-      (holds_push_array (spec.with_array left locals) (depth + 1) (entered outside depth here) taken' none_held more right
-      (holds_push_array locals (depth + 1) (entered outside depth here) taken' none_held more left inner)))))
+      (holds_push_array (spec.with_array left locals) (depth + 1) (entered outside depth here) taken' no_restrictions more right
+      (holds_push_array locals (depth + 1) (entered outside depth here) taken' no_restrictions more left inner)))))
   stmt_lines program lists same returns known names locals depth outside outer around l line (For x y z from to grain over b) taken here cuts k n steady top r fine h =
       let c = is_head_of_loop program known x y z from to grain over in
       let whole = kept c line (left_none (unless c line) (faults_in_block program Nowhere ((x, name_kind.Integer) ∷ known) b) fine) in
@@ -568,19 +568,19 @@ mutual
       (over_same known locals around l taken t over k head.over r s))
       (differ_named known locals over k head.over))
       (subst (λ m. Same (owner_faults_in program.functions (InLoop (x ∷ names) x over) (x ∷ names) (depth + 1) Joins taken [] b)
-      (lines_in (Some loop) m (taken_rows (either_held outer here) none_held cuts) (spec.resolved_block lists (spec.with_int x locals) b)
-      ++ left_at_end Joins m (taken_rows (either_held outer here) none_held cuts) (spec.resolved_block lists (spec.with_int x locals) b)))
+      (lines_in (Some loop) m (taken_rows (either_restrictions outer here) no_restrictions cuts) (spec.resolved_block lists (spec.with_int x locals) b)
+      ++ left_at_end Joins m (taken_rows (either_restrictions outer here) no_restrictions cuts) (spec.resolved_block lists (spec.with_int x locals) b)))
       (known_int locals x)
-      (block_whole program lists (x ∷ names) (spec.with_int x locals) (depth + 1) (either_held outer here) (InLoop (x ∷ names) x over)
-      (Some loop) Joins b taken none_held cuts (block_lines program lists same Nowhere ((x, name_kind.Integer) ∷ known) (x ∷ names)
-      (spec.with_int x locals) (depth + 1) (entered outside depth here) (either_held outer here) (InLoop (x ∷ names) x over)
-      (Some loop) Joins b taken none_held cuts []
+      (block_whole program lists (x ∷ names) (spec.with_int x locals) (depth + 1) (either_restrictions outer here) (InLoop (x ∷ names) x over)
+      (Some loop) Joins b taken no_restrictions cuts (block_lines program lists same Nowhere ((x, name_kind.Integer) ∷ known) (x ∷ names)
+      (spec.with_int x locals) (depth + 1) (entered outside depth here) (either_restrictions outer here) (InLoop (x ∷ names) x over)
+      (Some loop) Joins b taken no_restrictions cuts []
       (knows_int known locals x f k) (names_with_int locals x names f n) (stands_inside depth outside outer here steady) (inl refl) rounds rest
-      (holds_push_int locals (depth + 1) (entered outside depth here) taken none_held cuts x inner))))
+      (holds_push_int locals (depth + 1) (entered outside depth here) taken no_restrictions cuts x inner))))
 
   pub block_lines : (program : Program) (lists : Lists) → lists.callees ≡ program.functions
-      → (returns : Returns) (known : Known) (names : List Name) (locals : Locals) (depth : ℕ) (outside : Outside) (outer : Held) (around : Around)
-      (l : Option Loop) (closing : Closing) (b : Block) (taken : Taken) (here : Held) (cuts : Slots) (declared : Declared) →
+      → (returns : Returns) (known : Known) (names : List Name) (locals : Locals) (depth : ℕ) (outside : Outside) (outer : Restrictions) (around : Around)
+      (l : Option Loop) (closing : Closing) (b : Block) (taken : Taken) (here : Restrictions) (cuts : Slots) (declared : Declared) →
       Knows known locals → Names locals names → Stands depth outside outer → AtTop returns outside cuts → Rounds locals around l
       → faults_in_block program returns known b ≡ [] → Holds locals depth outside taken here cuts →
       Same (owner_faults_in program.functions around names depth closing taken declared b)

@@ -13,7 +13,7 @@ use Rattle.cw_model.specs.Ownership.{NoLoop, Joins, owner_faults_of, ownership_f
 use Rattle.cw_tree.specs.Resolved.{Function, Resolved, Lists, locals_of, lists_of, resolved_block, plain, plain_function}
 use Rattle.cw_tree.specs.Slots.{is_right_function, is_resolved}
 use Rattle.cw_own.specs.Sets.{no_slot, no_local}
-use Rattle.cw_own.specs.Taken.{none_held, nothing, with_params}
+use Rattle.cw_own.specs.Taken.{no_restrictions, nothing, with_params}
 use Rattle.cw_own.specs.Rules.{block_lines, function_lines}
 use Rattle.cw_own.proofs.Showing.{shows_none}
 use Rattle.cw_own.proofs.After.{all_none}
@@ -39,9 +39,9 @@ function_by_slot program lists same f right fine =
     (first_true (differ (map (λ (p : Param). p.name) f.params) && not (list_any (λ (p : Param). is_among p.name (globals program)) f.params)) (not f.gives_int || block_returns g.body)
     (first_true (differ (map (λ (p : Param). p.name) f.params) && not (list_any (λ (p : Param). is_among p.name (globals program)) f.params) && (not f.gives_int || block_returns g.body)) _ head)) in
     record {
-      at = λ o. (block_whole program lists (map (λ (p : Param). p.name) f.params) (locals_of f.params) 1 none_held NoLoop None Joins g.body [] none_held no_slot
+      at = λ o. (block_whole program lists (map (λ (p : Param). p.name) f.params) (locals_of f.params) 1 no_restrictions NoLoop None Joins g.body [] no_restrictions no_slot
           (lines.block_lines program lists same (if f.gives_int then WithInt else Alone) (known_of f.params) (map (λ (p : Param). p.name) f.params)
-          (locals_of f.params) 1 (λ p. no_local) none_held NoLoop None Joins g.body [] none_held no_slot []
+          (locals_of f.params) 1 (λ p. no_local) no_restrictions NoLoop None Joins g.body [] no_restrictions no_slot []
           (head_known f.params apart) (head_names f.params apart) (record
           { steady = record { spawns = λ d le p. refl; cuts = λ p. refl }; taken = refl; held = refl }) (inr (λ p. refl, λ k. refl)) tt body
           (λ p. nothing_held p))).at o
@@ -52,10 +52,10 @@ function_by_slot program lists same f right fine =
     no_array : (q d c : Bool) → false ≡ (((q && false) || (d && false)) || (c && false))
     no_array q d c = sym (all_none q d c)
 
-    nothing_held : (p : Holder → Bool) → showing.Shows (locals_of f.params) (λ x. holding.held p [] x) (following.all_of p 1 (λ p. no_local) none_held no_slot)
+    nothing_held : (p : Holder → Bool) → showing.Shows (locals_of f.params) (λ x. holding.held p [] x) (following.all_of p 1 (λ p. no_local) no_restrictions no_slot)
     nothing_held p =
-        showing.shows_row (locals_of f.params) (λ x. false) no_local (following.all_of p 1 (λ p. no_local) none_held no_slot)
-        (same_rows no_local (following.all_of p 1 (λ p. no_local) none_held no_slot) (λ k. sym (and-false (p (SpawnIn 1)))) (λ k. no_array (p (SpawnIn 1)) (p (ReaderIn 1)) (p CutOf)))
+        showing.shows_row (locals_of f.params) (λ x. false) no_local (following.all_of p 1 (λ p. no_local) no_restrictions no_slot)
+        (same_rows no_local (following.all_of p 1 (λ p. no_local) no_restrictions no_slot) (λ k. sym (and-false (p (SpawnIn 1)))) (λ k. no_array (p (SpawnIn 1)) (p (ReaderIn 1)) (p CutOf)))
         (shows_none (locals_of f.params))
 
 functions_by_slot : (program : Program) (lists : Lists) → lists.callees ≡ program.functions → (fs : List Function)

@@ -14,7 +14,7 @@ use Rattle.cw_text.specs.declared.reasons.At.{At}
 use Rattle.cw_text.specs.declared.reasons.Reasons.{Reasons}
 use Rattle.cw_text.specs.Rising.{first_of, there}
 use Rattle.cw_own.specs.Faults.{AreLeastFaults, IsFirstTold, IsLeastFault}
-use Rattle.cw_own.specs.Laws.{IsRefusedBefore}
+use Rattle.cw_own.specs.Laws.{IsRejectedBefore}
 use Rattle.cw_own.specs.Reasons.{Reason, ownership_reasons, IsDisowned, line_in}
 use Rattle.cw_text.specs.lemmas.Kept.{first-map, first-none, soonest, there-map, there-rising}
 use Rattle.cw_own.specs.Rules.{function_lines}
@@ -60,7 +60,7 @@ at_place (r ∷ rs) x (suc k) lt h = let more = at_place rs x k (omega (arith, l
 line_there : (rs : List (ℕ × Reason)) (x : ℕ × Reason) → Contains rs x → Contains (lines_of rs) x.0
 line_there rs x h = let at = at_place rs x h.0 h.1 h.2 in (h.0, at.0, at.1)
 
-pub disowned_refused : (tree : Resolved) → is_resolved tree ≡ true → type_faults (plain tree) ≡ [] → (line : ℕ) (r : Reason) → IsDisowned tree line r → IsRefusedBefore (plain tree) line
+pub disowned_refused : (tree : Resolved) → is_resolved tree ≡ true → type_faults (plain tree) ≡ [] → (line : ℕ) (r : Reason) → IsDisowned tree line r → IsRejectedBefore (plain tree) line
 disowned_refused tree right fine line r h = by (lowest None (ownership_faults (plain tree))) refl
   where
     lines : List ℕ
@@ -69,7 +69,7 @@ disowned_refused tree right fine line r h = by (lowest None (ownership_faults (p
     there : Contains lines line
     there = subst (λ (ls : List ℕ). Contains ls line) (functions_lines tree.functions) (line_there (ownership_reasons tree) (line, r) h)
 
-    by : (o : Option ℕ) → lowest None (ownership_faults (plain tree)) ≡ o → IsRefusedBefore (plain tree) line
+    by : (o : Option ℕ) → lowest None (ownership_faults (plain tree)) ≡ o → IsRejectedBefore (plain tree) line
     by None e =
         let none = no_lines lines (sym (ownership_by_slot tree right fine) ∙ e) in
         absurd (All-contains (λ _. ⊥) [] line (λ k d h. omega (arith, h)) (subst (λ (ls : List ℕ). Contains ls line) none there))

@@ -10,20 +10,20 @@ use Rattle.cw_model.specs.lemmas.Kept.{left_none, right_none}
 use Rattle.cw_tree.specs.Resolved.{Locals, Lists}
 use Rattle.cw_tree.specs.Resolved as spec
 use Rattle.cw_own.specs.Sets.{Row}
-use Rattle.cw_own.specs.Taken.{Held, none_held, either_held, held_within, after, after_all, known_after}
+use Rattle.cw_own.specs.Taken.{Restrictions, no_restrictions, either_restrictions, restrictions_within, after, after_all, known_after}
 use Rattle.cw_own.proofs.Keeping.{same_held}
 
-pub none_known : (known : Row) → held_within known none_held ≡ none_held
-none_known known = same_held (held_within known none_held) none_held (λ k. and-false (known.ints k)) (λ k. and-false (known.arrays k)) (λ k. and-false (known.arrays k))
+pub none_known : (known : Row) → restrictions_within known no_restrictions ≡ no_restrictions
+none_known known = same_held (restrictions_within known no_restrictions) no_restrictions (λ k. and-false (known.ints k)) (λ k. and-false (known.arrays k)) (λ k. and-false (known.arrays k))
 
 mutual
-  pub none_after : (lists : Lists) (locals : Locals) (known : Row) (here : Held) (s : Stmt) → surely_returns s ≡ true → after known (spec.resolved_stmt lists locals s) here ≡ none_held
+  pub none_after : (lists : Lists) (locals : Locals) (known : Row) (here : Restrictions) (s : Stmt) → surely_returns s ≡ true → after known (spec.resolved_stmt lists locals s) here ≡ no_restrictions
   none_after lists locals known here (Return e) h = refl
   none_after lists locals known here (IfElse e b c) h =
-      ap (λ r. either_held (held_within known r) (held_within known (after_all known (spec.resolved_block lists locals c) here)))
+      ap (λ r. either_restrictions (restrictions_within known r) (restrictions_within known (after_all known (spec.resolved_block lists locals c) here)))
       (none_after_all lists locals known here b (first_true (block_returns b) (block_returns c) h))
-      ∙ ap (λ r. either_held (held_within known none_held) (held_within known r)) (none_after_all lists locals known here c (second_true (block_returns b) (block_returns c) h))
-      ∙ ap (λ r. either_held r r) (none_known known)
+      ∙ ap (λ r. either_restrictions (restrictions_within known no_restrictions) (restrictions_within known r)) (none_after_all lists locals known here c (second_true (block_returns b) (block_returns c) h))
+      ∙ ap (λ r. either_restrictions r r) (none_known known)
   none_after lists locals known here (Declare x e) h = cc
   none_after lists locals known here (DeclareArray x e) h = cc
   none_after lists locals known here (Assign x e) h = cc
@@ -41,7 +41,7 @@ mutual
   none_after lists locals known here (Region tag c) h = cc
   none_after lists locals known here (Print e) h = cc
 
-  pub none_after_all : (lists : Lists) (locals : Locals) (known : Row) (here : Held) (b : Block) → block_returns b ≡ true → after_all known (spec.resolved_block lists locals b) here ≡ none_held
+  pub none_after_all : (lists : Lists) (locals : Locals) (known : Row) (here : Restrictions) (b : Block) → block_returns b ≡ true → after_all known (spec.resolved_block lists locals b) here ≡ no_restrictions
   none_after_all lists locals known here End h = cc
   none_after_all lists locals known here (Then line s End) h = none_after lists locals known here s h
   none_after_all lists locals known here (Then line s (Then line' s' b)) h =

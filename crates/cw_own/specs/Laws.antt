@@ -9,7 +9,7 @@ use Rattle.cw_tree.specs.Slots.{is_resolved}
 use Rattle.cw_own.specs.Reasons.{Reason, IsDisowned}
 
 -- the definition of ownership rejects the program, at this line or before it
-pub record IsRefusedBefore (program : Program) (line : ℕ) : Type 0 where
+pub record IsRejectedBefore (program : Program) (line : ℕ) : Type 0 where
   pub least : ℕ
   pub is : IsLeastLine (ownership_faults program) least
   pub before : least ≤ line
@@ -18,4 +18,4 @@ pub record IsRefusedBefore (program : Program) (line : ℕ) : Type 0 where
 abbrev pub DisownedAreRefused : Type 0
 DisownedAreRefused =
     (tree : Resolved) → is_resolved tree ≡ true → type_faults (plain tree) ≡ [] → (line : ℕ) (r : Reason) →
-    IsDisowned tree line r → IsRefusedBefore (plain tree) line
+    IsDisowned tree line r → IsRejectedBefore (plain tree) line

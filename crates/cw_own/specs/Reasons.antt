@@ -22,7 +22,7 @@ use Rattle.cw_own.specs.Rules.{Loop, with_uses, is_variable, given_away, at_end,
 -- a broken rule, with the names that break it and the line of the head of the enclosing loop
 pub data Reason : Type 0 where
   -- a name is touched while it is held
-  Held : Use → Touch → Holder → Reason
+  Restrictions : Use → Touch → Holder → Reason
   -- a name of a block is still held at the end of the block
   EndsHeld : Use → Holder → Reason
   -- a call gives one array away twice, or gives one away that it also reads
@@ -89,7 +89,7 @@ array_holder taken slot = option_or (array_taker taken slot) (array_reader taken
 -- the reason if a name is touched while it is held
 abbrev pub held_by : Use → Touch → Option Holder → Option Reason
 held_by u how None = None
-held_by u how (Some h) = Some (Held u how h)
+held_by u how (Some h) = Some (Restrictions u how h)
 
 -- the reason if an outer array is used in a way that the loop forbids
 abbrev pub outside : Turn → Touch → Use → Reason

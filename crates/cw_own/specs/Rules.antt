@@ -9,7 +9,7 @@ use Rattle.cw_tree.specs.Resolved.{Sync, If}
 use Rattle.cw_tree.specs.Resolved.{IfElse, While, For, Scope, Cut, Region, Print, Return, Head, Block, End, Then}
 use Rattle.cw_tree.specs.Resolved.{Function}
 use Rattle.cw_own.specs.Sets.{Slots, no_slot, with_slot, Row, no_local, with_int}
-use Rattle.cw_own.specs.Taken.{either_held, Taken, nothing, int_taken, array_taken, array_held, inside, inside_cut}
+use Rattle.cw_own.specs.Taken.{either_restrictions, Taken, nothing, int_taken, array_taken, array_held, inside, inside_cut}
 use Rattle.cw_own.specs.Taken.{joined, with_parts}
 use Rattle.cw_own.specs.Taken.{known_after, taken_after, taken_after_all, gain, with_params}
 
@@ -172,7 +172,7 @@ left_at_end closing known taken b = left_lines (at_end closing (taken_after_all 
 -- the locals that the test and the body of a `while` see as held, which include those that an iteration holds
 abbrev pub seen_by : (known : Row) → Taken → Stmt → Taken
 seen_by known taken (While e b) =
-    record { outer = taken.outer; here = either_held taken.here (gain known b); cuts = taken.cuts }
+    record { outer = taken.outer; here = either_restrictions taken.here (gain known b); cuts = taken.cuts }
 seen_by known taken _ = taken
 
 abbrev mutual

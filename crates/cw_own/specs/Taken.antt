@@ -8,44 +8,44 @@ use Rattle.cw_tree.specs.Resolved.{Use, Parts, Argument, Int, Array, Shared, Stm
 use Rattle.cw_tree.specs.Resolved.{If}
 use Rattle.cw_tree.specs.Resolved.{IfElse, While, For, Scope, Cut, Region, Return, Block, End, Then}
 use Rattle.cw_model.specs.Syntax.{Param, is_array_param}
-use Rattle.cw_own.specs.declared.held.Held as code_held
+use Rattle.cw_own.specs.declared.restrictions.Restrictions as code_held
 use Rattle.cw_own.specs.declared.taken.Taken as code
 use Rattle.cw_own.specs.Sets.{Slots, no_slot, with_slot, without_slot, either, both, slots_of, Row, with_int}
 use Rattle.cw_own.specs.Sets.{with_array}
 
 -- the locals that the spawns of a sync block took, and the arrays that they only read
-pub record Held : Type 0 where
+pub record Restrictions : Type 0 where
   pub ints : Slots
   pub arrays : Slots
   pub frozen : Slots
 
 -- nothing is held
-abbrev pub none_held : Held
-none_held = record { ints = no_slot; arrays = no_slot; frozen = no_slot }
+abbrev pub no_restrictions : Restrictions
+no_restrictions = record { ints = no_slot; arrays = no_slot; frozen = no_slot }
 
 -- takes an integer
-abbrev pub taking_int : ℕ → Held → Held
+abbrev pub taking_int : ℕ → Restrictions → Restrictions
 taking_int slot held = record { ints = with_slot slot held.ints; arrays = held.arrays; frozen = held.frozen }
 
 -- takes an array
-abbrev pub taking_array : ℕ → Held → Held
+abbrev pub taking_array : ℕ → Restrictions → Restrictions
 taking_array slot held = record { ints = held.ints; arrays = with_slot slot held.arrays; frozen = held.frozen }
 
 -- freezes an array
-abbrev pub freezing : ℕ → Held → Held
+abbrev pub freezing : ℕ → Restrictions → Restrictions
 freezing slot held = record { ints = held.ints; arrays = held.arrays; frozen = with_slot slot held.frozen }
 
 -- the union of two values
-abbrev pub either_held : Held → Held → Held
-either_held h k = record {
+abbrev pub either_restrictions : Restrictions → Restrictions → Restrictions
+either_restrictions h k = record {
   ints = either h.ints k.ints;
   arrays = either h.arrays k.arrays;
   frozen = either h.frozen k.frozen;
 }
 
 -- the part of these locals that is held
-abbrev pub held_within : (known : Row) → Held → Held
-held_within known h = record {
+abbrev pub restrictions_within : (known : Row) → Restrictions → Restrictions
+restrictions_within known h = record {
   ints = both known.ints h.ints;
   arrays = both known.arrays h.arrays;
   frozen = both known.arrays h.frozen;
@@ -53,13 +53,13 @@ held_within known h = record {
 
 -- the locals held by spawns outside the innermost sync block and inside it, and the arrays that are cut
 pub record Taken : Type 0 where
-  pub outer : Held
-  pub here : Held
+  pub outer : Restrictions
+  pub here : Restrictions
   pub cuts : Slots
 
 -- nothing is held
 abbrev pub nothing : Taken
-nothing = record { outer = none_held; here = none_held; cuts = no_slot }
+nothing = record { outer = no_restrictions; here = no_restrictions; cuts = no_slot }
 
 -- an integer is taken
 abbrev pub int_taken : Taken → ℕ → Bool
@@ -75,39 +75,39 @@ array_held taken slot = array_taken taken slot || (taken.outer.frozen slot || ta
 
 -- the locals held at the start of a sync block
 abbrev pub inside : Taken → Taken
-inside taken = record { outer = either_held taken.outer taken.here; here = none_held; cuts = taken.cuts }
+inside taken = record { outer = either_restrictions taken.outer taken.here; here = no_restrictions; cuts = taken.cuts }
 
 -- the locals held at the start of the block of a cut of this array
 abbrev pub inside_cut : ℕ → Taken → Taken
 inside_cut a taken =
-    record { outer = either_held taken.outer taken.here; here = none_held; cuts = with_slot a taken.cuts }
+    record { outer = either_restrictions taken.outer taken.here; here = no_restrictions; cuts = with_slot a taken.cuts }
 
 -- the locals held after a join
 abbrev pub joined : Taken → Taken
-joined taken = record { outer = taken.outer; here = none_held; cuts = taken.cuts }
+joined taken = record { outer = taken.outer; here = no_restrictions; cuts = taken.cuts }
 
 -- the locals held after two branches: the known locals that either branch leaves held
 abbrev pub after_branches : (known : Row) → (branch other : Taken) → Taken
 after_branches known branch other = record {
   outer = branch.outer;
-  here = either_held (held_within known branch.here) (held_within known other.here);
+  here = either_restrictions (restrictions_within known branch.here) (restrictions_within known other.here);
   cuts = either branch.cuts other.cuts;
 }
 
 -- takes the integer that receives a result, if there is one
-abbrev pub with_target : Option Use → Held → Held
+abbrev pub with_target : Option Use → Restrictions → Restrictions
 with_target None held = held
 with_target (Some u) held = taking_int u.slot held
 
 -- takes the arrays that are given away, and freezes those that are only read
-abbrev pub with_arrays : List Argument → Held → Held
+abbrev pub with_arrays : List Argument → Restrictions → Restrictions
 with_arrays [] held = held
 with_arrays (Int e ∷ es) held = with_arrays es held
 with_arrays (Array u ∷ es) held = with_arrays es (taking_array u.slot held)
 with_arrays (Shared u ∷ es) held = with_arrays es (freezing u.slot held)
 
 -- a spawn takes its target and given arrays and freezes the arrays that it only reads; a plain call keeps none
-abbrev pub taken_by_call : CallKind → Option Use → List Argument → Held → Held
+abbrev pub taken_by_call : CallKind → Option Use → List Argument → Restrictions → Restrictions
 taken_by_call Plain target es here = here
 taken_by_call Spawned target es here = with_arrays es (with_target target here)
 
@@ -123,29 +123,29 @@ known_after known _ = known
 
 abbrev mutual
   -- the locals that the spawns of the innermost sync block hold after a statement, if these locals are known before it
-  pub after : (known : Row) → Stmt → Held → Held
+  pub after : (known : Row) → Stmt → Restrictions → Restrictions
   after known (Call kind site target f es) here = taken_by_call kind target es here
-  after known Sync here = none_held
-  after known (Return e) here = none_held
-  after known (If e b) here = either_held (held_within known (after_all known b here)) here
+  after known Sync here = no_restrictions
+  after known (Return e) here = no_restrictions
+  after known (If e b) here = either_restrictions (restrictions_within known (after_all known b here)) here
   after known (IfElse e b c) here =
-      either_held (held_within known (after_all known b here)) (held_within known (after_all known c here))
+      either_restrictions (restrictions_within known (after_all known b here)) (restrictions_within known (after_all known c here))
   -- the locals held before, and those that one iteration holds if it begins with nothing held
-  after known (While e b) here = either_held here (held_within known (after_all known b none_held))
+  after known (While e b) here = either_restrictions here (restrictions_within known (after_all known b no_restrictions))
   after known _ here = here
 
   -- the locals that the spawns of the innermost sync block hold after a block
-  pub after_all : (known : Row) → Block → Held → Held
+  pub after_all : (known : Row) → Block → Restrictions → Restrictions
   after_all known End here = here
   after_all known (Then line s b) here = after_all (known_after known s) b (after known s here)
 
 -- the locals that one iteration of a `while` holds if it begins with nothing held
-abbrev pub gain : (known : Row) → Block → Held
-gain known b = held_within known (after_all known b none_held)
+abbrev pub gain : (known : Row) → Block → Restrictions
+gain known b = restrictions_within known (after_all known b no_restrictions)
 
 abbrev mutual
   -- the locals that one iteration of each `while` of a statement holds, in order, outer loops first
-  pub turns : (known : Row) → Stmt → List Held
+  pub turns : (known : Row) → Stmt → List Restrictions
   turns known (If e b) = turns_in known b
   turns known (IfElse e b c) = turns_in known b ++ turns_in known c
   turns known (While e b) = gain known b ∷ turns_in known b
@@ -156,7 +156,7 @@ abbrev mutual
   turns known _ = []
 
   -- the locals that one iteration of each `while` of a block holds, in order
-  pub turns_in : (known : Row) → Block → List Held
+  pub turns_in : (known : Row) → Block → List Restrictions
   turns_in known End = []
   turns_in known (Then line s b) = turns known s ++ turns_in (known_after known s) b
 
@@ -186,12 +186,12 @@ left_by known (While e b) seen = seen
 left_by known s seen = taken_after known s seen
 
 -- the locals that one iteration of each `while` in the inner blocks of a statement holds
-abbrev pub turns_within : (known : Row) → Stmt → List Held
+abbrev pub turns_within : (known : Row) → Stmt → List Restrictions
 turns_within known (While e b) = turns_in known b
 turns_within known s = turns known s
 
 -- the second list begins with the first
-abbrev pub BeginWith : List Held → List Held → Type 0
+abbrev pub BeginWith : List Restrictions → List Restrictions → Type 0
 BeginWith first rows = rows ≡ first ++ drop (length first) rows
 
 -- the locals held after a block
@@ -207,8 +207,8 @@ with_params ints arrays (p ∷ ps) known =
     else with_params (ints + 1) arrays ps (with_int ints known)
 
 -- the abstraction of the locals that a value of the code holds
-abbrev pub held_of : code_held.Held → Held
-held_of h = record {
+abbrev pub restrictions_of : code_held.Restrictions → Restrictions
+restrictions_of h = record {
   ints = slots_of h.taken.ints.words;
   arrays = slots_of h.taken.arrays.words;
   frozen = slots_of h.frozen.words;
@@ -216,4 +216,4 @@ held_of h = record {
 
 -- the abstraction of the held locals and of the cut arrays
 abbrev pub taken_of : code.Taken → Taken
-taken_of t = record { outer = held_of t.outer; here = held_of t.here; cuts = slots_of t.cuts.words }
+taken_of t = record { outer = restrictions_of t.outer; here = restrictions_of t.here; cuts = slots_of t.cuts.words }

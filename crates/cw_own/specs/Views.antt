@@ -20,18 +20,18 @@ use Rattle.cw_tree.specs.ResolvedView.{use_of, listed_of, expr_of, argument_of, 
 use Rattle.cw_tree.specs.ResolvedView.{function_of, resolved_of}
 use Rattle.cw_own.specs.declared.bits.Bits as code_bits
 use Rattle.cw_own.specs.declared.row.Row as code_row
-use Rattle.cw_own.specs.declared.held.Held as code_held
+use Rattle.cw_own.specs.declared.restrictions.Restrictions as code_held
 use Rattle.cw_own.specs.declared.taken.Taken as code_taken
 use Rattle.cw_own.specs.declared.around.Loop as code_loop
 use Rattle.cw_own.specs.declared.reason.Disowned as code_reason
 use Rattle.cw_own.specs.declared.reason.Disowned.TheVariants as reason
 use Rattle.cw_own.specs.declared.findings.Findings as code_findings
 use Rattle.cw_own.specs.Sets.{Slots, slots_of, with_int, row_of}
-use Rattle.cw_own.specs.Taken.{Held, either_held, held_within, held_of, Taken, taken_of, inside, inside_cut, taken_by_call}
+use Rattle.cw_own.specs.Taken.{Restrictions, either_restrictions, restrictions_within, restrictions_of, Taken, taken_of, inside, inside_cut, taken_by_call}
 use Rattle.cw_own.specs.Taken.{after_all, with_parts, gain, turns, turns_in}
 use Rattle.cw_own.specs.Taken.{turns_within, left_by, taken_after_all}
 use Rattle.cw_own.specs.Rules.{seen_by}
-use Rattle.cw_own.specs.Reasons.{Reason, Held as IsHeld, EndsHeld, GivenTwice, GivenAndRead, OverTwice, OuterWritten}
+use Rattle.cw_own.specs.Reasons.{Reason, Restrictions as IsHeld, EndsHeld, GivenTwice, GivenAndRead, OverTwice, OuterWritten}
 use Rattle.cw_own.specs.Reasons.{OuterArray, OtherElement, Turn, turn_in, why_call, left_reasons, reasons_within, reasons_in}
 use Rattle.cw_own.specs.Reasons.{block_reasons, function_reasons, line_in, ownership_reasons}
 
@@ -40,12 +40,12 @@ abbrev pub set_of : code_bits.Bits → Slots
 set_of bits = slots_of bits.words
 
 -- the abstraction of the locals that the rows hold, in order
-abbrev pub rows_of : List code_held.Held → List Held
-rows_of rows = map held_of rows
+abbrev pub rows_of : List code_held.Restrictions → List Restrictions
+rows_of rows = map restrictions_of rows
 
 -- the abstraction of a broken rule
 abbrev pub reason_of : code_reason.Disowned → Reason
-reason_of (reason.Held u how holder since) = IsHeld (use_of u.now) how holder
+reason_of (reason.Restrictions u how holder since) = IsHeld (use_of u.now) how holder
 reason_of (reason.EndsHeld u holder since) = EndsHeld (use_of u.now) holder
 reason_of (reason.GivenTwice u callee) = GivenTwice (use_of u.now) (listed_of callee.now)
 reason_of (reason.GivenAndRead u callee) = GivenAndRead (use_of u.now) (listed_of callee.now)
@@ -105,9 +105,9 @@ abbrev pub cut_of : code_cut.Cut → List code_line.Line → Stmt
 cut_of cut lines = Cut (parts_of cut) (block_of lines)
 
 -- the locals that the spawns of a sync block hold after a call
-abbrev pub after_call : code_call.Call → code_held.Held → Held
+abbrev pub after_call : code_call.Call → code_held.Restrictions → Restrictions
 after_call call here =
-    taken_by_call call.kind (used call.target) (map argument_of call.arguments.items) (held_of here)
+    taken_by_call call.kind (used call.target) (map argument_of call.arguments.items) (restrictions_of here)
 
 -- the broken rule for this enclosing loop and these held locals
 abbrev pub why_here : {A : Type 0} → (Option Turn → Taken → A) → Option code_loop.Loop → code_taken.Taken → A
@@ -120,16 +120,16 @@ why_of_call around taken call =
     (map argument_of call.arguments.items)
 
 -- the locals that the spawns of a sync block hold after these lines, without the locals whose scope ends with them
-abbrev pub after_lines : (known : code_row.Row) → List code_line.Line → code_held.Held → Held
-after_lines known lines here = held_within (row_of known) (after_all (row_of known) (block_of lines) (held_of here))
+abbrev pub after_lines : (known : code_row.Row) → List code_line.Line → code_held.Restrictions → Restrictions
+after_lines known lines here = restrictions_within (row_of known) (after_all (row_of known) (block_of lines) (restrictions_of here))
 
 -- the locals that the spawns of a sync block hold after an `if` with these lines
-abbrev pub after_if : (known : code_row.Row) → List code_line.Line → code_held.Held → Held
-after_if known lines here = either_held (after_lines known lines here) (held_of here)
+abbrev pub after_if : (known : code_row.Row) → List code_line.Line → code_held.Restrictions → Restrictions
+after_if known lines here = either_restrictions (after_lines known lines here) (restrictions_of here)
 
 -- the locals that the spawns of a sync block hold after a `while` with these lines
-abbrev pub after_while : (known : code_row.Row) → List code_line.Line → code_held.Held → Held
-after_while known lines here = either_held (held_of here) (gain (row_of known) (block_of lines))
+abbrev pub after_while : (known : code_row.Row) → List code_line.Line → code_held.Restrictions → Restrictions
+after_while known lines here = either_restrictions (restrictions_of here) (gain (row_of known) (block_of lines))
 
 -- the locals that the test and the blocks of a statement see as held
 abbrev pub sees : (known : code_row.Row) → code_taken.Taken → code_stmt.Stmt → Taken
@@ -161,23 +161,23 @@ abbrev pub taken_after_lines : (known : code_row.Row) → code_taken.Taken → L
 taken_after_lines known taken lines = taken_after_all (row_of known) (block_of lines) (taken_of taken)
 
 -- the locals that one iteration of each `while` of a statement holds
-abbrev pub turns_of : (known : code_row.Row) → code_stmt.Stmt → List Held
+abbrev pub turns_of : (known : code_row.Row) → code_stmt.Stmt → List Restrictions
 turns_of known stmt = turns (row_of known) (stmt_of stmt)
 
 -- the locals that one iteration of each `while` in the inner blocks of a statement holds
-abbrev pub turns_inside : (known : code_row.Row) → code_stmt.Stmt → List Held
+abbrev pub turns_inside : (known : code_row.Row) → code_stmt.Stmt → List Restrictions
 turns_inside known stmt = turns_within (row_of known) (stmt_of stmt)
 
 -- the locals that one iteration of each `while` in these lines holds
-abbrev pub turns_of_lines : (known : code_row.Row) → List code_line.Line → List Held
+abbrev pub turns_of_lines : (known : code_row.Row) → List code_line.Line → List Restrictions
 turns_of_lines known lines = turns_in (row_of known) (block_of lines)
 
 -- the locals that one iteration of each `while` holds, for a `while` with these lines as its body
-abbrev pub turns_of_while : (known : code_row.Row) → List code_line.Line → List Held
+abbrev pub turns_of_while : (known : code_row.Row) → List code_line.Line → List Restrictions
 turns_of_while known lines = gain (row_of known) (block_of lines) ∷ turns_of_lines known lines
 
 -- the rows after these rows remain
-abbrev pub Past : List Held → (before after : List code_held.Held) → Type 0
+abbrev pub Past : List Restrictions → (before after : List code_held.Restrictions) → Type 0
 Past first before after = rows_of after ≡ drop (length first) (rows_of before)
 
 -- the declarations whose names are held at the end of these lines, with the reasons
@@ -244,8 +244,8 @@ abbrev pub reasons_of_all : List code_function.Function → List (ℕ × Reason)
 reasons_of_all fs = flat_map function_reasons (map function_of fs)
 
 -- `after` is `before` with these reasons recorded
-abbrev pub Noted : (before after : code_findings.Findings) → List (ℕ × Reason) → Type 0
-Noted before after reasons = recorded_reasons after ≡ kept line_in (recorded_reasons before) reasons
+abbrev pub AreRecorded : (before after : code_findings.Findings) → List (ℕ × Reason) → Type 0
+AreRecorded before after reasons = recorded_reasons after ≡ kept line_in (recorded_reasons before) reasons
 
 -- the reasons of a tree are recorded
 abbrev pub AreNoted : Tree → Reasons code_reason.Disowned → Type 0

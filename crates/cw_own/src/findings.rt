@@ -3,7 +3,7 @@
 ghost use Rattle.std.specs.Prelude.{◌≡◌, Some};
 ghost use Rattle.cw_text.specs.RecordedReasons.{no_place};
 ghost use Rattle.cw_own.specs.Reasons.{reasons_at};
-ghost use Rattle.cw_own.specs.Views.{Noted, recorded_reasons, reason_of, view_of_reason};
+ghost use Rattle.cw_own.specs.Views.{AreRecorded, recorded_reasons, reason_of, view_of_reason};
 
 use crate::reason::{Disowned, Holder, Start};
 use crate::row::Row;
@@ -62,7 +62,7 @@ impl Watch {
         ensures { reason_of result ≡ reason_of reason.entry }
     {
         match reason {
-            Disowned::Held(used, touch, holder, since) => Disowned::Held(
+            Disowned::Restrictions(used, touch, holder, since) => Disowned::Restrictions(
                 used,
                 touch,
                 holder,
@@ -106,7 +106,7 @@ impl<'a> Findings<'a> {
     /// Records a line if it breaks a rule.
     #[inline(always)]
     pub fn note(&mut self, found: Option<Disowned<'a>>, line: u32)
-        ensures { Noted self.old self.new (reasons_at line (view_of_reason found.entry)) }
+        ensures { AreRecorded self.old self.new (reasons_at line (view_of_reason found.entry)) }
     {
         if let Some(reason) = found {
             self.keep(reason, line);
@@ -116,7 +116,7 @@ impl<'a> Findings<'a> {
     // Records a line that breaks this rule.
     #[inline(never)]
     fn keep(&mut self, reason: Disowned<'a>, line: u32)
-        ensures { Noted self.old self.new (reasons_at line (Some (reason_of reason.entry))) }
+        ensures { AreRecorded self.old self.new (reasons_at line (Some (reason_of reason.entry))) }
     {
         self.reasons.note(Some(self.watch.told(reason)), line);
     }

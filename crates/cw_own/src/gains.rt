@@ -11,21 +11,21 @@ ghost use Rattle.cw_tree.specs.ResolvedView.{argument_of, stmt_of, block_of};
 ghost use Rattle.cw_own.specs.Bounds.{small_target, small_argument, small_stmt, small_block, is_if_else};
 ghost use Rattle.cw_own.specs.Sets.{row_of};
 ghost use Rattle.cw_own.specs.Grown.{Grown};
-ghost use Rattle.cw_own.specs.Taken.{none_held, held_of, with_target, with_arrays, known_after, after, after_all};
+ghost use Rattle.cw_own.specs.Taken.{no_restrictions, restrictions_of, with_target, with_arrays, known_after, after, after_all};
 ghost use Rattle.cw_own.specs.Views.{used, after_call, after_lines, after_if, after_while};
 ghost use Rattle.cw_own.specs.Views.{turns_of, turns_of_lines, turns_of_while};
 
 use crate::findings::{Local, Watch};
-use crate::held::Held;
+use crate::restrictions::Restrictions;
 use crate::row::Row;
 use cw_model::syntax::CallKind;
 use cw_tree::resolved::{Argument, Call, Line, Stmt, Use};
 use std::alloc::Global;
 
 // Takes the integer that receives a result, if there is one.
-fn take_target(held: &mut Held, target: &Option<Use>, watch: &Watch)
+fn take_target(held: &mut Restrictions, target: &Option<Use>, watch: &Watch)
     requires { small_target (used target.now) ≡ true }
-    ensures { held_of held.new ≡ with_target (used target.now) (held_of held.old) }
+    ensures { restrictions_of held.new ≡ with_target (used target.now) (restrictions_of held.old) }
 {
     if let Some(used) = target {
         held.take_int(used.slot, watch);
@@ -33,9 +33,9 @@ fn take_target(held: &mut Held, target: &Option<Use>, watch: &Watch)
 }
 
 // Takes the arrays that are given away, and freezes those that are only read.
-fn take_arrays(held: &mut Held, es: &[Argument], watch: &Watch)
+fn take_arrays(held: &mut Restrictions, es: &[Argument], watch: &Watch)
     requires { list_all small_argument (map argument_of es.now) ≡ true }
-    ensures { held_of held.new ≡ with_arrays (map argument_of es.now) (held_of held.old) }
+    ensures { restrictions_of held.new ≡ with_arrays (map argument_of es.now) (restrictions_of held.old) }
 {
     for e in es {
         match e {
@@ -47,10 +47,10 @@ fn take_arrays(held: &mut Held, es: &[Argument], watch: &Watch)
 }
 
 /// Applies a call: a spawn takes its target and the arrays that are given away, and freezes those that it only reads.
-pub fn after_call(here: &mut Held, call: &Call, watch: &Watch)
+pub fn after_call(here: &mut Restrictions, call: &Call, watch: &Watch)
     requires target { small_target (used call.now.target) ≡ true }
     requires arguments { list_all small_argument (map argument_of call.now.arguments.items) ≡ true }
-    ensures { held_of here.new ≡ after_call call.now here.old }
+    ensures { restrictions_of here.new ≡ after_call call.now here.old }
 {
     match call.kind {
         CallKind::Plain => {}
@@ -77,7 +77,7 @@ pub fn know(known: &mut Row, stmt: &Stmt)
 /// local.
 #[derive(Drop)]
 pub struct Gains {
-    pub rows: Vec<Held>,
+    pub rows: Vec<Restrictions>,
     /// Whether memory sufficed for all of them.
     pub complete: bool,
     pub watch: Watch,
@@ -99,17 +99,17 @@ impl Gains {
     // Reserves a place that `set` fills later.
     fn keep(&mut self) -> usize
         ensures place { result ≡ length self.old.rows.items }
-        ensures grown { Grown self.old self.new (none_held ∷ []) }
+        ensures grown { Grown self.old self.new (no_restrictions ∷ []) }
     {
         let place = self.rows.len();
-        if self.rows.push(Held::none()).is_err() {
+        if self.rows.push(Restrictions::none()).is_err() {
             self.complete = false;
         }
         place
     }
 
     // Fills a place.
-    fn set(&mut self, place: usize, row: Held)
+    fn set(&mut self, place: usize, row: Restrictions)
         ensures complete { self.new.complete ≡ self.old.complete }
         ensures rows { self.new.rows.items ≡ slice_set self.old.rows.items place row }
     {
@@ -122,10 +122,10 @@ impl Gains {
 // Computes the locals that the spawns of the innermost sync block hold after these statements; appends those that an
 // iteration of each `while` holds.
 #[cycle(gains)]
-fn after_all(known: &Row, lines: &[Line], here: &mut Held, gains: &mut Gains)
+fn after_all(known: &Row, lines: &[Line], here: &mut Restrictions, gains: &mut Gains)
     requires { small_block (block_of lines.now) ≡ true }
-    ensures row { held_of here.new
-        ≡ after_all (row_of known.now) (block_of lines.now) (held_of here.old) }
+    ensures row { restrictions_of here.new
+        ≡ after_all (row_of known.now) (block_of lines.now) (restrictions_of here.old) }
     ensures gains { Grown gains.old gains.new (turns_of_lines known.now lines.now) }
 {
     let mut known = *known;
@@ -139,9 +139,9 @@ fn after_all(known: &Row, lines: &[Line], here: &mut Held, gains: &mut Gains)
 // Computes the locals that the spawns of the innermost sync block hold after a block, without the locals whose scope
 // ends with it.
 #[cycle(gains)]
-fn after_block(known: &Row, lines: &[Line], here: &mut Held, gains: &mut Gains)
+fn after_block(known: &Row, lines: &[Line], here: &mut Restrictions, gains: &mut Gains)
     requires { small_block (block_of lines.now) ≡ true }
-    ensures row { held_of here.new ≡ after_lines known.now lines.now here.old }
+    ensures row { restrictions_of here.new ≡ after_lines known.now lines.now here.old }
     ensures gains { Grown gains.old gains.new (turns_of_lines known.now lines.now) }
 {
     after_all(known, lines, here, gains);
@@ -155,15 +155,15 @@ fn after_scope(known: &Row, lines: &[Line], gains: &mut Gains)
     requires { small_block (block_of lines.now) ≡ true }
     ensures { Grown gains.old gains.new (turns_of_lines known.now lines.now) }
 {
-    let mut inside = Held::none();
+    let mut inside = Restrictions::none();
     after_all(known, lines, &mut inside, gains);
 }
 
 // Computes the locals held after an `if` with this block.
 #[cycle(gains)]
-fn after_if(known: &Row, lines: &[Line], here: &mut Held, gains: &mut Gains)
+fn after_if(known: &Row, lines: &[Line], here: &mut Restrictions, gains: &mut Gains)
     requires { small_block (block_of lines.now) ≡ true }
-    ensures row { held_of here.new ≡ after_if known.now lines.now here.old }
+    ensures row { restrictions_of here.new ≡ after_if known.now lines.now here.old }
     ensures gains { Grown gains.old gains.new (turns_of_lines known.now lines.now) }
 {
     let mut branch = *here;
@@ -173,11 +173,11 @@ fn after_if(known: &Row, lines: &[Line], here: &mut Held, gains: &mut Gains)
 
 // Computes the locals held after a statement with two branches.
 #[cycle(gains)]
-fn after_either(known: &Row, stmt: &Stmt, here: &mut Held, gains: &mut Gains)
+fn after_either(known: &Row, stmt: &Stmt, here: &mut Restrictions, gains: &mut Gains)
     requires small { small_stmt (stmt_of stmt.now) ≡ true }
     requires either { is_if_else (stmt_of stmt.now) ≡ true }
-    ensures row { held_of here.new
-        ≡ after (row_of known.now) (stmt_of stmt.now) (held_of here.old) }
+    ensures row { restrictions_of here.new
+        ≡ after (row_of known.now) (stmt_of stmt.now) (restrictions_of here.old) }
     ensures gains { Grown gains.old gains.new (turns_of known.now stmt.now) }
 {
     match stmt {
@@ -208,13 +208,13 @@ fn after_either(known: &Row, stmt: &Stmt, here: &mut Held, gains: &mut Gains)
 // Computes the locals held after a `while` with this block: those held before it, and those that one iteration holds
 // if it begins with nothing held. The entry for this loop precedes the entries of its body.
 #[cycle(gains)]
-fn after_while(known: &Row, lines: &[Line], here: &mut Held, gains: &mut Gains)
+fn after_while(known: &Row, lines: &[Line], here: &mut Restrictions, gains: &mut Gains)
     requires { small_block (block_of lines.now) ≡ true }
-    ensures row { held_of here.new ≡ after_while known.now lines.now here.old }
+    ensures row { restrictions_of here.new ≡ after_while known.now lines.now here.old }
     ensures gains { Grown gains.old gains.new (turns_of_while known.now lines.now) }
 {
     let place = gains.keep();
-    let mut gain = Held::none();
+    let mut gain = Restrictions::none();
     after_block(known, lines, &mut gain, gains);
     gains.set(place, gain);
     *here = here.either(&gain);
@@ -222,10 +222,10 @@ fn after_while(known: &Row, lines: &[Line], here: &mut Held, gains: &mut Gains)
 
 // Computes the locals held after a statement.
 #[cycle(gains)]
-fn after(known: &Row, stmt: &Stmt, here: &mut Held, gains: &mut Gains)
+fn after(known: &Row, stmt: &Stmt, here: &mut Restrictions, gains: &mut Gains)
     requires { small_stmt (stmt_of stmt.now) ≡ true }
-    ensures row { held_of here.new
-        ≡ after (row_of known.now) (stmt_of stmt.now) (held_of here.old) }
+    ensures row { restrictions_of here.new
+        ≡ after (row_of known.now) (stmt_of stmt.now) (restrictions_of here.old) }
     ensures gains { Grown gains.old gains.new (turns_of known.now stmt.now) }
 {
     match stmt {

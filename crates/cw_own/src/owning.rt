@@ -9,14 +9,14 @@ ghost use Rattle.cw_own.specs.Bounds.{small_function};
 ghost use Rattle.cw_own.specs.Faults.{AreLeastFaults, BreaksOwnership, IsFirstTold, IsLeastFault};
 ghost use Rattle.cw_own.specs.Sets.{row_of, no_local};
 ghost use Rattle.cw_own.specs.Taken.{with_params};
-ghost use Rattle.cw_own.specs.Views.{reasons_of, reasons_of_all, Noted};
+ghost use Rattle.cw_own.specs.Views.{reasons_of, reasons_of_all, AreRecorded};
 
 use crate::findings::{Findings, Local};
 use crate::gains::{Gains, turns};
 use crate::owned::Owned;
 use crate::reason::{Disowned, Holder};
 use crate::row::Row;
-use crate::rules::{Turns, note_sync_block};
+use crate::rules::{Turns, record_sync_block};
 use crate::taken::Taken;
 use cw_model::syntax::NameKind;
 use cw_text::{At, Fault, Place, Reasons};
@@ -78,7 +78,7 @@ pub fn disowned(alloc: Global, typed: &Typed) -> Result<Reasons<Disowned<'_>>, A
 // Returns the local that is held according to the reason, if the reason concerns a held local.
 fn held_local(told: Option<At<Disowned<'_>>>) -> Option<Local> {
     match told?.reason {
-        Disowned::Held(used, _, holder, _) | Disowned::EndsHeld(used, holder, _) => {
+        Disowned::Restrictions(used, _, holder, _) | Disowned::EndsHeld(used, holder, _) => {
             Some(local_of(used.slot, holder))
         }
         _ => None,
@@ -103,35 +103,35 @@ fn broken(
     ensures all { IfOk result (AreLeastFaults typed.now.tree) }
 {
     let mut told = Findings::new(watched);
-    note_functions(alloc, &typed.tree.functions, &mut told)?;
+    record_functions(alloc, &typed.tree.functions, &mut told)?;
     let Findings { reasons, watch: _ } = told;
     Ok(reasons)
 }
 
 // Records each line of these functions that breaks a rule.
 #[tactic(auto, using(crate::proofs::Small::kept_append))]
-fn note_functions<'a>(
+fn record_functions<'a>(
     alloc: Global,
     functions: &'a [Function],
     told: &mut Findings<'a>,
 ) -> Result<(), AllocError>
     requires { list_all small_function (map function_of functions.now) ≡ true }
-    ensures { OnOk result (Noted told.old told.new (reasons_of_all functions.now)) }
+    ensures { OnOk result (AreRecorded told.old told.new (reasons_of_all functions.now)) }
 {
     for function in functions {
-        note_function(alloc, function, told)?;
+        record_function(alloc, function, told)?;
     }
     Ok(())
 }
 
 // Records each line of a function that breaks a rule.
-fn note_function<'a>(
+fn record_function<'a>(
     alloc: Global,
     function: &'a Function,
     told: &mut Findings<'a>,
 ) -> Result<(), AllocError>
     requires { small_function (function_of function.now) ≡ true }
-    ensures { OnOk result (Noted told.old told.new (reasons_of function.now)) }
+    ensures { OnOk result (AreRecorded told.old told.new (reasons_of function.now)) }
 {
     let known = with_params(&function.params);
     let mut gains = Gains::new(alloc, told.watch.local);
@@ -143,7 +143,7 @@ fn note_function<'a>(
         left: gains.rows.as_slice(),
     };
     let mut taken = Taken::nothing();
-    note_sync_block(&None, &known, &mut taken, &function.body, &mut rest, told);
+    record_sync_block(&None, &known, &mut taken, &function.body, &mut rest, told);
     Ok(())
 }
 

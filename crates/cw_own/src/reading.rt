@@ -56,7 +56,7 @@ fn of_held<'a>(
     ensures { Finds first.old first.new (held_by (use_of used.now) touch (Some holder)) }
 {
     keep(
-        Disowned::Held(used, touch, holder, taken.since(holder)),
+        Disowned::Restrictions(used, touch, holder, taken.since(holder)),
         first,
     );
 }

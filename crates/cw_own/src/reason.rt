@@ -34,7 +34,7 @@ pub struct Start {
 #[derive(Clone, Copy)]
 pub enum Disowned<'a> {
     /// A name is touched while it is held; the start is known for the watched local.
-    Held(&'a Use, Touch, Holder, Option<Start>),
+    Restrictions(&'a Use, Touch, Holder, Option<Start>),
     /// A name of a block is still held at the end of the block; the start is known for the watched local.
     EndsHeld(&'a Use, Holder, Option<Start>),
     /// A call gives this function one array twice.

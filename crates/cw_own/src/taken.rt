@@ -8,8 +8,8 @@ ghost use Rattle.cw_own.specs.Reasons.{int_holder, array_taker, array_reader, ar
 
 use crate::bits::Bits;
 use crate::findings::Watch;
-use crate::held::Held;
 use crate::reason::{Holder, Start};
+use crate::restrictions::Restrictions;
 use crate::row::Row;
 
 /// Holds what is held by the spawns of the enclosing sync blocks, what is held by the spawns of the innermost sync
@@ -19,8 +19,8 @@ use crate::row::Row;
 /// block, and after the sync block the parts are again what they were before it.
 #[derive(Clone, Copy)]
 pub struct Taken {
-    pub outer: Held,
-    pub here: Held,
+    pub outer: Restrictions,
+    pub here: Restrictions,
     pub cuts: Bits,
     /// The line since which the watched local is cut.
     pub cut_since: Option<u32>,
@@ -39,8 +39,8 @@ impl Taken {
         ensures { taken_of result ≡ nothing }
     {
         Taken {
-            outer: Held::none(),
-            here: Held::none(),
+            outer: Restrictions::none(),
+            here: Restrictions::none(),
             cuts: Bits::none(),
             cut_since: None,
         }
@@ -103,7 +103,7 @@ impl Taken {
     {
         Taken {
             outer: self.outer.either(&self.here),
-            here: Held::none(),
+            here: Restrictions::none(),
             ..*self
         }
     }

@@ -12,7 +12,7 @@ use Rattle.cw_model.specs.Grammar as grammar
 use Rattle.cw_model.specs.Grammar.{name_of, gives_int_of, reduction_of, ReadsParams, ReadsFunction, ReadsItems, CanBegin, Derives, HasSyntaxFault, first_line}
 use Rattle.cw_parse.specs.declared.marks.Mark.TheVariants as mark
 use Rattle.cw_parse.specs.Reading.{Read, Reader, by_first}
-use Rattle.cw_parse.specs.Parsed.{HasOneTree, IsRefusedAt}
+use Rattle.cw_parse.specs.Parsed.{HasOneTree, IsRejectedAt}
 use Rattle.cw_parse.specs.Parts.{list, param, lines, reduction, reducer, function, Item, Total, Code, item, Items, put_item, items, whole}
 use Rattle.cw_parse.proofs.Reader.{Front, Stuck, IsUnique, SomeText, Done, tok, done, bind_ok, bind_err, ok_is}
 use Rattle.cw_parse.proofs.Exact.{Exact, Branch, First, any, any_stops, mark as token_of, same_exact, fewer_exact, first_exact, at_first, done_exact}
@@ -330,10 +330,10 @@ module _ (text : List ℕ) where
   -- the consequence of the result of reading a whole source
   abbrev pub Answer : List Token → Read Items → Type 0
   Answer ts (Ok x) = Derives text ts (program x.0)
-  Answer ts (Err e) = IsRefusedAt text ts (len ts - e)
+  Answer ts (Err e) = IsRejectedAt text ts (len ts - e)
 
   -- if tokens are rejected at a place, their fault is in the line of that place
-  pub fault_there : (ts : List Token) (place : ℕ) → IsRefusedAt text ts place → HasSyntaxFault text ts (first_line text (drop place ts))
+  pub fault_there : (ts : List Token) (place : ℕ) → IsRejectedAt text ts place → HasSyntaxFault text ts (first_line text (drop place ts))
   fault_there ts place r = record {
     before = take place ts;
     rest = drop place ts;

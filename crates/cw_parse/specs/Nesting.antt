@@ -42,9 +42,9 @@ pub record IsFirstPassed (tokens : List Token) (at : At TooNested) : Type 0 wher
   pub holds : IsPassedByTokens tokens at.line at.reason
 
 -- the condition that tokens satisfy if the check of limits returns this fault
-abbrev pub IsRefused : List Token → Fault → Type 0
-IsRefused tokens (fault.Size p) = IsLeastLine (token_faults 0 0 tokens) p.line
-IsRefused tokens _ = ⊥
+abbrev pub IsRejected : List Token → Fault → Type 0
+IsRejected tokens (fault.Size p) = IsLeastLine (token_faults 0 0 tokens) p.line
+IsRejected tokens _ = ⊥
 
 -- records a line, unless the limit is kept: the least line remains, with the first limit recorded for it
 abbrev pub noted : Bool → TooNested → (line : ℕ) → Option (At TooNested) → Option (At TooNested)

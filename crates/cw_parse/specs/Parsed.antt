@@ -38,7 +38,7 @@ HasNoTree text ts _ = ⊥
 
 -- the tokens are no source: the tokens before the place begin a source, and with the token at the place they begin
 -- none; if no token is at the place, the source ends too early
-pub record IsRefusedAt (text : List ℕ) (ts : List Token) (place : ℕ) : Type 0 where
+pub record IsRejectedAt (text : List ℕ) (ts : List Token) (place : ℕ) : Type 0 where
   pub within : place ≤ length ts
   pub goes_on : CanBegin text (take place ts)
   pub no_further : (t : Token) (us : List Token) → drop place ts ≡ t ∷ us → CanBegin text (take place ts ++ t ∷ []) → ⊥

@@ -12,6 +12,6 @@ pub fn one_tree()
 
 /// States that tokens with a fault have no tree, and that the fault has one line. So, if no token exceeds a limit,
 /// `parse` returns `Syntax` exactly if there is no tree, at the only line of the fault, unless memory runs out.
-pub fn no_tree_beside_a_fault()
+pub fn no_tree_with_a_fault()
     ensures { (text : List ℕ) (ts : List Token) → FaultsAreOne text ts }
 {}

@@ -2,7 +2,7 @@
 
 ghost use Rattle.std.specs.Prelude.{◌≡◌, ◌+◌, ◌<◌, ◌≤◌, ◌^◌, None, MatchOption, MatchResult};
 ghost use Rattle.cw_model.specs.Sizes as spec;
-ghost use Rattle.cw_parse.specs.Nesting.{IsFirstPassed, IsRefused, first_passed, noted};
+ghost use Rattle.cw_parse.specs.Nesting.{IsFirstPassed, IsRejected, first_passed, noted};
 ghost use Rattle.cw_parse.specs.Parsed.{IsShort};
 
 use cw_model::limits::{MOST_OPEN_BRACKETS, MOST_TOKENS_IN_A_ROW};
@@ -24,7 +24,7 @@ pub enum TooNested {
 ///
 /// Returns `Size` at the least line of a token that exceeds one of these limits.
 pub fn test_nesting(tokens: &[Token]) -> Result<(), Fault>
-    ensures { MatchResult result (λ _. IsShort tokens.now) (IsRefused tokens.now) }
+    ensures { MatchResult result (λ _. IsShort tokens.now) (IsRejected tokens.now) }
 {
     match passed_by_tokens(tokens) {
         None => Ok(()),

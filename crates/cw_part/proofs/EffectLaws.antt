@@ -13,7 +13,7 @@ use Rattle.cw_model.specs.Syntax.{Name}
 use Rattle.cw_model.specs.Names.{same_name}
 use Rattle.cw_model.specs.declared.burden.Burden.{Burden}
 use Rattle.cw_model.specs.Trees.{Event, tree_of}
-use Rattle.cw_model.specs.Answers.{or_greater, sum_to, greatest_to, total_to}
+use Rattle.cw_model.specs.Answers.{or_max, sum_to, maximum_to, total_to}
 use Rattle.cw_model.specs.Outcome.{Trace}
 use Rattle.cw_code.specs.declared.code.Reducer.{Reducer}
 use Rattle.cw_code.specs.Code.{Code}
@@ -23,7 +23,7 @@ use Rattle.cw_measure.specs.Measured as measured
 use Rattle.cw_measure.specs.Counters.{up_to, onward, heaviest}
 use Rattle.cw_reduce.specs.Words.{Word, plus, word_of}
 use Rattle.cw_reduce.specs.ReducerState.{ReducerState, Summed, Raised, held, held_joined}
-use Rattle.cw_reduce.specs.Greatest.{greater}
+use Rattle.cw_reduce.specs.Maximum.{greater}
 use Rattle.cw_reduce.specs.PieceResults.{totals_joined}
 use Rattle.cw_reduce.specs.SumsOfIntegers.{SumsHoldIntegers}
 use Rattle.cw_reduce.specs.ShownLaws.{same_shown}
@@ -38,19 +38,19 @@ use Rattle.cw_part.specs.Read.{read_joined, readings}
 use Rattle.cw_part.specs.Effects.{EffectsShowViews, RunsReadAsMeasures, totals_after, HasRead, HasSpans, IsOutcome, EffectsFollow}
 use Rattle.cw_part.proofs.ElisionLaws.{NormalsReadTheSame, reads_normal}
 
-greater_after : (v : ℤ) (x y : Option ℤ) → greater (Some (or_greater v x)) y ≡ Some (or_greater v (greater x y))
-greater_after v None y = refl
-greater_after v (Some w) None = refl
-greater_after v (Some w) (Some u) = ap (λ (z : ℤ). Some z) (max_regroup v w u)
+max_after : (v : ℤ) (x y : Option ℤ) → greater (Some (or_max v x)) y ≡ Some (or_max v (greater x y))
+max_after v None y = refl
+max_after v (Some w) None = refl
+max_after v (Some w) (Some u) = ap (λ (z : ℤ). Some z) (max_regroup v w u)
 
-greatest_append : (name : Name) (a b : List (Name × ℤ)) → greatest_to name (a ++ b) ≡ greater (greatest_to name a) (greatest_to name b)
-greatest_append name [] b = refl
-greatest_append name (x ∷ a) b = by_test (same_name name x.0) (greatest_append name a b)
+maximum_append : (name : Name) (a b : List (Name × ℤ)) → maximum_to name (a ++ b) ≡ greater (maximum_to name a) (maximum_to name b)
+maximum_append name [] b = refl
+maximum_append name (x ∷ a) b = by_test (same_name name x.0) (maximum_append name a b)
   where
-    by_test : (c : Bool) → greatest_to name (a ++ b) ≡ greater (greatest_to name a) (greatest_to name b)
-        → (if c then Some (or_greater x.1 (greatest_to name (a ++ b))) else greatest_to name (a ++ b))
-        ≡ greater (if c then Some (or_greater x.1 (greatest_to name a)) else greatest_to name a) (greatest_to name b)
-    by_test true h = ap (λ (z : Option ℤ). Some (or_greater x.1 z)) h ∙ sym (greater_after x.1 (greatest_to name a) (greatest_to name b))
+    by_test : (c : Bool) → maximum_to name (a ++ b) ≡ greater (maximum_to name a) (maximum_to name b)
+        → (if c then Some (or_max x.1 (maximum_to name (a ++ b))) else maximum_to name (a ++ b))
+        ≡ greater (if c then Some (or_max x.1 (maximum_to name a)) else maximum_to name a) (maximum_to name b)
+    by_test true h = ap (λ (z : Option ℤ). Some (or_max x.1 z)) h ∙ sym (max_after x.1 (maximum_to name a) (maximum_to name b))
     by_test false h = h
 
 module _ (law : SumsHoldIntegers) where
@@ -65,7 +65,7 @@ module _ (law : SumsHoldIntegers) where
   total_both Sum name a b =
       ap (λ (z : ℤ). Summed (word_of (int_wrap w128 z))) (sum_append name a b)
       ∙ ap (λ (w : Word). Summed w) (sum_both (sum_to name a) (sum_to name b))
-  total_both Max name a b = ap (λ (z : Option ℤ). Raised z) (greatest_append name a b)
+  total_both Max name a b = ap (λ (z : Option ℤ). Raised z) (maximum_append name a b)
 
   abbrev all_told : List Reducer → List (Name × ℤ) → List Total
   all_told reducers updates = map (λ r. kept (total_to r.how r.name updates)) reducers

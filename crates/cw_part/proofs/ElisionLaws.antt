@@ -18,7 +18,7 @@ use Rattle.cw_model.specs.Names.{same_name}
 use Rattle.cw_model.specs.Outcome.{Trace, Outcome, Done, Piece}
 use Rattle.cw_model.specs.Outcome as model
 use Rattle.cw_model.specs.Meaning.{Returned, Deeper}
-use Rattle.cw_model.specs.Answers.{Answer, OverLimit, TrappedAt, answer_of, or_greater, sum_to, greatest_to, total_to, int_given, serial_answer}
+use Rattle.cw_model.specs.Answers.{Answer, OverLimit, TrappedAt, answer_of, or_max, sum_to, maximum_to, total_to, int_given, serial_answer}
 use Rattle.cw_measure.specs.Measured.{most, most_burdened, Measured, MeasuresReadTrees, ReadsTree}
 use Rattle.cw_reduce.specs.Words.{Word, nothing, plus, word_of}
 use Rattle.cw_reduce.specs.WordLaws.{plus-last}
@@ -163,15 +163,15 @@ module _ (law : SumsHoldIntegers) (number : Name → ℕ) (reducer : Name) (mine
           ∙ law.adds x.1 (int_wrap w128 (sum_to reducer more)) h.0 (SFits-int_wrap w128 (sum_to reducer more))
           ∙ ap word_of (int_wrap-add_right w128 x.1 (sum_to reducer more))
 
-  told_greatest : (updates : List (Name × ℤ)) → all_told Max updates ≡ Raised (greatest_to reducer updates)
+  told_greatest : (updates : List (Name × ℤ)) → all_told Max updates ≡ Raised (maximum_to reducer updates)
   told_greatest [] = refl
   told_greatest (x ∷ more) =
       ap (λ (b : Bool). if b then held_joined (Raised (Some x.1)) (all_told Max more) else all_told Max more) (mine x.0)
       ∙ by_test (same_name reducer x.0) (told_greatest more)
     where
-      by_test : (b : Bool) → all_told Max more ≡ Raised (greatest_to reducer more)
+      by_test : (b : Bool) → all_told Max more ≡ Raised (maximum_to reducer more)
           → (if b then held_joined (Raised (Some x.1)) (all_told Max more) else all_told Max more)
-          ≡ Raised (if b then Some (or_greater x.1 (greatest_to reducer more)) else greatest_to reducer more)
+          ≡ Raised (if b then Some (or_max x.1 (maximum_to reducer more)) else maximum_to reducer more)
       by_test false i = i
       by_test true i = ap (held_joined (Raised (Some x.1))) i
 

@@ -19,7 +19,7 @@ use Rattle.cw_code.specs.Jobs.{JoinFrame, Effect, Ended, Joined, TrapIn, OverLim
 use Rattle.cw_code.specs.Jobs as jobs
 use Rattle.cw_code.specs.Strands.{HasStopped, resumed, stopped_after, dropped}
 use Rattle.cw_jobs.specs.declared.effect.PieceOutput.{PieceOutput}
-use Rattle.cw_jobs.specs.Means.{HasShown}
+use Rattle.cw_jobs.specs.Means.{HasOutput}
 use Rattle.cw_jobs.specs.Totals.{kept}
 use Rattle.cw_part.specs.declared.read.Read.{Read}
 use Rattle.cw_part.specs.Parts.{Came, Completed, Trapped, Over, Memory, followed}
@@ -34,7 +34,7 @@ views_of s = record { totals = map held s.totals.items; lines = s.lines.items }
 abbrev pub EffectsShowViews : Type 0
 EffectsShowViews =
     (code : Code) (a b both : PieceOutput) (t u : Trace) (m n k : ℕ)
-    → HasShown code a t m → HasShown code b u n → HasShown code both (joined t u) k
+    → HasOutput code a t m → HasOutput code b u n → HasOutput code both (joined t u) k
     → views_of both ≡ views.shown_joined (views_of a) (views_of b)
 
 -- a measure has these readings, up to the largest numbers that it holds

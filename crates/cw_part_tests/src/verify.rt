@@ -7,7 +7,7 @@ mod readers;
 use Step::{Call, Just, Spawn};
 use codes::{
     Frame, GIVING, NOTHING, Placed, add_frame, add_reducer, end_function, no_code, place,
-    place_all, refusal_of,
+    place_all, rejection_of,
 };
 use cw_code::code::{BlockKind, Callee, Code, Func, Instr, UnaryOperator};
 use cw_model::syntax::{CallKind, Name, Operator, Reduction};
@@ -127,7 +127,7 @@ fn place_main(alloc: Global, code: &mut Code, steps: &[Step]) -> Result<(), Allo
 fn refusal(alloc: Global, steps: &[Step]) -> Result<u8, AllocError> {
     let mut code = no_code(alloc);
     place_main(alloc, &mut code, steps)?;
-    refusal_of(alloc, code)
+    rejection_of(alloc, code)
 }
 
 /// A `main`, and the number of its fault, or 0 if it is well-formed.
@@ -207,16 +207,16 @@ fn place_alone(alloc: Global, code: &mut Code, alone: &Alone) -> Result<(), Allo
     Ok(())
 }
 
-fn refusal_alone(alloc: Global, alone: &Alone) -> Result<u8, AllocError> {
+fn sole_rejection(alloc: Global, alone: &Alone) -> Result<u8, AllocError> {
     let mut code = no_code(alloc);
     place_alone(alloc, &mut code, alone)?;
-    refusal_of(alloc, code)
+    rejection_of(alloc, code)
 }
 
 #[test]
 fn mains_alone(rt: HostRuntime) -> Result<(), AllocError> {
     for (k, alone) in ALONE.iter().enumerate() {
-        assert_eq!(rt; refusal_alone(rt.alloc(), alone)?, alone.number, "row {k}");
+        assert_eq!(rt; sole_rejection(rt.alloc(), alone)?, alone.number, "row {k}");
     }
     Ok(())
 }
@@ -225,7 +225,7 @@ fn mains_alone(rt: HostRuntime) -> Result<(), AllocError> {
 fn no_function(rt: HostRuntime) -> Result<(), AllocError> {
     let mut code = no_code(rt.alloc());
     add_all_but_functions(rt.alloc(), &mut code)?;
-    assert_eq!(rt; refusal_of(rt.alloc(), code)?, 6);
+    assert_eq!(rt; rejection_of(rt.alloc(), code)?, 6);
     Ok(())
 }
 
@@ -258,18 +258,18 @@ const MAIN_OF_ONE: Func = Func {
 
 static GIVES: [Instr; 2] = [Instr::Push(1), Instr::ReturnValue];
 
-fn refusal_of_reducers(alloc: Global, names: &[&[u8]]) -> Result<u8, AllocError> {
+fn rejection_of_reducers(alloc: Global, names: &[&[u8]]) -> Result<u8, AllocError> {
     let mut code = no_code(alloc);
     add_reducers(alloc, &mut code, names)?;
     place(&mut code, MAIN_OF_ONE, &GIVES)?;
-    refusal_of(alloc, code)
+    rejection_of(alloc, code)
 }
 
 #[test]
 fn reducers(rt: HostRuntime) -> Result<(), AllocError> {
     for (k, (names, number)) in REDUCERS.iter().enumerate() {
         assert_eq!(rt;
-            refusal_of_reducers(rt.alloc(), *names)?,
+            rejection_of_reducers(rt.alloc(), *names)?,
             *number,
             "row {k}"
         );

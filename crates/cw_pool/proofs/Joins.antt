@@ -11,7 +11,7 @@ use Rattle.cw_yard.specs.declared.seat.Yard.{Yard}
 use Rattle.cw_yard.specs.Ledger.{Each}
 use Rattle.cw_pool.specs.declared.post.OutJob.{OutJob}
 use Rattle.cw_pool.specs.declared.post.WorkerFrame.{WorkerFrame}
-use Rattle.cw_pool.specs.WorkerFrames.{IsNewest, Works, Lacks, kept_job, kept_jobs, IsKeptOf}
+use Rattle.cw_pool.specs.WorkerFrames.{IsNewest, Works, Lacks, job_of_out, kept_jobs, IsKeptOf}
 
 abbrev pub named : List Job → List (Option Job)
 named js = map (λ j. Some j) js
@@ -67,12 +67,12 @@ after_back y p o new ks rest lacks same running is = after y p o new ks lacks sa
 pub last_first : {A : Type 0} (xs ys : List A) (x : A) → xs ≡ ys ++ x ∷ [] → reverse xs ≡ x ∷ reverse ys
 last_first xs ys x e = ap reverse e ∙ reverse-append ys (x ∷ [])
 
-pub popped : (y : Yard) (p : WorkerFrame) (ks : Vec OutJob Global) (k : OutJob) → Works y p → p.kept.items ≡ ks.items ++ k ∷ [] → Lacks y (post p.strand ks) (kept_job k) × IsKeptOf y k
+pub popped : (y : Yard) (p : WorkerFrame) (ks : Vec OutJob Global) (k : OutJob) → Works y p → p.kept.items ≡ ks.items ++ k ∷ [] → Lacks y (post p.strand ks) (job_of_out k) × IsKeptOf y k
 popped y p ks k w e =
     let c = each_init (IsKeptOf y) ks.items k (subst (λ l. Each (IsKeptOf y) l) e w.2) in
-    ((w.0, ap (map kept_job) (sym (last_first p.kept.items ks.items k e)) ∙ w.1, c.0), c.1)
+    ((w.0, ap (map job_of_out) (sym (last_first p.kept.items ks.items k e)) ∙ w.1, c.0), c.1)
 
-none_of : (ks : List OutJob) → map kept_job ks ≡ [] → ks ≡ []
+none_of : (ks : List OutJob) → map job_of_out ks ≡ [] → ks ≡ []
 none_of [] e = refl
 none_of (k ∷ ks) e = absurd (subst IsCons e tt)
 

@@ -23,13 +23,13 @@ abbrev pub IsNewest : Strand → Job → Type 0
 IsNewest self job = (others : List Job) × (outs self ≡ job ∷ others)
 
 -- the job that is kept, or the job of the ticket
-abbrev pub kept_job : OutJob → Option Job
-kept_job (kept.Own job) = Some job
-kept_job (kept.Out t) = ticket_job t
+abbrev pub job_of_out : OutJob → Option Job
+job_of_out (kept.Own job) = Some job
+job_of_out (kept.Out t) = ticket_job t
 
 -- the jobs that are kept or offered, the newest first
 abbrev pub kept_jobs : List OutJob → List (Option Job)
-kept_jobs ks = map kept_job (reverse ks)
+kept_jobs ks = map job_of_out (reverse ks)
 
 -- a ticket that is kept is a ticket of the yard
 abbrev pub IsKeptOf : Yard → OutJob → Type 0

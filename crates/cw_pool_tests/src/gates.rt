@@ -125,10 +125,10 @@ impl Gate for Robbed {
     }
 }
 
-/// A worker is held at one of this number of moments, for fewer iterations than `FEW_TURNS`.
+/// A worker is held at one of this number of moments, for fewer iterations than `FEW_ITERATIONS`.
 const SELDOM: u64 = 4;
 
-const FEW_TURNS: u64 = 4096;
+const FEW_ITERATIONS: u64 = 4096;
 
 /// Holds any worker at about every fourth of its moments, for a while. A small random generator with a given seed
 /// decides when and how long.
@@ -167,7 +167,7 @@ impl Gate for Stumbling {
         let random = self.next();
         if random % SELDOM == 0 {
             let turns = self.held.fetch_add(1, Ordering::SeqCst);
-            for _turn in 0..(random >> 32) % FEW_TURNS {
+            for _turn in 0..(random >> 32) % FEW_ITERATIONS {
                 if self.held.load(Ordering::SeqCst) < turns {
                     return;
                 }

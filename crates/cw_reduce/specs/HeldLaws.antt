@@ -3,7 +3,7 @@ use Rattle.std.specs.Prelude.{◌≡◌, ℤ, ◌+◌, Option, refl}
 use Rattle.std.proofs.Common.{ap, arith}
 use Rattle.cw_reduce.specs.Words.{Word, word, plus}
 use Rattle.cw_reduce.specs.WordLaws.{plus-assoc}
-use Rattle.cw_reduce.specs.GreatestLaws.{greater-last, greater-assoc, greater-comm}
+use Rattle.cw_reduce.specs.MaximumLaws.{greater-last, greater-assoc, greater-comm}
 use Rattle.cw_reduce.specs.ReducerState.{ReducerState, Summed, Raised, none_held, held_joined}
 
 plus-comm : (a b : Word) → plus a b ≡ plus b a

@@ -3,8 +3,8 @@ pub mod Words
 pub mod WordLaws
 pub mod ListLaws
 pub mod SumsOfIntegers
-pub mod Greatest
-pub mod GreatestLaws
+pub mod Maximum
+pub mod MaximumLaws
 pub mod ReducerState
 pub mod HeldLaws
 pub mod PieceResults

@@ -6,7 +6,7 @@ use Rattle.cw_model.specs.declared.syntax.Reduction.TheVariants.{Sum, Max}
 use Rattle.cw_model.specs.declared.total.Total.{Total}
 use Rattle.cw_model.specs.declared.total.Total.TheVariants as total
 use Rattle.cw_reduce.specs.Words.{Word, word_of, plus}
-use Rattle.cw_reduce.specs.Greatest.{greater}
+use Rattle.cw_reduce.specs.Maximum.{greater}
 
 -- a sum within 128 bits, or the maximum of integers
 pub data ReducerState : Type 0 where

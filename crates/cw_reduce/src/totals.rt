@@ -5,7 +5,7 @@ ghost use Rattle.std.specs.Int.{int_wrapping_add, w128};
 ghost use Rattle.cw_reduce.specs.ReducerState.{as_total, held, held_joined, one_held};
 ghost use Rattle.cw_reduce.specs.Words.{plus, word_of};
 
-use crate::greatest::greater_of;
+use crate::maximum::max_of;
 use cw_model::syntax::Reduction;
 use cw_model::total::Total;
 
@@ -38,7 +38,7 @@ pub(crate) fn joined(left: Total, right: Total) -> Total
         },
         Total::Max(greatest) => match right {
             Total::Sum(_) => right,
-            Total::Max(more) => Total::Max(greater_of(greatest, more)),
+            Total::Max(more) => Total::Max(max_of(greatest, more)),
         },
     }
 }

@@ -1,6 +1,6 @@
 //! The helpers of the tables of tests: a source, from its text to its explanation.
 
-use cw_explain::{Refused, explain};
+use cw_explain::{RejectedSource, explain};
 use cw_lex::lex;
 use cw_loops::lower;
 use cw_own::own;
@@ -22,8 +22,8 @@ fn fault_of(alloc: Global, bytes: &[u8]) -> Result<(), Fault> {
 }
 
 /// Returns a source of these bytes with the path t.
-pub fn refused(bytes: &[u8]) -> Refused<'_> {
-    Refused {
+pub fn refused(bytes: &[u8]) -> RejectedSource<'_> {
+    RejectedSource {
         file: "t",
         bytes,
         args: 0,

@@ -193,7 +193,7 @@ static TRAPS: &[(Trap, &str)] = &[
         "t:2: the length of an array is below 0 or above 16777216: use a smaller one\n  2 |   int x = 1 / 0;\n",
     ),
     (
-        Trap::TooManyTurns,
+        Trap::TooManyIterations,
         "t:2: a cilk_for has more than 2147483647 iterations: divide its range\n  2 |   int x = 1 / 0;\n",
     ),
     (

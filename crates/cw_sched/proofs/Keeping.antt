@@ -20,7 +20,7 @@ use Rattle.cw_sched.specs.declared.post.Out.TheVariants as out
 use Rattle.cw_sched.specs.declared.world.World.{World}
 use Rattle.cw_sched.specs.Boards.{Each, Boarded, offered, collected}
 use Rattle.cw_sched.specs.Scenes.{FrameView, Stage, Goes, Made, Answered, Scene, scene, top}
-use Rattle.cw_sched.specs.Lacking.{is_memory, lacks_memory, HasEnded, LacksNone, Loses, LacksBy, KeepsMemory}
+use Rattle.cw_sched.specs.Lacking.{is_memory, lacks_memory, HasEnded, LacksNone, Loses, LacksBy, PreservesMemory}
 use Rattle.cw_sched.specs.Events.{with_top, but_top, turned, board_without, with_outs, Runs, Spawns, Offers, Inlines, Retakes, Steals, Settles, Collects, Does, DoesOr}
 use Rattle.cw_sched.specs.Worlds.{answer_of, IsStarted, Leads, LeadsToLack}
 use Rattle.cw_sched.proofs.Lists.{each_set, each_worker, each_but_newest, each_newest, each_oldest, of_worker_set, newest_pushed}
@@ -78,21 +78,21 @@ cases s s' w x board e h is cells f = by_stage (bool_cases (lacks_memory x))
     by_stage (inl has) = inl (subst (λ (t : Scene). LacksNone t) (sym is) (turned_none s w x board h has cells))
     by_stage (inr lacking) = inr (f lacking)
 
-run_keeps : (v : Verified) (s s' : Scene) (w : ℕ) → Runs v s s' w → KeepsMemory (event.Run w) s s'
+run_keeps : (v : Verified) (s s' : Scene) (w : ℕ) → Runs v s s' w → PreservesMemory (event.Run w) s s'
 run_keeps v s s' w d h =
     cases s s' w d.stage s.board (event.Run w) h d.is h.1 (λ lacking. (loses s s' w d.at.post d.stage s.board d.at.is d.is lacking, (d.lacks lacking).0))
 
-spawn_keeps : (v : Verified) (s s' : Scene) (w : ℕ) → Spawns v s s' w → KeepsMemory (event.Run w) s s'
+spawn_keeps : (v : Verified) (s s' : Scene) (w : ℕ) → Spawns v s s' w → PreservesMemory (event.Run w) s s'
 spawn_keeps v s s' w d h = inl (subst (λ (t : Scene). LacksNone t) (sym d.is) (more (but_top s.begun w) w (Goes d.post) (less s.begun w h.0) (ap has_failed d.goes), h.1))
 
-offer_keeps : (s s' : Scene) (w : ℕ) → Offers s s' w → KeepsMemory (event.Offer w) s s'
+offer_keeps : (s s' : Scene) (w : ℕ) → Offers s s' w → PreservesMemory (event.Offer w) s s'
 offer_keeps s s' w d h =
     let p = d.at.at.post in
     let has = top_has s w (Goes p) h d.at.at.is in
     inl (subst (λ (t : Scene). LacksNone t) (sym d.is) (turned_none s w (with_outs p (d.at.older ++ out.Offered d.number ∷ []))
     (offered s.board w (record { number = d.number; job = d.job })) h has h.1))
 
-inline_keeps : (s s' : Scene) (w : ℕ) → Inlines s s' w → KeepsMemory (event.Inline w) s s'
+inline_keeps : (s s' : Scene) (w : ℕ) → Inlines s s' w → PreservesMemory (event.Inline w) s s'
 inline_keeps s s' w d h =
     let p = d.at.at.post in
     let has = top_has s w (Goes p) h d.at.at.is in
@@ -103,7 +103,7 @@ same_cells b w (out.Undecided n job) h = h
 same_cells b w (out.Kept n job) h = h
 same_cells b w (out.Offered n) h = h
 
-retake_keeps : (v : Verified) (s s' : Scene) (w : ℕ) → Retakes v s s' w → KeepsMemory (event.Retake w) s s'
+retake_keeps : (v : Verified) (s s' : Scene) (w : ℕ) → Retakes v s s' w → PreservesMemory (event.Retake w) s s'
 retake_keeps v s s' w d h =
     let p = d.at.at.post in
     let board = board_without s.board w d.at.newest in
@@ -114,19 +114,19 @@ retake_keeps v s s' w d h =
     ended (inl lost) = absurd (not_lost s w d.at.at.post h d.at.at.is lost)
     ended (inr k) = k
 
-steal_keeps : (v : Verified) (s s' : Scene) (w victim : ℕ) → Steals v s s' w victim → KeepsMemory (event.Steal w victim) s s'
+steal_keeps : (v : Verified) (s s' : Scene) (w victim : ℕ) → Steals v s s' w victim → PreservesMemory (event.Steal w victim) s s'
 steal_keeps v s s' w victim d h = by_stage (bool_cases (lacks_memory d.stage))
   where
     by_stage : (lacks_memory d.stage ≡ false) ⊎ (lacks_memory d.stage ≡ true) → LacksNone s' ⊎ LacksBy (event.Steal w victim) s s'
     by_stage (inl has) = inl (subst (λ (t : Scene). LacksNone t) (sym d.is) (more s.begun w d.stage h.0 has, h.1))
     by_stage (inr lacking) = inr (d.stage, ap (λ (t : Scene). top t w) d.is ∙ laid s.begun w d.stage d.there, lacking, d.lacks lacking)
 
-settle_keeps : (s s' : Scene) (w : ℕ) → Settles s s' w → KeepsMemory (event.Settle w) s s'
+settle_keeps : (s s' : Scene) (w : ℕ) → Settles s s' w → PreservesMemory (event.Settle w) s s'
 settle_keeps s s' w d h =
     let c : Cell = record { number = d.number; effect = d.effect } in
     inl (subst (λ (t : Scene). LacksNone t) (sym d.is) (less s.begun w h.0, each_pushed CellHasSome s.board.cells c h.1 (top_has s w (Made d.number d.effect) h d.made)))
 
-collect_keeps : (v : Verified) (s s' : Scene) (w : ℕ) → Collects v s s' w → KeepsMemory (event.Collect w) s s'
+collect_keeps : (v : Verified) (s s' : Scene) (w : ℕ) → Collects v s s' w → PreservesMemory (event.Collect w) s s'
 collect_keeps v s s' w d h =
     let board = collected s.board d.place in
     cases s s' w d.stage board (event.Collect w) h d.is (each_remove CellHasSome s.board.cells d.place h.1) (λ lacking.
@@ -141,7 +141,7 @@ collect_keeps v s s' w d h =
     taken (inr (inr k)) = k
 
 -- whichever event it is, done or refused
-does_keep : (v : Verified) (s s' : Scene) (e : Event) → Does v e s s' → KeepsMemory e s s'
+does_keep : (v : Verified) (s s' : Scene) (e : Event) → Does v e s s' → PreservesMemory e s s'
 does_keep v s s' (event.Run w) (inl d) = run_keeps v s s' w d
 does_keep v s s' (event.Run w) (inr d) = spawn_keeps v s s' w d
 does_keep v s s' (event.Offer w) d = offer_keeps s s' w d
@@ -151,11 +151,11 @@ does_keep v s s' (event.Steal w victim) d = steal_keeps v s s' w victim d
 does_keep v s s' (event.Settle w) d = settle_keeps s s' w d
 does_keep v s s' (event.Collect w) d = collect_keeps v s s' w d
 
-done_keeps : (v : Verified) (e : Event) (r : Result (Unit {0}) Refused) (s s' : Scene) → DoesOr v e r s s' → KeepsMemory e s s'
+done_keeps : (v : Verified) (e : Event) (r : Result (Unit {0}) Refused) (s s' : Scene) → DoesOr v e r s s' → PreservesMemory e s s'
 done_keeps v e (Ok x) s s' d = does_keep v s s' e d
 done_keeps v e (Err x) s s' d = λ h. inl (subst (λ (t : Scene). LacksNone t) (sym d) h)
 
-pub world_keeps : (w w' : World) (e : Event) (r : Result (Unit {0}) Refused) → DoesOr (arc_value w.code) e r (scene w) (scene w') → KeepsMemory e (scene w) (scene w')
+pub world_keeps : (w w' : World) (e : Event) (r : Result (Unit {0}) Refused) → DoesOr (arc_value w.code) e r (scene w) (scene w') → PreservesMemory e (scene w) (scene w')
 world_keeps w w' e r d = done_keeps (arc_value w.code) e r (scene w) (scene w') d
 
 -- memory was wanting nowhere in a world that has begun

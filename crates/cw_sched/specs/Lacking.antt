@@ -75,5 +75,5 @@ LacksBy (event.Collect w) s s' =
     × TakesIn l.post.strand c.effect
 
 -- if no memory was lacking before an event, none is lacking after it, or it is lacking by the event
-abbrev pub KeepsMemory : Event → (s s' : Scene) → Type 0
-KeepsMemory event s s' = LacksNone s → LacksNone s' ⊎ LacksBy event s s'
+abbrev pub PreservesMemory : Event → (s s' : Scene) → Type 0
+PreservesMemory event s s' = LacksNone s → LacksNone s' ⊎ LacksBy event s s'

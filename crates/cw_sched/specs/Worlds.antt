@@ -23,7 +23,7 @@ use Rattle.cw_sched.specs.Sound.{Sound, IsRunOf}
 use Rattle.cw_sched.specs.Places.{OnePlace, RootIsFirst}
 use Rattle.cw_sched.specs.Events.{Does, DoesOr}
 use Rattle.cw_sched.specs.Table.{is_possible}
-use Rattle.cw_sched.specs.Lacking.{KeepsMemory, LacksNone, LacksBy}
+use Rattle.cw_sched.specs.Lacking.{PreservesMemory, LacksNone, LacksBy}
 use Rattle.cw_sched.specs.MemoryNeeds.{MayNeedMemory}
 use Rattle.cw_sched.specs.Copied.{IsOptionCopy}
 
@@ -121,7 +121,7 @@ pub record Tries (old : World) (event : Event) (new : World) : Type 0 where
   pub happens : Happens old event answer new
   pub not_now : IsNotNow answer ↔ (is_possible (scene old) event ≡ false)
   pub wants : IsForMemory answer → MayNeedMemory old event
-  pub memory : KeepsMemory event (scene old) (scene new)
+  pub memory : PreservesMemory event (scene old) (scene new)
 
 -- EVENTS, IN ORDER, lead from a world to another one
 abbrev pub Leads : List Event → (old new : World) → Type 0

@@ -15,7 +15,7 @@ ghost use Rattle.cw_sched.specs.WorkerFrames.{Begins};
 ghost use Rattle.cw_sched.specs.Sound.{KeepsRuns, Sound};
 ghost use Rattle.cw_sched.specs.Worlds.{answer_in, answer_of, has_ended, idle, AnswersAsCode, IsSound, Starts};
 ghost use Rattle.cw_sched.specs.Worlds.{Happens, HasHappened, IsForMemory, IsNotNow, KeepsAnswer};
-ghost use Rattle.cw_sched.specs.Lacking.{KeepsMemory};
+ghost use Rattle.cw_sched.specs.Lacking.{PreservesMemory};
 ghost use Rattle.cw_sched.specs.Table as table;
 ghost use Rattle.cw_sched.specs.Table.{is_possible};
 ghost use Rattle.cw_sched.specs.Events.{board_without, but_top, with_top, HasRoomIn, HasTurned, IsBack, IsBegun};
@@ -563,7 +563,7 @@ impl World {
         ensures stays { KeepsAnswer (scene self.old) (scene self.new) }
         ensures not_now { IsNotNow result ↔ (is_possible (scene self.old) event ≡ false) }
         ensures wants { IsForMemory result → MayNeedMemory self.old event }
-        ensures keeps { KeepsMemory event (scene self.old) (scene self.new) }
+        ensures keeps { PreservesMemory event (scene self.old) (scene self.new) }
         ensures does { Happens self.old event result self.new }
     {
         if !self.is_possible(event) {

@@ -12,7 +12,7 @@ use Rattle.cw_facts.specs.declared.pages.Pages.{Pages}
 use Rattle.cw_facts.specs.lemmas.Places.{on_page, on_pages_from, on_shelves_from}
 use Rattle.cw_sites.specs.declared.rows.RowsBySite.{RowsBySite}
 use Rattle.cw_sites.specs.declared.rows.Row.{Row}
-use Rattle.cw_sites.specs.declared.rows.Kept.{Kept}
+use Rattle.cw_sites.specs.declared.rows.SiteEntry.{SiteEntry}
 use Rattle.cw_sites.specs.SiteRows.{kept_of, further_of, row_of, zero_row, none_kept, summed, under, FitsRow, Becomes, OthersStay, IsReadAs, JoinsBelow, JoinsFurther, JoinsOn, JoinsRows}
 
 summed_none : (r : Row) → summed r zero_row ≡ r
@@ -20,7 +20,7 @@ summed_none r = let a : r.calls + 0 ≡ r.calls = omega arith in let b : r.own +
     let c : r.work + unless_at (r.active == 0) 0 ≡ r.work = omega arith in let d : r.span + unless_at (r.active == 0) 0 ≡ r.span = omega arith in simp (a, b, c, d)
 
 -- the entry of a site outside of the vector
-page_item : (further : Pages Kept) (q : ℕ) → further_of further q ≡ item none_kept further q
+page_item : (further : Pages SiteEntry) (q : ℕ) → further_of further q ≡ item none_kept further q
 unfolding further_of
 page_item further q = refl
 
@@ -33,15 +33,15 @@ pub record IsReached (old now : RowsBySite) (count : ℕ) : Type 0 where
   pub count_is : length now.by_site.items ≡ count
 
 -- one more site moves to the vector, unchanged
-pub kept_pushed : (xs ys : List Kept) (x : Kept) (further : Pages Kept) → ys ≡ xs ++ x ∷ [] → x ≡ item none_kept further (length xs) → (q : ℕ)
+pub kept_pushed : (xs ys : List SiteEntry) (x : SiteEntry) (further : Pages SiteEntry) → ys ≡ xs ++ x ∷ [] → x ≡ item none_kept further (length xs) → (q : ℕ)
     → get_or ys q (further_of further q) ≡ get_or xs q (further_of further q)
 kept_pushed xs ys x further is at q =
     let start : length xs ≡ 0 + length xs = omega arith in
     let number : 0 + q ≡ q = omega arith in
     let P : ℕ → Type 0 = λ m. get_or (xs ++ x ∷ []) q (further_of further m) ≡ get_or xs q (further_of further m) in
-    ap (λ (zs : List Kept). get_or zs q (further_of further q)) is ∙ subst P number (pushed xs 0 q (at ∙ ap (item none_kept further) start))
+    ap (λ (zs : List SiteEntry). get_or zs q (further_of further q)) is ∙ subst P number (pushed xs 0 q (at ∙ ap (item none_kept further) start))
   where
-    pushed : (zs : List Kept) (n k : ℕ) → x ≡ item none_kept further (n + length zs) → get_or (zs ++ x ∷ []) k (further_of further (n + k)) ≡ get_or zs k (further_of further (n + k))
+    pushed : (zs : List SiteEntry) (n k : ℕ) → x ≡ item none_kept further (n + length zs) → get_or (zs ++ x ∷ []) k (further_of further (n + k)) ≡ get_or zs k (further_of further (n + k))
     pushed [] n zero e = e ∙ sym (page_item further (n + 0))
     pushed [] n (suc k) e = refl
     pushed (z ∷ zs) n zero e = refl
@@ -51,18 +51,18 @@ kept_pushed xs ys x further is at q =
         ap (λ (m : ℕ). get_or (zs ++ x ∷ []) k (further_of further m)) s ∙ pushed zs (suc n) k (e ∙ ap (item none_kept further) l) ∙ sym (ap (λ (m : ℕ). get_or zs k (further_of further m)) s)
 
 -- an entry is set in a page, for a site outside of the vector
-pub kept_in_page : (by_site : List Kept) (old new : Pages Kept) (place : ℕ) (kept : Kept) → length by_site ≤ place
+pub kept_in_page : (by_site : List SiteEntry) (old new : Pages SiteEntry) (place : ℕ) (kept : SiteEntry) → length by_site ≤ place
     → Gives none_kept old new place kept → (q : ℕ) → get_or by_site q (further_of new q) ≡ (if place == q then kept else get_or by_site q (further_of old q))
 kept_in_page by_site old new place kept past g q = elim (cases_lt q (length by_site)) [
   | inl less ↦ get_or_default by_site q (further_of new q) (further_of old q) less ∙ sym (not_taken (place == q) kept (get_or by_site q (further_of old q)) (other q (omega arith)))
   | inr beyond ↦ get_or_past by_site q (further_of new q) beyond ∙ page_item new q ∙ g q
-      ∙ ap (λ (x : Kept). if place == q then kept else x) (sym (get_or_past by_site q (further_of old q) beyond ∙ page_item old q))
+      ∙ ap (λ (x : SiteEntry). if place == q then kept else x) (sym (get_or_past by_site q (further_of old q) beyond ∙ page_item old q))
 ]
   where
     other : (k : ℕ) → k < place → (place == k) ≡ false
     other k less = grind (arith, nat_tests)
 
-pub kept_here : (xs : List Kept) (place : ℕ) (kept : Kept) (others : ℕ → Kept) → place < length xs → (q : ℕ)
+pub kept_here : (xs : List SiteEntry) (place : ℕ) (kept : SiteEntry) (others : ℕ → SiteEntry) → place < length xs → (q : ℕ)
     → get_or (set xs place kept) q (others q) ≡ (if place == q then kept else get_or xs q (others q))
 kept_here xs place kept others less q = elim (cases_lt place q) [
   | inl l ↦ get_or-set_other xs place q kept (others q) (λ e. absurd (omega arith)) ∙ sym (not_taken (place == q) kept (get_or xs q (others q)) (grind (arith, nat_tests)))
@@ -77,10 +77,10 @@ kept_here xs place kept others less q = elim (cases_lt place q) [
 
 -- a site outside of the vector and of all pages
 free_row : (rows : RowsBySite) (q : ℕ) → length rows.by_site.items ≤ q → item none_kept rows.further q ≡ none_kept → row_of rows q ≡ zero_row
-free_row rows q past none = ap (λ (x : Kept). x.row) (kept_further rows q past ∙ none)
+free_row rows q past none = ap (λ (x : SiteEntry). x.row) (kept_further rows q past ∙ none)
 
-pub empty_rows : (by_site : List Kept) (further : Pages Kept) → by_site ≡ [] → ((k : ℕ) → item none_kept further k ≡ none_kept) → (q : ℕ) → (get_or by_site q (further_of further q)).row ≡ zero_row
-empty_rows by_site further e none q = let n = ap length e in ap (λ (x : Kept). x.row) (get_or_past by_site q (further_of further q) (omega arith) ∙ page_item further q ∙ none q)
+pub empty_rows : (by_site : List SiteEntry) (further : Pages SiteEntry) → by_site ≡ [] → ((k : ℕ) → item none_kept further k ≡ none_kept) → (q : ℕ) → (get_or by_site q (further_of further q)).row ≡ zero_row
+empty_rows by_site further e none q = let n = ap length e in ap (λ (x : SiteEntry). x.row) (get_or_past by_site q (further_of further q) (omega arith) ∙ page_item further q ∙ none q)
 
 -- no row is added yet, and one more row is added
 pub none_joined : (piece ours : RowsBySite) → JoinsBelow piece 0 ours ours

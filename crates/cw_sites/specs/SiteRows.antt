@@ -8,7 +8,7 @@ use Rattle.cw_measure.specs.Outermost.{is_counted, one_if, unless_open, Tally, C
 use Rattle.cw_facts.specs.Items.{item}
 use Rattle.cw_facts.specs.declared.pages.Pages.{Pages}
 use Rattle.cw_sites.specs.declared.rows.Row.{Row}
-use Rattle.cw_sites.specs.declared.rows.Kept.{Kept}
+use Rattle.cw_sites.specs.declared.rows.SiteEntry.{SiteEntry}
 use Rattle.cw_sites.specs.declared.rows.RowsBySite.{RowsBySite}
 use Rattle.cw_sites.specs.OpenPaths.{here_in, path_in}
 
@@ -17,15 +17,15 @@ abbrev pub zero_row : Row
 zero_row = record { calls = 0; own = 0; work = 0; span = 0; active = 0; at_work = 0; at_path = 0 }
 
 -- the entry of a site that was not met
-abbrev pub none_kept : Kept
+abbrev pub none_kept : SiteEntry
 none_kept = record { row = zero_row; place = 0 }
 
 -- the entry of a site in the pages
-unfoldable pub further_of : Pages Kept → ℕ → Kept
+unfoldable pub further_of : Pages SiteEntry → ℕ → SiteEntry
 further_of further site = item none_kept further site
 
 -- the entry of a site; zeros if the site was not met
-abbrev pub kept_of : RowsBySite → ℕ → Kept
+abbrev pub kept_of : RowsBySite → ℕ → SiteEntry
 kept_of rows site = slice_index_or rows.by_site.items site (further_of rows.further site)
 
 -- the row of a site
@@ -154,7 +154,7 @@ abbrev pub KeepTheSame : RowsBySite → RowsBySite → Type 0
 KeepTheSame old new = (q : ℕ) → kept_of new q ≡ kept_of old q
 
 -- this site has this entry, and the entries of other sites are unchanged
-abbrev pub Keeps : RowsBySite → RowsBySite → (site : ℕ) → Kept → Type 0
+abbrev pub Keeps : RowsBySite → RowsBySite → (site : ℕ) → SiteEntry → Type 0
 Keeps old new site kept = (q : ℕ) → kept_of new q ≡ (if site == q then kept else kept_of old q)
 
 -- the sum of a row and the row of a piece that was executed separately and has no open invocation; if invocations are

@@ -94,8 +94,8 @@ pub record QuietParts (base : ℕ) (busy : ℕ → ℕ) (os : List Open) (table 
       → Tracks base busy os (closed (record { spawned = false; mark = mark; outer = outer }) es) table
 
 -- includes the instructions up to a count: a table that represents a run represents the run after the events
-abbrev pub Notes : SiteTable → SiteTable → (count : ℕ) → Type 0
-Notes old new count =
+abbrev pub RecordsUpTo : SiteTable → SiteTable → (count : ℕ) → Type 0
+RecordsUpTo old new count =
     (base : ℕ) (busy : ℕ → ℕ) (os : List Open) (es fs : List Event) → Since old.noted count es fs
     → Small busy os (es ++ fs)
     → Tracks base busy os es old → Tracks base busy os (es ++ fs) new
@@ -143,8 +143,8 @@ Joins old new count =
     → Small busy os (es ++ fs) → Tracks base busy os es old → Tracks base busy os ((es ++ fs) ++ Join ∷ []) new
 
 -- a join, if the table represents the whole run so far
-abbrev pub JoinsNoted : SiteTable → SiteTable → Type 0
-JoinsNoted old new =
+abbrev pub JoinsRecorded : SiteTable → SiteTable → Type 0
+JoinsRecorded old new =
     (base : ℕ) (busy : ℕ → ℕ) (os : List Open) (es : List Event) → has_spawned es ≡ true → Small busy os es
     → Tracks base busy os es old → Tracks base busy os (es ++ Join ∷ []) new
 

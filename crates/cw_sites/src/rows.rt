@@ -29,7 +29,7 @@ pub struct Row {
 
 /// A row, and the place of the last steps of its site.
 #[derive(Clone, Copy, Debug)]
-pub struct Kept {
+pub struct SiteEntry {
     pub row: Row,
     pub place: usize,
 }
@@ -39,10 +39,10 @@ pub struct Kept {
 /// The rows of the first sites are in a vector; the rows of the other sites are in pages.
 #[derive(Debug, Drop)]
 pub struct RowsBySite {
-    pub by_site: Vec<Kept>,
+    pub by_site: Vec<SiteEntry>,
     /// When a site below this number is met, it and all sites before it get rows in the vector.
     pub firsts: usize,
-    pub further: Pages<Kept>,
+    pub further: Pages<SiteEntry>,
 }
 
 // The limit on the vector of a piece at its start, its growth whenever a site beyond it is met, and its maximum: so a
@@ -63,7 +63,7 @@ const ZERO: Row = Row {
     at_path: 0,
 };
 
-const NONE: Kept = Kept {
+const NONE: SiteEntry = SiteEntry {
     row: ZERO,
     place: 0,
 };
@@ -141,12 +141,12 @@ impl RowsBySite {
     fn row_at(&self, place: usize) -> Row
         ensures { result ≡ row_of self.now place }
     {
-        self.kept_at(place).row
+        self.entry_of_site(place).row
     }
 
     // Returns the entry of a site.
     #[inline(always)]
-    fn kept_at(&self, place: usize) -> Kept
+    fn entry_of_site(&self, place: usize) -> SiteEntry
         ensures { result ≡ kept_of self.now place }
     {
         if place < self.by_site.len() {
@@ -157,19 +157,19 @@ impl RowsBySite {
 
     // Sets the entry of a site.
     #[inline(always)]
-    fn keep(&mut self, place: usize, kept: Kept) -> Result<(), AllocError>
+    fn keep(&mut self, place: usize, kept: SiteEntry) -> Result<(), AllocError>
         ensures { OnOk result (Keeps self.old self.new place kept) }
     {
         if place < self.by_site.len() {
             self.by_site[place] = kept;
             return Ok(());
         }
-        self.keep_apart(place, kept)
+        self.set_entry_apart(place, kept)
     }
 
     // Sets the entry of a site that has no row in the vector.
     #[inline(always)]
-    fn keep_apart(&mut self, place: usize, kept: Kept) -> Result<(), AllocError>
+    fn set_entry_apart(&mut self, place: usize, kept: SiteEntry) -> Result<(), AllocError>
         requires { length self.old.by_site.items ≤ place }
         ensures { OnOk result (Keeps self.old self.new place kept) }
     {
@@ -211,7 +211,7 @@ impl RowsBySite {
     /// Returns the place of the last steps of a site; any number if it was not met.
     #[inline(always)]
     pub fn place(&self, site: u32) -> usize {
-        self.kept_at(site as usize).place
+        self.entry_of_site(site as usize).place
     }
 
     /// Adds instructions of a site, and sets the place of its last steps if one is given.
@@ -225,7 +225,7 @@ impl RowsBySite {
         ensures others { OnOk result (OthersStay self.old self.new site) }
     {
         let place = site as usize;
-        let mut kept = self.kept_at(place);
+        let mut kept = self.entry_of_site(place);
         kept.row.add_own(count);
         kept.place = at.unwrap_or(kept.place);
         self.keep(place, kept)?;
@@ -257,7 +257,7 @@ impl RowsBySite {
         ensures others { OnOk result (OthersStay self.old self.new site) }
     {
         let place = site as usize;
-        let mut kept = self.kept_at(place);
+        let mut kept = self.entry_of_site(place);
         kept.row.enter(count, path);
         self.keep(place, kept)?;
         Ok(())
@@ -298,7 +298,7 @@ impl RowsBySite {
         ensures others { OnOk result (OthersStay self.old self.new site) }
     {
         let place = site as usize;
-        let mut kept = self.kept_at(place);
+        let mut kept = self.entry_of_site(place);
         kept.row.leave(count, path);
         self.keep(place, kept)?;
         Ok(())
@@ -392,11 +392,11 @@ impl RowsBySite {
         ensures own { OnOk result (Becomes (tallies.under piece) self.old self.new place) }
         ensures others { OnOk result (OthersStay self.old self.new place) }
     {
-        let kept = self.kept_at(place);
+        let kept = self.entry_of_site(place);
         let sum = summed(kept.row, piece);
         self.keep(
             place,
-            Kept {
+            SiteEntry {
                 row: sum,
                 place: kept.place,
             },

@@ -6,7 +6,7 @@ ghost use Rattle.cw_sites.specs.PathCalls.{ReadsOwn};
 ghost use Rattle.cw_sites.specs.StepLists.{HasFirstChild, HasRoom, HasRoomForBlock, IsShort, IsWithinLimit};
 ghost use Rattle.cw_sites.specs.StepSums.{sum_at, HasSteps};
 ghost use Rattle.cw_sites.specs.Tables.{Flushed, FlushesBounded, IsBoundedTable, JoinsBounded, RowBegun, RowLeft, StaysBoundedIn, Tracks};
-ghost use Rattle.cw_sites.specs.Tables.{EndsChild, EndsHalf, Enters, Joins, JoinsNoted, Leaves, Notes};
+ghost use Rattle.cw_sites.specs.Tables.{EndsChild, EndsHalf, Enters, Joins, JoinsRecorded, Leaves, RecordsUpTo};
 ghost use Rattle.cw_sites.specs.Tables.{JoinsPiece, StaysBoundedBeside};
 ghost use Rattle.cw_sites.specs.Tables.{ReadsPath, ReadsSite, Spawns, SpawnsHalf};
 
@@ -122,7 +122,7 @@ impl SiteTable {
             return true;
         }
         if self.paths.has_room() {
-            self.flush_behind(count);
+            self.flush_new_step(count);
             return true;
         }
         false
@@ -168,7 +168,7 @@ impl SiteTable {
     // Attributes the instructions since the last call, like `flush`. The site must have a row in the vector, and
     // there must be room for its steps.
     #[inline(always)]
-    fn flush_behind(&mut self, count: u64)
+    fn flush_new_step(&mut self, count: u64)
         requires there { self.old.here < length self.old.rows.by_site.items }
         requires room { HasRoom self.old.paths }
         ensures flushed { Flushed self.old self.new count }
@@ -211,7 +211,7 @@ impl SiteTable {
     /// Returns an `AllocError` if memory runs out.
     #[inline(always)]
     pub fn note(&mut self, count: u64) -> Result<(), AllocError>
-        ensures told { OnOk result (Notes self.old self.new count) }
+        ensures told { OnOk result (RecordsUpTo self.old self.new count) }
         ensures bounded { OnOk result (StaysBoundedIn self.old.here self.old self.new) }
         ensures short { OnOk result (IsShort self.new.paths) }
     {
@@ -359,7 +359,7 @@ impl SiteTable {
     /// Ends the innermost invocation, like `leave`, if this needs no memory and its site has a row in the vector.
     /// Returns whether this is so; if not, nothing is changed.
     #[inline(always)]
-    pub fn leave_ready(&mut self, count: u64, outer: u32) -> bool
+    pub fn close_ready(&mut self, count: u64, outer: u32) -> bool
         ensures told { result ≡ true → Leaves self.old self.new count outer }
         ensures bounded { result ≡ true → StaysBoundedIn outer self.old self.new }
         ensures same { result ≡ false → self.new ≡ self.old }
@@ -393,8 +393,8 @@ impl SiteTable {
     /// Attributes the instructions so far to their sites before a join, like `note`, if this needs no memory and the
     /// site has a row in the vector. Returns whether this is so; if not, nothing is changed.
     #[inline(always)]
-    pub fn note_ready(&mut self, count: u64) -> bool
-        ensures told { result ≡ true → Notes self.old self.new count }
+    pub fn record_ready(&mut self, count: u64) -> bool
+        ensures told { result ≡ true → RecordsUpTo self.old self.new count }
         ensures bounded { result ≡ true → FlushesBounded self.old self.new }
         ensures same { result ≡ false → self.new ≡ self.old }
     {
@@ -407,8 +407,8 @@ impl SiteTable {
 
     /// Joins a block that has spawned since its last join, like `join`. All instructions must be included.
     #[inline(always)]
-    pub fn join_noted(&mut self)
-        ensures told { JoinsNoted self.old self.new }
+    pub fn join_recorded(&mut self)
+        ensures told { JoinsRecorded self.old self.new }
         ensures bounded { JoinsBounded self.old self.new }
     {
         self.paths.join();

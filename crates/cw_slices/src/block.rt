@@ -3,7 +3,7 @@ ghost use Rattle.std.specs.Prelude.{◌≡◌, ◌+◌, ◌^◌, ◌<◌, ◌≤
 ghost use Rattle.cw_slices.specs.Placed.{after, shared_after};
 ghost use Rattle.cw_slices.specs.Blocks.{ins, outs, patched, IsIn, Have, AreIn, AreOut, AreHalved, AreAlike, IsShared, AreMerged, IsWhole, CountsMore, CountsLess};
 
-use crate::kept::Kept;
+use crate::cell_row::CellRow;
 use crate::memory::{Title, free};
 use crate::slice::{Loose, Slice};
 use std::alloc::{AllocError, Global};
@@ -20,7 +20,7 @@ use std::{fmt, mem};
 /// that never comes back is not freed either: nothing counts what is left of a block. To stop early without a leak,
 /// first return what is lent and shared with `give_back` and `merge`, which take no memory and cannot fail.
 pub struct ArrayBlock {
-    kept: Kept,
+    kept: CellRow,
     frees: usize,
     out: usize,
     title: Title<Global>,
@@ -88,7 +88,7 @@ impl ArrayBlock {
             alloc,
         } = slice.loosen();
         ArrayBlock {
-            kept: Kept::keep(ptr, len, span),
+            kept: CellRow::keep(ptr, len, span),
             frees,
             out: 0,
             title,

@@ -10,7 +10,7 @@ use Rattle.std.specs.Prelude.{slice_get}
 use Rattle.cw_code.specs.Over.{beneath}
 use Rattle.cw_code.specs.Strands.{Strand, Going, Waits, Halted, outs_of, spawn_job, Turn, Goes, HandsOut, ComesBack, turn, goes_on}
 use Rattle.cw_code.specs.Promises.{IsStrandOf}
-use Rattle.cw_code.specs.Steps.{CallsKeep, AdvanceKeeps, advance, finished, turned, went_on}
+use Rattle.cw_code.specs.Steps.{CallsPreserveJob, AdvancePreservesJob, advance, finished, turned, went_on}
 use Rattle.cw_code.specs.Steps as steps
 use Rattle.cw_code.specs.lemmas.First.{first_is}
 use Rattle.cw_runnable.specs.declared.verified.Verified.{Verified}
@@ -24,7 +24,7 @@ use Rattle.cw_strand.specs.Holds.{floor_in, Lends, AreOut}
 use Rattle.cw_strand.proofs.Levels.{HasReturned, LevelsAfter, levels_move}
 use Rattle.cw_strand.proofs.WhichOut.{in_place}
 
-module _ (code : Code) (keep : CallsKeep code) (job : Job) where
+module _ (code : Code) (keep : CallsPreserveJob code) (job : Job) where
   steps_to : (s : State) (count : ℕ) (outs : List Job) (w : Transition) → has_come job.extent code s ≡ false → step code s ≡ w → job.before + (count + 1) ≤ job.limit
       → advance code job (Going s count outs) ≡ went_on (turn code s) s w job.limit job.before (count + 1) outs
   steps_to s count outs w come e le =
@@ -35,7 +35,7 @@ module _ (code : Code) (keep : CallsKeep code) (job : Job) where
       ∙ ap (λ x. went_on (turn code s) s x job.limit job.before (count + 1) outs) e
 
   kept_on : (old : Strand) (t : Turn) (s s' : State) (count : ℕ) (outs : List Job)
-      → AdvanceKeeps code job old (turned t s s' job.limit job.before count outs) → IsStrandOf code job (goes_on t s s' job.limit job.before count outs)
+      → AdvancePreservesJob code job old (turned t s s' job.limit job.before count outs) → IsStrandOf code job (goes_on t s s' job.limit job.before count outs)
   kept_on old Goes s s' count outs h = h.0
   kept_on old (HandsOut target taken) s s' count outs h = h.0
   kept_on old ComesBack s s' count outs h = h.0
@@ -46,20 +46,20 @@ module _ (code : Code) (keep : CallsKeep code) (job : Job) where
       → IsStrandOf code job (goes_on t s s' job.limit job.before (count + 1) outs)
   ran s s' count outs t same come e le h = subst (λ t. IsStrandOf code job (goes_on t s s' job.limit job.before (count + 1) outs)) same
       (kept_on (Going s count outs) (turn code s) s s' (count + 1) outs
-      (subst (AdvanceKeeps code job (Going s count outs)) (steps_to s count outs (On s') come e le) (keep.advancing job (Going s count outs) h)))
+      (subst (AdvancePreservesJob code job (Going s count outs)) (steps_to s count outs (On s') come e le) (keep.advancing job (Going s count outs) h)))
 
   -- an instruction that traps
   pub fell : (s : State) (count : ℕ) (outs : List Job) (trap : Trap) (line : ℕ) (lines : List ℤ) → has_come job.extent code s ≡ false
       → step code s ≡ Stops trap line lines → job.before + (count + 1) ≤ job.limit → IsStrandOf code job (Going s count outs)
       → IsStrandOf code job (Halted (TrapIn trap line lines (count + 1)) outs)
   fell s count outs trap line lines come e le h =
-      (subst (AdvanceKeeps code job (Going s count outs)) (steps_to s count outs (Stops trap line lines) come e le) (keep.advancing job (Going s count outs) h)).0
+      (subst (AdvancePreservesJob code job (Going s count outs)) (steps_to s count outs (Stops trap line lines) come e le) (keep.advancing job (Going s count outs) h)).0
 
   -- the limit is exceeded
   pub passed : (s : State) (count : ℕ) (outs : List Job) → has_come job.extent code s ≡ false → job.limit < job.before + (count + 1) → IsStrandOf code job (Going s count outs)
       → IsStrandOf code job (Halted OverLimit outs)
   passed s count outs come lt h =
-      let P : steps.Advanced → Type 0 = AdvanceKeeps code job (Going s count outs) in
+      let P : steps.Advanced → Type 0 = AdvancePreservesJob code job (Going s count outs) in
       (subst P
       (ap (λ b. if b then finished outs (Joined (standing s) s.trace count)
       else (if nat_lt job.limit (job.before + (count + 1)) then steps.Ran (Halted OverLimit outs)
@@ -73,7 +73,7 @@ module _ (code : Code) (keep : CallsKeep code) (job : Job) where
   -- the strand reaches the join
   pub arrived : (s : State) (count : ℕ) → has_come job.extent code s ≡ true → IsStrandOf code job (Going s count []) → JobMeaning code job (Joined (standing s) s.trace count)
   arrived s count come h =
-      subst (AdvanceKeeps code job (Going s count []))
+      subst (AdvancePreservesJob code job (Going s count []))
       (ap (λ b. if b then finished [] (Joined (standing s) s.trace count)
       else (if nat_lt job.limit (job.before + (count + 1)) then steps.Ran (Halted OverLimit [])
       else went_on (turn code s) s (step code s) job.limit job.before (count + 1) [])) come)
@@ -84,7 +84,7 @@ module _ (code : Code) (keep : CallsKeep code) (job : Job) where
       → step code s ≡ Ends v arrays t → job.before + (count + 1) ≤ job.limit → IsStrandOf code job (Going s count [])
       → JobMeaning code job (Ended v arrays t (count + 1))
   ended s count v arrays t come e le h =
-      subst (AdvanceKeeps code job (Going s count [])) (steps_to s count [] (Ends v arrays t) come e le) (keep.advancing job (Going s count []) h)
+      subst (AdvancePreservesJob code job (Going s count [])) (steps_to s count [] (Ends v arrays t) come e le) (keep.advancing job (Going s count []) h)
 
   -- the strand has stopped
   pub halted : (e : Effect) (outs : List Job) → IsStrandOf code job (Halted e outs) → JobMeaning code job e

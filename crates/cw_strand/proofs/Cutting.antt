@@ -11,7 +11,7 @@ use Rattle.cw_code.specs.lemmas.Slots.{whole_slots}
 use Rattle.cw_code.specs.Jobs as jobs
 use Rattle.cw_code.specs.Over.{beneath, under}
 use Rattle.cw_code.specs.Strands.{rest_of}
-use Rattle.cw_code.specs.Steps.{CallsKeep}
+use Rattle.cw_code.specs.Steps.{CallsPreserveJob}
 use Rattle.cw_runnable.specs.declared.verified.Verified.{Verified}
 use Rattle.cw_jobs.specs.declared.call.Parts.{Parts}
 use Rattle.cw_jobs.specs.Jobs.{IsJob, IsSound}
@@ -68,7 +68,7 @@ over_rest b w (a ∷ around) limit before = refl
 is_level : (around : List Around) (w : Waiting) (s : List Around) → around ≡ Caller w ∷ s → IsLevel (length s) around
 is_level around w s e = subst (IsLevel (length s)) (sym e) (inl refl)
 
-module _ (keep : (code : Code) → CallsKeep code) (self : Strand) (limit : ℕ) (spawn : Spawn) (is : IsFit (its_code self)) (j : jobs.Job) (c : CameTo self limit (stop.Spawned spawn) is j) where
+module _ (keep : (code : Code) → CallsPreserveJob code) (self : Strand) (limit : ℕ) (spawn : Spawn) (is : IsFit (its_code self)) (j : jobs.Job) (c : CameTo self limit (stop.Spawned spawn) is j) where
   abbrev v : Verified
   v = its_code self
 
@@ -173,11 +173,11 @@ module _ (keep : (code : Code) → CallsKeep code) (self : Strand) (limit : ℕ)
           }
 
 -- a strand that stopped at a spawn may hand out its continuation
-pub may_hand_out : ((code : Code) → CallsKeep code) → (self : Strand) (limit : ℕ) (spawn : Spawn) → HasCome self limit (stop.Spawned spawn)
+pub may_hand_out : ((code : Code) → CallsPreserveJob code) → (self : Strand) (limit : ℕ) (spawn : Spawn) → HasCome self limit (stop.Spawned spawn)
     → ∥ MayHand (its_code self) self.run.machine (listed (its_code self) spawn.passed) (loans_of (its_code self) spawn.lent) ∥₁
 may_hand_out keep self limit spawn h = ∥∥₁_elim (sound_of self) (hlevel) (λ s. ∥∥₁_map (h.comes s.ok s.job s.is) (λ c. may_hand keep self limit spawn s.ok s.job c))
 
-pub cut_sound : ((code : Code) → CallsKeep code) → OutsLieApart → (self new : Strand) (limit : ℕ) (spawn : Spawn) (q : Parts) (l : Lender)
+pub cut_sound : ((code : Code) → CallsPreserveJob code) → OutsLieApart → (self new : Strand) (limit : ℕ) (spawn : Spawn) (q : Parts) (l : Lender)
     → HasCome self limit (stop.Spawned spawn) → HasCut self new spawn q l → ∥ IsSound q ∥₁
 cut_sound keep apart self new limit spawn q l h cut = ∥∥₁_elim (sound_of self) (hlevel)
     (λ s. ∥∥₁_map (h.comes s.ok s.job s.is) (λ c. sound keep self limit spawn s.ok s.job c apart new q l cut h.keeps))

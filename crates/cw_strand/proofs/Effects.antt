@@ -8,7 +8,7 @@ use Rattle.cw_code.specs.Jobs as jobs
 use Rattle.cw_code.specs.Jobs.{WholeCall, ToJoin, JobMeaning}
 use Rattle.cw_code.specs.Strands.{Waits, Halted, cost_of}
 use Rattle.cw_code.specs.Promises.{IsStrandOf}
-use Rattle.cw_code.specs.Steps.{CallsKeep, give, given_to}
+use Rattle.cw_code.specs.Steps.{CallsPreserveJob, give, given_to}
 use Rattle.cw_runnable.specs.declared.verified.Verified.{Verified}
 use Rattle.cw_jobs.specs.declared.call.Parts.{Parts}
 use Rattle.cw_jobs.specs.declared.effect.Effect.{Effect}
@@ -101,7 +101,7 @@ module _ (v : Verified) (is : IsFit v) (q : Parts) (j : jobs.Job) where
   never_ends value shown e m = ended_told value shown m.effect e m.tells
 
 -- giving an effect, in the definitions
-module _ (code : Code) (keep : CallsKeep code) (j out : jobs.Job) (s : State) (count : ℕ) (outs : List jobs.Job) (is : IsStrandOf code j (Waits s count (out ∷ outs))) where
+module _ (code : Code) (keep : CallsPreserveJob code) (j out : jobs.Job) (s : State) (count : ℕ) (outs : List jobs.Job) (is : IsStrandOf code j (Waits s count (out ∷ outs))) where
   gave : (d : jobs.Effect) → JobMeaning code out d → IsStrandOf code j (give j (Waits s count (out ∷ outs)) d)
   gave d m = (keep.giving j (Waits s count (out ∷ outs)) out outs d is refl m).0
 

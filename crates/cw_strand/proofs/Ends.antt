@@ -12,7 +12,7 @@ use Rattle.cw_code.specs.Jobs.{Memory, Short}
 use Rattle.cw_code.specs.Strands as strands
 use Rattle.cw_code.specs.Strands.{Going, Waits, Halted}
 use Rattle.cw_code.specs.Promises.{IsStrandOf}
-use Rattle.cw_code.specs.Steps.{CallsKeep}
+use Rattle.cw_code.specs.Steps.{CallsPreserveJob}
 use Rattle.cw_slices.specs.Placed.{Placed}
 use Rattle.cw_slices.specs.lemmas.Rights.{whole_prop}
 use Rattle.cw_runnable.specs.declared.verified.Verified.{Verified}
@@ -139,7 +139,7 @@ may_up m n h = record {
       (λ k e. ∥∥₁_elim h ⊥_prop (λ x. (x.all_here a lt).0 k e), ∥∥₁_elim h (whole_prop (block m.blocks.items a)) (λ x. (x.all_here a lt).1));
 }
 
-module _ (keep : (code : Code) → CallsKeep code) (kept : RestsAreKept) (self : Strand) (running : IsRunning self) (none : outs self ≡ []) where
+module _ (keep : (code : Code) → CallsPreserveJob code) (kept : RestsAreKept) (self : Strand) (running : IsRunning self) (none : outs self ≡ []) where
   abbrev n : ℕ
   n = length self.parts.value.rest.slices.items
 

@@ -10,7 +10,7 @@ use Rattle.cw_code.specs.Jobs as jobs
 use Rattle.cw_code.specs.Over.{under}
 use Rattle.cw_code.specs.Strands.{Halted, outs_of, rest_of}
 use Rattle.cw_code.specs.Promises.{IsStrandOf}
-use Rattle.cw_code.specs.Steps.{CallsKeep}
+use Rattle.cw_code.specs.Steps.{CallsPreserveJob}
 use Rattle.cw_runnable.specs.declared.verified.Verified.{Verified}
 use Rattle.cw_jobs.specs.declared.call.Parts.{Parts}
 use Rattle.cw_jobs.specs.declared.effect.Effect.{Effect}
@@ -48,7 +48,7 @@ module _ (self : Strand) (job : Job) (others : List Job) (newest : Newest self j
   q = lent_parts newest.lent
 
   -- MEMORY RAN OUT
-  pub lost_runs : ((code : Code) → CallsKeep code) → (new : Strand) → HasLost self new → IsRunning new
+  pub lost_runs : ((code : Code) → CallsPreserveJob code) → (new : Strand) → HasLost self new → IsRunning new
   lost_runs keep new lost = goes_so self job others newest running new (lost.left newest.lent newest.rest newest.are) (subst (λ n. p.before + n ≤ p.limit) (sym lost.count) running.keeps.within)
       (λ is j d. ∣ record {
         ground = d.ground;
@@ -115,7 +115,7 @@ module _ (self : Strand) (job : Job) (others : List Job) (newest : Newest self j
         known = subst (λ m. is_lost m ≡ false) (sym waiting) refl
 
         -- the strand stops because of its limit
-        module _ (keep : (code : Code) → CallsKeep code) (new : Strand) (home : HasReturnedNewest self back replaced (record new { mode = self.mode })) where
+        module _ (keep : (code : Code) → CallsPreserveJob code) (new : Strand) (home : HasReturnedNewest self back replaced (record new { mode = self.mode })) where
           left : reverse new.lent.items ≡ newest.rest
           left = home.left newest.lent newest.rest newest.are
 

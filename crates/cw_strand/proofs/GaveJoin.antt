@@ -12,7 +12,7 @@ use Rattle.cw_code.specs.Fits.{Fits, slots_lent}
 use Rattle.cw_code.specs.Run.{State}
 use Rattle.cw_code.specs.Good.{FitSettles}
 use Rattle.cw_code.specs.Staying.{SeatsLie}
-use Rattle.cw_jobs.specs.Strands.{CallsKeepMeters, CountsEffect, TracksAll, site_at, MeansMeasured}
+use Rattle.cw_jobs.specs.Strands.{CallsPreserveMeters, CountsEffect, TracksAll, site_at, MeansMeasured}
 use Rattle.cw_meter.specs.declared.detail.Detail.{Detail}
 use Rattle.cw_greedy.specs.declared.recorder.Recorder.{Recorder}
 use Rattle.cw_greedy.specs.Recording.{RecordsIn}
@@ -26,7 +26,7 @@ use Rattle.cw_code.specs.Jobs.{JoinFrame, JobMeaning}
 use Rattle.cw_code.specs.Over.{under}
 use Rattle.cw_code.specs.Strands.{Going, Waits, resumed}
 use Rattle.cw_code.specs.RestsStay.{RestsStayInside}
-use Rattle.cw_code.specs.Steps.{CallsKeep}
+use Rattle.cw_code.specs.Steps.{CallsPreserveJob}
 use Rattle.cw_runnable.specs.declared.verified.Verified.{Verified}
 use Rattle.cw_jobs.specs.declared.call.Parts.{Parts}
 use Rattle.cw_jobs.specs.declared.call.Rest.{Rest}
@@ -36,7 +36,7 @@ use Rattle.cw_jobs.specs.declared.effect.PieceOutput.{PieceOutput}
 use Rattle.cw_jobs.specs.declared.job.Job.{Job}
 use Rattle.cw_jobs.specs.Jobs.{origin_of, KeepsHomes, KeepsEmpty, KeepsFixed}
 use Rattle.cw_jobs.specs.Calls.{HoldsFrame}
-use Rattle.cw_jobs.specs.Means.{HasShown, Tracks, Counts, MeansIt, IsMeaningOf}
+use Rattle.cw_jobs.specs.Means.{HasOutput, Tracks, Counts, MeansIt, IsMeaningOf}
 use Rattle.cw_machine.specs.declared.run.Run.{Run}
 use Rattle.cw_machine.specs.Arrays.{IsFit}
 use Rattle.cw_machine.specs.Calls.{loans_of}
@@ -94,7 +94,7 @@ record Came (v : Verified) (is : IsFit v) (q : Parts) (j : jobs.Job) (back : Res
   pub means : JobMeaning (code_view v.code) j (jobs.Joined frame trace cost)
   pub holds : HoldsFrame back frame
   pub empty : KeepsEmpty j q.rest back replaced
-  pub shown_is : HasShown (code_view v.code) shown trace cost
+  pub shown_is : HasOutput (code_view v.code) shown trace cost
   pub counts : CountsEffect (code_view v.code) q.detail q.site (jobs.Joined frame trace cost) shown.meter
   pub homes : KeepsHomes q.rest.slices.items back.slices.items replaced
   pub fixed : KeepsFixed v is j.place replaced
@@ -162,7 +162,7 @@ module _ (self : Strand) (job : Job) (others : List Job) (newest : Newest self j
     may = record { code = v; ok = ok_with g sp.others; out = sp.out; state = under g.base h.state; frame = came.frame; waits = waits_under g.base h.state; gives = gives_it }
 
     -- the strand continues at the join
-    module _ (keep : (code : Code) → CallsKeep code) (meters : CallsKeepMeters) (r : Run) (joined : HasJoined self.run v self.count back replaced newest.lent.home shown r)
+    module _ (keep : (code : Code) → CallsPreserveJob code) (meters : CallsPreserveMeters) (r : Run) (joined : HasJoined self.run v self.count back replaced newest.lent.home shown r)
         (le : p.before + (self.count + shown.cost) ≤ p.limit) (new : Strand) (left : reverse new.lent.items ≡ newest.rest) (run_is : new.run ≡ r)
         (count_is : new.count ≡ self.count + shown.cost) (going : new.mode ≡ mode.Going) where
       abbrev rs : List jobs.Job
@@ -242,7 +242,7 @@ module _ (self : Strand) (job : Job) (others : List Job) (newest : Newest self j
       ∥∥₁_map (meant_in self job others newest running e means s.ok (out self job others newest s.ok s.job d.ground h)
       (out_is self job others newest s.ok s.job d.ground h)) (λ m. may s.ok s.job d.ground h m)))
 
-  pub join_runs : ((code : Code) → CallsKeep code) → CallsKeepMeters → (r : Run) → HasJoined self.run v self.count back replaced newest.lent.home shown r → passes_limit self shown.cost ≡ false
+  pub join_runs : ((code : Code) → CallsPreserveJob code) → CallsPreserveMeters → (r : Run) → HasJoined self.run v self.count back replaced newest.lent.home shown r → passes_limit self shown.cost ≡ false
       → (new : Strand) → reverse new.lent.items ≡ newest.rest → new.run ≡ r → new.count ≡ self.count + shown.cost → new.mode ≡ mode.Going
       → new.of ≡ self.of → new.parts ≡ self.parts → new.spares ≡ self.spares → IsRunning new
   join_runs keep meters r joined passes new left run_is count_is going of parts spares =

@@ -9,7 +9,7 @@ use Rattle.cw_code.specs.Code.{Code, code_view}
 use Rattle.cw_code.specs.Jobs as jobs
 use Rattle.cw_code.specs.Jobs.{JobMeaning}
 use Rattle.cw_code.specs.Strands.{Halted}
-use Rattle.cw_code.specs.Steps.{CallsKeep}
+use Rattle.cw_code.specs.Steps.{CallsPreserveJob}
 use Rattle.cw_runnable.specs.declared.verified.Verified.{Verified}
 use Rattle.cw_jobs.specs.declared.call.Parts.{Parts}
 use Rattle.cw_jobs.specs.declared.effect.Effect.{Effect}
@@ -96,7 +96,7 @@ module _ (self : Strand) (job : Job) (others : List Job) (newest : Newest self j
         });
       })
 
-  module _ (keep : (code : Code) → CallsKeep code) (new popped : Strand) (home : HasReturnedNewest mid back [] popped) (passes : passes_limit self cost ≡ false)
+  module _ (keep : (code : Code) → CallsPreserveJob code) (new popped : Strand) (home : HasReturnedNewest mid back [] popped) (passes : passes_limit self cost ≡ false)
       (new_is : new ≡ record popped { count = self.count + cost; mode = mode.Trapped trap line }) where
     n_lent : new.lent ≡ popped.lent
     n_lent = ap (λ (z : Strand). z.lent) new_is

@@ -9,7 +9,7 @@ use Rattle.cw_code.specs.Jobs.{has_come}
 use Rattle.cw_code.specs.Over.{beneath, under}
 use Rattle.cw_code.specs.Strands as strands
 use Rattle.cw_code.specs.Strands.{Going, Waits, Halted, ComesBack, outs_of}
-use Rattle.cw_code.specs.Steps.{CallsKeep}
+use Rattle.cw_code.specs.Steps.{CallsPreserveJob}
 use Rattle.cw_runnable.specs.declared.verified.Verified.{Verified}
 use Rattle.cw_jobs.specs.declared.call.Parts.{Parts}
 use Rattle.cw_jobs.specs.Jobs.{extent_of, code_of}
@@ -46,7 +46,7 @@ keeps_as self m h = record {
   range = h.range;
 }
 
-module _ (keep : (code : Code) → CallsKeep code) (self : Strand) (limit : ℕ) where
+module _ (keep : (code : Code) → CallsPreserveJob code) (self : Strand) (limit : ℕ) where
   abbrev v : Verified
   v = its_code self
 
@@ -179,7 +179,7 @@ module _ (keep : (code : Code) → CallsKeep code) (self : Strand) (limit : ℕ)
   }
 
 -- memory ran out, whatever the strand did before
-pub fails : ((code : Code) → CallsKeep code) → (self : Strand) → IsRunning self → IsRunning (record self { mode = mode.Memory })
+pub fails : ((code : Code) → CallsPreserveJob code) → (self : Strand) → IsRunning self → IsRunning (record self { mode = mode.Memory })
 fails keep self h = record {
   keeps = keeps_as self mode.Memory h.keeps;
   spares = h.spares;
@@ -227,7 +227,7 @@ stays_up mode.Memory g w = refl
 stays_up mode.GivenUp g w = refl
 
 -- the strand is given up
-pub gives_up : ((code : Code) → CallsKeep code) → ShownRemain → (self : Strand) → stops self.mode ≡ false → IsRunning self → IsRunning (record self { mode = mode.GivenUp })
+pub gives_up : ((code : Code) → CallsPreserveJob code) → ShownRemain → (self : Strand) → stops self.mode ≡ false → IsRunning self → IsRunning (record self { mode = mode.GivenUp })
 gives_up keep remain self goes h = record {
   keeps = keeps_as self mode.GivenUp h.keeps;
   spares = h.spares;
@@ -241,7 +241,7 @@ gives_up keep remain self goes h = record {
 }
 
 -- a strand in which memory ran out, and of which only the spares changed, is a strand of its job
-pub spared_runs : ((code : Code) → CallsKeep code) → (old new : Strand) (limit : ℕ) (to : Stop) → HasCome old limit to → HasSpared old new → IsRunning (record new { mode = mode.Memory })
+pub spared_runs : ((code : Code) → CallsPreserveJob code) → (old new : Strand) (limit : ℕ) (to : Stop) → HasCome old limit to → HasSpared old new → IsRunning (record new { mode = mode.Memory })
 spared_runs keep old new limit to h same = subst IsRunning
     (same_strand (record old { lent = new.lent; spares = new.spares; mode = mode.Memory }) (record new { mode = mode.Memory }) same.of same.parts same.run same.count refl refl refl)
     (record {

@@ -13,7 +13,7 @@ use Rattle.cw_code.specs.Jobs as jobs
 use Rattle.cw_code.specs.Jobs.{has_come}
 use Rattle.cw_code.specs.Over.{beneath, under}
 use Rattle.cw_code.specs.Strands.{Going, HandsOut, rest_of, spawn_job}
-use Rattle.cw_code.specs.Steps.{CallsKeep}
+use Rattle.cw_code.specs.Steps.{CallsPreserveJob}
 use Rattle.cw_runnable.specs.declared.verified.Verified.{Verified}
 use Rattle.cw_jobs.specs.declared.call.Parts.{Parts}
 use Rattle.cw_jobs.specs.Jobs.{origin_of}
@@ -41,7 +41,7 @@ use Rattle.cw_strand.proofs.Same.{spare_as}
 use Rattle.cw_strand.proofs.Cutting.{over_slots, over_arrays, spawned, handed, rest_job, below}
 
 -- the strand after the job was added to the jobs that are out
-module _ (keep : (code : Code) → CallsKeep code) (apart : OutsLieApart) (old mid : Strand) (limit : ℕ) (spawn : Spawn) (x : Lent)
+module _ (keep : (code : Code) → CallsPreserveJob code) (apart : OutsLieApart) (old mid : Strand) (limit : ℕ) (spawn : Spawn) (x : Lent)
     (cut : HasCut old mid spawn (lent_parts x) x.home.lender) (loaned : x.home.lent ≡ spawn.lent) (target : x.home.target ≡ spawn.target)
     (waits : x.home.floor ≡ length old.run.machine.frames.items) (after : List Lent) (are : after ≡ x ∷ reverse old.lent.items) where
   module _ (is : IsFit (its_code old)) (j : jobs.Job) (job : KeepsJob old) (c : CameTo old limit (stop.Spawned spawn) is j) where
@@ -186,7 +186,7 @@ module _ (keep : (code : Code) → CallsKeep code) (apart : OutsLieApart) (old m
         ∙ ap (λ z. record old { of = new.of; parts = new.parts; run = new.run; count = new.count; lent = new.lent; spares = new.spares; mode = z }) (sym m)) goes_on
 
 -- the step of the strand out of which the job was handed
-pub lent_step : ((code : Code) → CallsKeep code) → OutsLieApart → (old mid new : Strand) (limit : ℕ) (spawn : Spawn) (job : Job) (l : Lender)
+pub lent_step : ((code : Code) → CallsPreserveJob code) → OutsLieApart → (old mid new : Strand) (limit : ℕ) (spawn : Spawn) (job : Job) (l : Lender)
     (x : Lent) → HasCome old limit (stop.Spawned spawn) → HasCut old mid spawn job.parts.value l
     → x.job.value ≡ job → x.home.lender ≡ l → x.home.lent ≡ spawn.lent → x.home.target ≡ spawn.target
     → x.home.floor ≡ length mid.run.machine.frames.items → new.of ≡ mid.of → new.parts ≡ mid.parts → new.run ≡ mid.run → new.count ≡ mid.count

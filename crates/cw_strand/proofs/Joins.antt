@@ -13,14 +13,14 @@ use Rattle.cw_code.specs.lemmas.Lying.{outermost_is}
 use Rattle.cw_meter.specs.Meters.{Meters, TracksAsBefore}
 use Rattle.cw_meter.specs.Origins.{Main, Rest}
 use Rattle.cw_jobs.specs.Opens.{whole}
-use Rattle.cw_jobs.specs.Strands.{CallsKeepMeters, TracksAll}
+use Rattle.cw_jobs.specs.Strands.{CallsPreserveMeters, TracksAll}
 use Rattle.cw_code.specs.Jobs as jobs
 use Rattle.cw_code.specs.Jobs.{ToJoin, has_come, standing, JobMeaning}
 use Rattle.cw_code.specs.Over.{under}
 use Rattle.cw_code.specs.Strands.{Going}
 use Rattle.cw_code.specs.Promises.{IsStrandOf}
 use Rattle.cw_code.specs.RestsStay.{RestsStayInside}
-use Rattle.cw_code.specs.Steps.{CallsKeep}
+use Rattle.cw_code.specs.Steps.{CallsPreserveJob}
 use Rattle.cw_runnable.specs.declared.verified.Verified.{Verified}
 use Rattle.cw_jobs.specs.declared.call.Extent.{Extent}
 use Rattle.cw_jobs.specs.declared.call.Extent.TheVariants as extent
@@ -30,7 +30,7 @@ use Rattle.cw_jobs.specs.declared.effect.Effect.TheVariants as effect
 use Rattle.cw_jobs.specs.declared.effect.PieceOutput.{PieceOutput}
 use Rattle.cw_jobs.specs.Totals.{HoldsTotals}
 use Rattle.cw_jobs.specs.Jobs.{extent_of, begins_at}
-use Rattle.cw_jobs.specs.Means.{HasShown, MeansIt, IsMeaningOf}
+use Rattle.cw_jobs.specs.Means.{HasOutput, MeansIt, IsMeaningOf}
 use Rattle.cw_machine.specs.declared.run.Run.{Run}
 use Rattle.cw_machine.specs.declared.run.Stop.TheVariants as stop
 use Rattle.cw_machine.specs.Arrays.{IsFit}
@@ -40,15 +40,15 @@ use Rattle.cw_strand.specs.declared.strand.Lent.{Lent}
 use Rattle.cw_strand.specs.declared.strand.Strand.{Strand}
 use Rattle.cw_strand.specs.Levels.{Level, levels_of}
 use Rattle.cw_strand.specs.Holds.{its_job, its_parts, its_code, outs, ok_with, Lends, AreOut}
-use Rattle.cw_strand.specs.Moves.{CameTo, HasCome, IsShown}
+use Rattle.cw_strand.specs.Moves.{CameTo, HasCome, IsOutput}
 use Rattle.cw_strand.proofs.Levels.{ends_alone}
 use Rattle.cw_strand.proofs.Course.{ended, arrived, come_alone, come_joins}
 use Rattle.cw_strand.proofs.Ends.{is_nil, no_lent}
 use Rattle.cw_strand.proofs.RunsOn.{sound_of}
 
-shown_as : (code : Code) (r : Run) (cost count : ℕ) (x : PieceOutput) (t : Trace) → IsShown r cost x → cost ≡ count → r.machine.lines.items ≡ t.lines
-    → HoldsTotals code r.machine.totals.items t.updates → HasShown code x t count
-shown_as code r cost count x t is e lines totals = record {
+output_as : (code : Code) (r : Run) (cost count : ℕ) (x : PieceOutput) (t : Trace) → IsOutput r cost x → cost ≡ count → r.machine.lines.items ≡ t.lines
+    → HoldsTotals code r.machine.totals.items t.updates → HasOutput code x t count
+output_as code r cost count x t is e lines totals = record {
   cost = is.counted ∙ e;
   lines = ap (λ l. l.items) is.lines ∙ lines;
   totals = subst (λ l. HoldsTotals code l t.updates) (sym (ap (λ l. l.items) is.totals)) totals;
@@ -66,7 +66,7 @@ module _ (self : Strand) (p : Parts) (around : List Around) (jobs_out : List job
       never : [] ≡ h ∷ more → ⊥
       never q = cc
 
-module _ (keep : (code : Code) → CallsKeep code) (self : Strand) (limit : ℕ) where
+module _ (keep : (code : Code) → CallsPreserveJob code) (self : Strand) (limit : ℕ) where
   abbrev v : Verified
   v = its_code self
 
@@ -87,7 +87,7 @@ module _ (keep : (code : Code) → CallsKeep code) (self : Strand) (limit : ℕ)
         none_lent self p c.state.around c.jobs_out c.levels c.are (ends_alone code c.state x at.arrays at.trace at.steps) l more e))))
 
     abbrev pub TellsEnd : Effect → Type 0
-    TellsEnd (effect.Ended value shown) = (value ≡ x) × IsShown self.run self.count shown
+    TellsEnd (effect.Ended value shown) = (value ≡ x) × IsOutput self.run self.count shown
     TellsEnd _ = ⊥
 
     end_it : (e : Effect) → TellsEnd e → (is : IsFit (its_code self)) (j : jobs.Job) → CameTo self limit (stop.Gave x) is j → MeansIt (its_code self) is (its_parts self) e j
@@ -108,7 +108,7 @@ module _ (keep : (code : Code) → CallsKeep code) (self : Strand) (limit : ℕ)
           effect = jobs.Ended x at.arrays at.trace (c.later + 1);
           means = ended code (keep code) j c.state c.later x at.arrays at.trace
               (subst (λ y. has_come y code c.state ≡ false) (sym c.ground.job.extent) at.before) at.steps (omega (arith, e0, w, jl, jb)) is_of;
-          tells = (c.ground.job.extent ∙ at.is_whole, t.0, shown_as code self.run self.count (c.later + 1) shown at.trace t.1 c.at.0 at.lines at.totals);
+          tells = (c.ground.job.extent ∙ at.is_whole, t.0, output_as code self.run self.count (c.later + 1) shown at.trace t.1 c.at.0 at.lines at.totals);
           counts = λ g b.
               subst (λ m. Meters g.detail g.tags Main (c.later + 1) [] (whole at.trace) m) (sym t.1.meter)
               (subst (λ n. Meters g.detail g.tags Main n [] (whole at.trace) self.run.meter) c.at.0 (at.tells g b));
@@ -205,11 +205,11 @@ module _ (keep : (code : Code) → CallsKeep code) (self : Strand) (limit : ℕ)
     join_none = ap (map (λ l. l.job.value)) (is_nil lent (λ l more e. ∥∥₁_elim (sound_of self) ⊥_prop (λ s. ∥∥₁_elim (h.comes s.ok s.job s.is) ⊥_prop (λ c.
         none_lent self p c.state.around c.jobs_out c.levels c.are (alone stay seats s.ok s.job c) l more e))))
 
-    module _ (meters : CallsKeepMeters) where
+    module _ (meters : CallsPreserveMeters) where
       -- an effect holds the frame and the arrays with which the machine ended
       abbrev pub TellsJoin : Run → Effect → Type 0
       TellsJoin r (effect.Joined frame replaced shown) =
-          EndsJob v self.run.machine (length (its_parts self).rest.slices.items) frame replaced.items × IsShown r self.count shown
+          EndsJob v self.run.machine (length (its_parts self).rest.slices.items) frame replaced.items × IsOutput r self.count shown
       TellsJoin r _ = ⊥
 
       join_it : (r : Run) → TracksAsBefore self.run.meter r.meter → r.machine.lines.items ≡ self.run.machine.lines.items
@@ -234,7 +234,7 @@ module _ (keep : (code : Code) → CallsKeep code) (self : Strand) (limit : ℕ)
             tells = (
               ends.holds,
               ends.empty,
-              shown_as code r self.count c.later shown c.state.trace t.1 c.at.0 (l ∙ at.lines)
+              output_as code r self.count c.later shown c.state.trace t.1 c.at.0 (l ∙ at.lines)
                   (subst (λ z. HoldsTotals code z c.state.trace.updates) (sym u) at.totals),
             );
             counts = λ g b.

@@ -7,7 +7,7 @@ use Rattle.cw_code.specs.Jobs as jobs
 use Rattle.cw_code.specs.Over.{under}
 use Rattle.cw_code.specs.Strands.{Going}
 use Rattle.cw_code.specs.Promises.{IsStrandOf}
-use Rattle.cw_code.specs.Steps.{CallsKeep}
+use Rattle.cw_code.specs.Steps.{CallsPreserveJob}
 use Rattle.cw_runnable.specs.declared.verified.Verified.{Verified}
 use Rattle.cw_machine.specs.declared.run.Run.{Run}
 use Rattle.cw_machine.specs.declared.run.Stop.{Stop}
@@ -61,7 +61,7 @@ done_later v ok k floor stops limit stop.Over done r later s h = let e = h.0 in 
 done_later v ok k floor stops limit stop.NoMemory done r later s h = omega (arith, h)
 
 -- the run of a strand continued up to a stop
-module _ (keep : (code : Code) → CallsKeep code) (self : Strand) (is : IsFit (its_code self)) (j : jobs.Job)
+module _ (keep : (code : Code) → CallsPreserveJob code) (self : Strand) (is : IsFit (its_code self)) (j : jobs.Job)
     (g : Ground (its_code self) is (its_parts self) j) (r : Run) (done limit : ℕ) (stops : Bool) (to : Stop) where
   abbrev after : Strand
   after = record self { run = r; count = done }

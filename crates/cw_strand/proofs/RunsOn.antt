@@ -12,7 +12,7 @@ use Rattle.cw_code.specs.Jobs.{has_come}
 use Rattle.cw_code.specs.Strands as strands
 use Rattle.cw_code.specs.Strands.{Going, Waits, Halted}
 use Rattle.cw_code.specs.Promises.{IsStrandOf}
-use Rattle.cw_code.specs.Steps.{CallsKeep}
+use Rattle.cw_code.specs.Steps.{CallsPreserveJob}
 use Rattle.cw_jobs.specs.declared.call.Extent.TheVariants as extent
 use Rattle.cw_jobs.specs.Jobs.{extent_of, IsSound}
 use Rattle.cw_machine.specs.declared.run.Run.{Run}
@@ -74,7 +74,7 @@ run_way self h e = ∥∥₁_elim (sound_of self) (hlevel) (λ s. ∥∥₁_map 
     under_way self s.ok s.job d.ground at.state at.count at.out at.held))
 
 -- the run reaches a stop
-pub run_came : ((code : Code) → CallsKeep code) → (self : Strand) (r : Run) (done limit : ℕ) (stops : Bool) (to : Stop) → IsRunning self
+pub run_came : ((code : Code) → CallsPreserveJob code) → (self : Strand) (r : Run) (done limit : ℕ) (stops : Bool) (to : Stop) → IsRunning self
     → self.mode ≡ mode.Going → GoesOn (its_code self) self.run self.count limit (floor_of self) stops to done r → done ≤ limit
     → limit ≤ (its_parts self).limit - (its_parts self).before
     → HasCome (record self { run = r; count = done }) limit to
@@ -117,7 +117,7 @@ waiting_some self h e none = ∥∥₁_elim (sound_of self) ⊥_prop (λ s. ∥�
     let at = waiting_of self s.ok s.job e d in
     waits_some self s.ok s.job d.ground at.state at.count at.out at.waited none))
 
-pub back_some : ((code : Code) → CallsKeep code) → (self : Strand) (limit : ℕ) → HasCome self limit stop.CameBack → outs self ≢ []
+pub back_some : ((code : Code) → CallsPreserveJob code) → (self : Strand) (limit : ℕ) → HasCome self limit stop.CameBack → outs self ≢ []
 back_some keep self limit h none = ∥∥₁_elim (sound_of self) ⊥_prop (λ s. ∥∥₁_elim (h.comes s.ok s.job s.is) ⊥_prop (λ c.
     let d : Holds (record self { mode = mode.Waiting }) s.ok s.job = came_back keep self limit s.ok s.job h.keeps c in
     let at = waiting_of (record self { mode = mode.Waiting }) s.ok s.job refl d in

@@ -11,8 +11,8 @@ use Rattle.cw_code.specs.Jobs as jobs
 use Rattle.cw_code.specs.Jobs.{job_start}
 use Rattle.cw_code.specs.Over.{under}
 use Rattle.cw_code.specs.Strands.{Going}
-use Rattle.cw_code.specs.Steps.{CallsKeep}
-use Rattle.cw_jobs.specs.Strands.{CallsKeepMeters, StartsFrom, TracksAll}
+use Rattle.cw_code.specs.Steps.{CallsPreserveJob}
+use Rattle.cw_jobs.specs.Strands.{CallsPreserveMeters, StartsFrom, TracksAll}
 use Rattle.cw_runnable.specs.declared.verified.Verified.{Verified}
 use Rattle.cw_jobs.specs.declared.call.Extent.{Extent}
 use Rattle.cw_jobs.specs.declared.call.Extent.TheVariants as extent
@@ -84,7 +84,7 @@ grounded v is p j m job light h reads = at p.extent refl
         differ : extent.WholeCall ≡ extent.ToJoin → ⊥
         differ k = cc
 
-module _ (self : Strand) (keep : (code : Code) → CallsKeep code) (meters : CallsKeepMeters) (is : IsFit (its_code self)) (j : jobs.Job) (job : IsJob (its_code self) is (its_parts self) j) where
+module _ (self : Strand) (keep : (code : Code) → CallsPreserveJob code) (meters : CallsPreserveMeters) (is : IsFit (its_code self)) (j : jobs.Job) (job : IsJob (its_code self) is (its_parts self) j) where
   abbrev v : Verified
   v = its_code self
 
@@ -118,7 +118,7 @@ module _ (self : Strand) (keep : (code : Code) → CallsKeep code) (meters : Cal
       }
 
 -- a strand that holds nothing else
-pub begins : ((code : Code) → CallsKeep code) → CallsKeepMeters → (job : Job) (p' : Parts) (self : Strand) → self.of.value ≡ job
+pub begins : ((code : Code) → CallsPreserveJob code) → CallsPreserveMeters → (job : Job) (p' : Parts) (self : Strand) → self.of.value ≡ job
     → self.parts.value ≡ p' → self.lent.items ≡ [] → self.spares.items ≡ [] → self.count ≡ 0 → self.mode ≡ mode.Going
     → BeginsRun job.parts.value p' self.run → Begins job self
 begins keep meters job p' self of parts none bare zero going b = record {

@@ -11,7 +11,7 @@ use Rattle.cw_model.specs.declared.syntax.Reduction.{Reduction}
 use Rattle.cw_model.specs.declared.syntax.Reduction.TheVariants.{Sum, Max}
 use Rattle.cw_model.specs.declared.total.Total.{Total}
 use Rattle.cw_model.specs.declared.total.Total.TheVariants as total
-use Rattle.cw_model.specs.Answers.{greatest_to, or_greater, sum_to, total_to}
+use Rattle.cw_model.specs.Answers.{maximum_to, or_max, sum_to, total_to}
 use Rattle.cw_model.specs.Outcome.{Trace, quiet, joined}
 use Rattle.cw_code.specs.Code.{Code, code_view}
 use Rattle.cw_code.specs.Run.{Around, State}
@@ -38,25 +38,25 @@ wrap_both : (a b : ℤ) → wrapped (wrapped a +ℤ wrapped b) ≡ wrapped (a +�
 wrap_both a b =
     int_wrap-add_left w128 a (wrapped b) ∙ ap wrapped (+ℤ_comm a (wrapped b)) ∙ int_wrap-add_left w128 b a ∙ ap wrapped (+ℤ_comm b a)
 
-greater_after : (v : ℤ) (x y : Option ℤ) → greater (Some (or_greater v x)) y ≡ Some (or_greater v (greater x y))
-greater_after v None y = refl
-greater_after v (Some w) None = refl
-greater_after v (Some w) (Some u) = ap (λ z. Some z) (max_regroup v w u)
+max_after : (v : ℤ) (x y : Option ℤ) → greater (Some (or_max v x)) y ≡ Some (or_max v (greater x y))
+max_after v None y = refl
+max_after v (Some w) None = refl
+max_after v (Some w) (Some u) = ap (λ z. Some z) (max_regroup v w u)
 
-greatest_append : (name : Name) (a b : List (Name × ℤ)) → greatest_to name (a ++ b) ≡ greater (greatest_to name a) (greatest_to name b)
-greatest_append name [] b = refl
-greatest_append name (x ∷ a) b = at (same_name name x.0) (greatest_append name a b)
+maximum_append : (name : Name) (a b : List (Name × ℤ)) → maximum_to name (a ++ b) ≡ greater (maximum_to name a) (maximum_to name b)
+maximum_append name [] b = refl
+maximum_append name (x ∷ a) b = at (same_name name x.0) (maximum_append name a b)
   where
-    at : (c : Bool) → greatest_to name (a ++ b) ≡ greater (greatest_to name a) (greatest_to name b)
-        → (if c then Some (or_greater x.1 (greatest_to name (a ++ b))) else greatest_to name (a ++ b))
-        ≡ greater (if c then Some (or_greater x.1 (greatest_to name a)) else greatest_to name a) (greatest_to name b)
-    at true h = ap (λ z. Some (or_greater x.1 z)) h ∙ sym (greater_after x.1 (greatest_to name a) (greatest_to name b))
+    at : (c : Bool) → maximum_to name (a ++ b) ≡ greater (maximum_to name a) (maximum_to name b)
+        → (if c then Some (or_max x.1 (maximum_to name (a ++ b))) else maximum_to name (a ++ b))
+        ≡ greater (if c then Some (or_max x.1 (maximum_to name a)) else maximum_to name a) (maximum_to name b)
+    at true h = ap (λ z. Some (or_max x.1 z)) h ∙ sym (max_after x.1 (maximum_to name a) (maximum_to name b))
     at false h = h
 
 -- the total of a reducer over two pieces
 total_append : (how : Reduction) (name : Name) (a b : List (Name × ℤ)) → joined_total (kept (total_to how name a)) (kept (total_to how name b)) ≡ kept (total_to how name (a ++ b))
 total_append Sum name a b = ap (λ z. total.Sum z) (wrap_both (sum_to name a) (sum_to name b) ∙ ap wrapped (sym (sum_append name a b)))
-total_append Max name a b = ap (λ z. total.Max z) (sym (greatest_append name a b))
+total_append Max name a b = ap (λ z. total.Max z) (sym (maximum_append name a b))
 
 totals_both : (code : Code) (old more new : List Total) (a b : List (Name × ℤ)) → AreJoined old more new → HoldsTotals code old a → HoldsTotals code more b → HoldsTotals code new (a ++ b)
 totals_both code old more new a b joined h k = record {

@@ -9,7 +9,7 @@ use Rattle.cw_code.specs.Jobs as jobs
 use Rattle.cw_code.specs.Over.{beneath, under}
 use Rattle.cw_code.specs.Strands.{Going, Waits}
 use Rattle.cw_code.specs.Promises.{IsStrandOf}
-use Rattle.cw_code.specs.Steps.{CallsKeep}
+use Rattle.cw_code.specs.Steps.{CallsPreserveJob}
 use Rattle.cw_runnable.specs.declared.verified.Verified.{Verified}
 use Rattle.cw_jobs.specs.declared.call.Parts.{Parts}
 use Rattle.cw_jobs.specs.declared.job.Job.{Job}
@@ -84,7 +84,7 @@ module _ (self : Strand) (job : Job) (others : List Job) (newest : Newest self j
     pub may : MayTake self.run.machine newest.lent.home.lender.slots (slots_lent (loans_of (its_code self) newest.lent.home.lent)) job.parts.value.rest.slices.items
     may = record { code = v; ok = ok_with g split.others; out = split.out; state = under g.base s; lends = lends_it }
 
-    module _ (keep : (code : Code) → CallsKeep code) (m : Machine) (takes : TakesBack self.run.machine newest.lent.home.lender.slots
+    module _ (keep : (code : Code) → CallsPreserveJob code) (m : Machine) (takes : TakesBack self.run.machine newest.lent.home.lender.slots
         (slots_lent (loans_of (its_code self) newest.lent.home.lent)) job.parts.value.rest.slices.items m) (new : Strand)
         (left : reverse new.lent.items ≡ newest.rest) where
       abbrev goes_with : Strand
@@ -122,7 +122,7 @@ module _ (self : Strand) (job : Job) (others : List Job) (newest : Newest self j
   may_take running waits = ∥∥₁_elim (sound_of self) (hlevel) (λ s. ∥∥₁_map (running.holds s.ok s.job s.is) (λ d.
       may s.ok s.job d.ground (waiting_of self s.ok s.job waits d)))
 
-  module _ (keep : (code : Code) → CallsKeep code) (running : IsRunning self) (waits : IsWaiting self) (m : Machine)
+  module _ (keep : (code : Code) → CallsPreserveJob code) (running : IsRunning self) (waits : IsWaiting self) (m : Machine)
       (takes : TakesBack self.run.machine newest.lent.home.lender.slots
       (slots_lent (loans_of (its_code self) newest.lent.home.lent)) job.parts.value.rest.slices.items m) (new : Strand)
       (left : reverse new.lent.items ≡ newest.rest) where

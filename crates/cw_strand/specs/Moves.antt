@@ -239,7 +239,7 @@ LeadsTo (advance.Came (step.Ended e)) old new = KeptBy (step.Ended e) old new ×
 LeadsTo _ old new = ⊥
 
 -- what a run has shown and counted
-pub record IsShown (r : Run) (cost : ℕ) (shown : PieceOutput) : Type 0 where
+pub record IsOutput (r : Run) (cost : ℕ) (shown : PieceOutput) : Type 0 where
   pub lines : shown.lines ≡ r.machine.lines
   pub totals : shown.totals ≡ r.machine.totals
   pub meter : shown.meter ≡ r.meter

@@ -7,7 +7,7 @@ ghost use Rattle.cw_strand.specs.Losing.{Leaves, LeavesBy};
 ghost use Rattle.cw_strand.specs.Moves.{AdvancesBy, CountsBy, DoesOne, EndsAt, IsBefore, IsUnended, KeptBy, LeadsTo};
 
 use crate::strand::{Advance, End, Event, Mode, Spawns, Step, Strand};
-use cw_code::crew_laws::calls_on_a_strand_keep_its_job;
+use cw_code::crew_laws::calls_preserve_strand_job;
 use cw_machine::laws::machines_that_stop_remain;
 use cw_machine::run::Stop;
 
@@ -75,7 +75,7 @@ impl Strand {
         ensures leaves { LeavesBy result self.old self.new }
         ensures does { self.old.count < its_end self.old → DoesOne result }
     {
-        calls_on_a_strand_keep_its_job();
+        calls_preserve_strand_job();
         machines_that_stop_remain();
         let end = self.end_of_job();
         if self.count < end {

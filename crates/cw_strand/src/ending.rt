@@ -6,11 +6,11 @@ ghost use Rattle.cw_machine.specs.JobRuns as runs;
 ghost use Rattle.cw_jobs.specs.Means.{IsMeaningOf};
 ghost use Rattle.cw_strand.specs.Holds.{its_job, outs, HasStopped, IsRunning};
 ghost use Rattle.cw_strand.specs.Losing.{ComesFrom};
-ghost use Rattle.cw_strand.specs.Moves.{EndsCall, EndsStill, HasCome, IsShown};
+ghost use Rattle.cw_strand.specs.Moves.{EndsCall, EndsStill, HasCome, IsOutput};
 
 use crate::lending::empty_rest;
 use crate::strand::{Mode, Strand};
-use cw_code::crew_laws::{calls_on_a_strand_keep_its_job, rests_stay_in_their_functions};
+use cw_code::crew_laws::{calls_preserve_strand_job, rests_stay_in_their_functions};
 use cw_code::laws::runs_stay_in_their_functions;
 use cw_jobs::call::Rest;
 use cw_jobs::effect::{Effect, PieceOutput};
@@ -25,7 +25,7 @@ use std::mem;
 
 // Returns the output and the counts of a run after this number of instructions.
 fn shown(run: &mut Run, cost: u64) -> PieceOutput
-    ensures { IsShown run.old cost result }
+    ensures { IsOutput run.old cost result }
 {
     let alloc = *run.machine.lines.allocator();
     PieceOutput {
@@ -58,7 +58,7 @@ impl Strand {
         ensures comes { ComesFrom result self.old }
         ensures counts { EndsStill result self.old }
     {
-        calls_on_a_strand_keep_its_job();
+        calls_preserve_strand_job();
         machines_that_stop_remain();
         let alloc = *self.lent.allocator();
         match self.mode {
@@ -95,7 +95,7 @@ impl Strand {
         ensures none { outs self.old ≡ [] }
         ensures counts { EndsCall result self.old.count }
     {
-        calls_on_a_strand_keep_its_job();
+        calls_preserve_strand_job();
         Effect::Ended {
             value,
             shown: shown(&mut self.run, self.count),
@@ -112,7 +112,7 @@ impl Strand {
         ensures none { outs self.old ≡ [] }
         ensures counts { EndsStill result self.old }
     {
-        calls_on_a_strand_keep_its_job();
+        calls_preserve_strand_job();
         calls_keep_meter_records();
         rests_stay_in_their_functions();
         runs_stay_in_their_functions();

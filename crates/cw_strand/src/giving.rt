@@ -12,7 +12,7 @@ ghost use Rattle.cw_strand.specs.declared.strand.Mode.TheVariants as mode;
 use crate::lending::loans_named;
 use crate::stopping::home_of;
 use crate::strand::{Home, Mode, Strand};
-use cw_code::crew_laws::{calls_on_a_strand_keep_its_job, rests_stay_in_their_functions};
+use cw_code::crew_laws::{calls_preserve_strand_job, rests_stay_in_their_functions};
 use cw_code::laws::{results_may_go_back, runs_stay_in_their_functions};
 use cw_jobs::call::Rest;
 use cw_jobs::effect::{Effect, PieceOutput};
@@ -159,7 +159,7 @@ impl Strand {
         ensures back { IsWaiting self.new → ⊥ }
         ensures counts { CountsGiven (effect.Joined frame replaced shown) self.old self.new }
     {
-        calls_on_a_strand_keep_its_job();
+        calls_preserve_strand_job();
         calls_keep_meter_records();
         machines_that_stop_remain();
         results_may_go_back();
@@ -212,7 +212,7 @@ impl Strand {
         ensures back { IsWaiting self.new → ⊥ }
         ensures counts { CountsGiven (effect.Trapped trap line lines cost back) self.old self.new }
     {
-        calls_on_a_strand_keep_its_job();
+        calls_preserve_strand_job();
         machines_that_stop_remain();
         let mut back = back;
         let mut none = Vec::new(*self.lent.allocator());
@@ -242,7 +242,7 @@ impl Strand {
         ensures over { self.new.mode ≡ mode.Over }
         ensures counts { self.new.count ≡ self.old.count }
     {
-        calls_on_a_strand_keep_its_job();
+        calls_preserve_strand_job();
         machines_that_stop_remain();
         let mut back = back;
         let mut none = Vec::new(*self.lent.allocator());
@@ -280,7 +280,7 @@ impl Strand {
         ensures back { IsWaiting self.new → ⊥ }
         ensures counts { CountsGiven effect self.old self.new }
     {
-        calls_on_a_strand_keep_its_job();
+        calls_preserve_strand_job();
         match effect {
             Effect::Joined {
                 frame,
@@ -316,7 +316,7 @@ impl Strand {
         ensures back { IsWaiting self.new → ⊥ }
         ensures counts { self.new.count ≡ self.old.count }
     {
-        calls_on_a_strand_keep_its_job();
+        calls_preserve_strand_job();
         match arrays_of(*self.lent.allocator(), effect) {
             Some((slices, replaced)) => {
                 let mut slices = slices;

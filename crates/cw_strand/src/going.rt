@@ -10,7 +10,7 @@ ghost use Rattle.cw_strand.specs.Moves as moves;
 ghost use Rattle.cw_strand.specs.Moves.{EndsBy, HandsNothing, HandsOutAt, HasCome, IsSame, JoinsBy, KeptBy, ComesOr, ComesTo, ComesWithin, EndsAt, RunsOn, StaysWithin, StopsFor};
 
 use crate::strand::{End, Event, Mode, Spawns, Step, Strand};
-use cw_code::crew_laws::calls_on_a_strand_keep_its_job;
+use cw_code::crew_laws::calls_preserve_strand_job;
 use cw_jobs::effect::Effect;
 use cw_machine::laws::machines_that_stop_remain;
 use cw_machine::run::Stop;
@@ -84,7 +84,7 @@ impl Strand {
         ensures comes { HasCome self.new limit result }
         ensures ran { RunsOn self.old self.new limit (moves.hands_out spawns) result }
     {
-        calls_on_a_strand_keep_its_job();
+        calls_preserve_strand_job();
         let floor = self.floor();
         let stops = hands_out(spawns);
         let (stop, count) = self
@@ -125,7 +125,7 @@ impl Strand {
         ensures halts { StopsFor stop to end self.new }
         ensures goes { GoesOn result self.new }
     {
-        calls_on_a_strand_keep_its_job();
+        calls_preserve_strand_job();
         machines_that_stop_remain();
         match stop {
             Stop::Spawned(spawn) => self.lend(spawn, to),

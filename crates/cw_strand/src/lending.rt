@@ -12,7 +12,7 @@ ghost use Rattle.cw_strand.specs.Moves.{HasCome, ComesTo, HasCut, HasSpared, IsA
 
 use crate::strand::{Event, Home, Lent, Mode, Strand};
 use cw_code::code::Loan;
-use cw_code::crew_laws::calls_on_a_strand_keep_its_job;
+use cw_code::crew_laws::calls_preserve_strand_job;
 use cw_jobs::call::{Extent, Parts, Rest};
 use cw_jobs::job::Job;
 use cw_machine::hands::Lender;
@@ -104,7 +104,7 @@ impl Strand {
         ensures kept { OnErr result (HasSpared self.old self.new) }
         ensures room { OnOk result (vec_len self.new.lent < vec_capacity self.new.lent) }
     {
-        calls_on_a_strand_keep_its_job();
+        calls_preserve_strand_job();
         let mut parts = self.shell()?;
         self.lent.reserve(1)?;
         let slots = self.parts.code.slots_named(spawn.passed);
@@ -125,7 +125,7 @@ impl Strand {
         ensures over { self.new.mode ≢ mode.Over }
         ensures goes { GoesOn result self.new }
     {
-        calls_on_a_strand_keep_its_job();
+        calls_preserve_strand_job();
         machines_that_stop_remain();
         match self.cut_out(&spawn, end) {
             Ok((parts, lender)) => {

@@ -6,7 +6,7 @@ ghost use Rattle.cw_jobs.specs.Strands.{StartsFrom};
 ghost use Rattle.cw_strand.specs.Moves.{Begins, BeginsRun};
 
 use crate::strand::{Mode, Strand};
-use cw_code::crew_laws::calls_on_a_strand_keep_its_job;
+use cw_code::crew_laws::calls_preserve_strand_job;
 use cw_jobs::call::{Extent, Parts};
 use cw_jobs::job::Job;
 use cw_jobs::laws::calls_keep_meter_records;
@@ -55,7 +55,7 @@ impl Strand {
         ensures { MatchResult result (λ s. Begins job s) (λ back. back ≡ job) }
     {
         calls_keep_meter_records();
-        calls_on_a_strand_keep_its_job();
+        calls_preserve_strand_job();
         let of = Snapshot::of(&job);
         let Job { parts } = job;
         let mut parts = parts;

@@ -10,7 +10,7 @@ ghost use Rattle.cw_strand.specs.Moves.{HasLost, HasReturnedNewest, MayReturnNew
 
 use crate::lending::loans_named;
 use crate::strand::{Home, Lent, Mode, Strand};
-use cw_code::crew_laws::calls_on_a_strand_keep_its_job;
+use cw_code::crew_laws::calls_preserve_strand_job;
 use cw_jobs::job::Job;
 use cw_machine::hands::Lender;
 use cw_machine::laws::machines_that_stop_remain;
@@ -162,7 +162,7 @@ impl Strand {
         ensures outs { outs self.new ≡ outs self.old }
         ensures counts { self.new.count ≡ self.old.count }
     {
-        calls_on_a_strand_keep_its_job();
+        calls_preserve_strand_job();
         machines_that_stop_remain();
         match self.mode {
             Mode::Going => self.mode = Mode::GivenUp,
@@ -181,7 +181,7 @@ impl Strand {
         ensures outs { outs self.new ≡ outs self.old }
         ensures counts { self.new.count ≡ self.old.count }
     {
-        calls_on_a_strand_keep_its_job();
+        calls_preserve_strand_job();
         self.mode = Mode::Memory;
     }
 }

@@ -8,7 +8,7 @@ ghost use Rattle.cw_strand.specs.Moves.{HasSpared};
 
 use crate::lending::loans_named;
 use crate::strand::{Mode, Strand};
-use cw_code::crew_laws::calls_on_a_strand_keep_its_job;
+use cw_code::crew_laws::calls_preserve_strand_job;
 use cw_jobs::call::Parts;
 use cw_jobs::job::Job;
 
@@ -45,7 +45,7 @@ impl Strand {
         ensures goes { IsGoing self.new }
         ensures counts { self.new.count ≡ self.old.count }
     {
-        calls_on_a_strand_keep_its_job();
+        calls_preserve_strand_job();
         let Job { parts } = job;
         let mut parts = parts;
         let home = self.lent.take_last().home;

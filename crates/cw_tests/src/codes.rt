@@ -347,7 +347,7 @@ const UNFIT: [(usize, Instr); 10] = [
     (35, Instr::GoBack(26)),
 ];
 
-fn all_are_refused<R: Abort>(
+fn all_are_rejected<R: Abort>(
     rt: &R,
     alloc: Global,
     replaced: &[(usize, Instr)],
@@ -361,5 +361,5 @@ fn all_are_refused<R: Abort>(
 
 #[test]
 fn instructions_that_do_not_fit_are_refused(rt: HostRuntime) -> Result<(), Fail> {
-    all_are_refused(&rt, rt.alloc(), &UNFIT)
+    all_are_rejected(&rt, rt.alloc(), &UNFIT)
 }

@@ -147,7 +147,7 @@ fn crowd<R: AllocGlobal + Wait + Copy + Drop>(rt: R) -> Result<Vec<Serving<R>>, 
 }
 
 // Returns whether such a crew is rejected in this mode, and nothing is written.
-fn is_refused<R: AllocGlobal + Threads + Wait + Copy + Drop + Send + 'static>(
+fn is_rejected<R: AllocGlobal + Threads + Wait + Copy + Drop + Send + 'static>(
     rt: R,
     mode: Mode,
 ) -> Result<bool, Fail> {
@@ -172,7 +172,7 @@ fn is_refused<R: AllocGlobal + Threads + Wait + Copy + Drop + Send + 'static>(
 #[test]
 fn a_crew_that_is_too_large_is_refused(rt: HostRuntime) -> Result<(), Fail> {
     for mode in MODES {
-        assert!(rt; is_refused(rt, *mode)?);
+        assert!(rt; is_rejected(rt, *mode)?);
     }
     Ok(())
 }

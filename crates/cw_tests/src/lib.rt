@@ -24,7 +24,7 @@ mod loops;
 #[cfg(test)]
 mod program;
 #[cfg(test)]
-mod refusals;
+mod rejections;
 #[cfg(test)]
 mod rows;
 #[cfg(test)]

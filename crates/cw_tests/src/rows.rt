@@ -143,8 +143,8 @@ fn checks(rt: HostRuntime) -> Result<(), Fail> {
 // A byte that is not ASCII.
 #[test]
 fn checks_bytes(rt: HostRuntime) -> Result<(), Fail> {
-    let is_refused = answers(rt, "check f", b"\n\xff", 2, "", "refused 1 line 2\n")?;
-    assert!(rt; is_refused);
+    let is_rejected = answers(rt, "check f", b"\n\xff", 2, "", "refused 1 line 2\n")?;
+    assert!(rt; is_rejected);
     Ok(())
 }
 

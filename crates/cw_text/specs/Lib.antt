@@ -1,6 +1,6 @@
 pub mod Faults
 pub mod Sources
-pub mod Noted
+pub mod AreRecorded
 pub mod Rising
 pub mod RecordedReasons
 pub mod Laws

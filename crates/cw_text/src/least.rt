@@ -2,7 +2,7 @@
 
 ghost use Rattle.std.specs.Prelude.{◌≡◌, ◌∷◌, [], None};
 ghost use Rattle.cw_model.specs.Lines.{lowest, unless};
-ghost use Rattle.cw_text.specs.Noted.{TakesRoom};
+ghost use Rattle.cw_text.specs.AreRecorded.{TakesRoom};
 
 /// Holds the least line recorded so far, if there is one.
 #[derive(Clone, Copy, Debug, PartialEq, Eq)]
@@ -36,7 +36,7 @@ impl LeastLine {
     }
     /// Records one entry in `line` of what a limit counts; the limit leaves room for `room` more entries. Without
     /// room the entry exceeds the limit, and its line is recorded. Returns the room that is left after it.
-    pub fn note_past(&mut self, room: usize, line: u32) -> usize
+    pub fn record_past(&mut self, room: usize, line: u32) -> usize
         ensures { TakesRoom room result (line ∷ []) self.old self.new }
     {
         if room == 0 {

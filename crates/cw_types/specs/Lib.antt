@@ -16,7 +16,7 @@ pub mod Parts
 pub mod StmtContext
 pub mod ReasonMeaning
 pub mod RecordingLines
-pub mod Noted
+pub mod AreRecorded
 pub mod Limits
 pub mod Within
 pub mod Faults

@@ -4,7 +4,7 @@ use Rattle.cw_model.specs.declared.limits.TheConstants.{MOST_DECLARED, MOST_FUNC
 use Rattle.cw_model.specs.declared.limits.TheConstants.{MOST_REDUCERS, MOST_TAG_BYTES}
 use Rattle.cw_model.specs.Sizes.{declaring_lines_in, lines_beyond, regions_of}
 use Rattle.cw_model.specs.Syntax.{Name, Function, Program}
-use Rattle.cw_types.specs.Noted.{tags_past}
+use Rattle.cw_types.specs.AreRecorded.{tags_past}
 use Rattle.cw_types.specs.declared.reason.TooLarge.{TooLarge}
 use Rattle.cw_types.specs.declared.reason.TooLarge.TheVariants as reason
 

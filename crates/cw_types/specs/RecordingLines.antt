@@ -9,12 +9,12 @@ abbrev pub recorded_line : {R : Type 0} → LeastReason R → Option ℕ
 recorded_line told = option_map (λ at. at.line) told.first
 
 -- `after` is `before` with these lines recorded
-abbrev pub Noted : {R : Type 0} → List ℕ → (before after : LeastReason R) → Type 0
-Noted lines before after = recorded_line after ≡ lowest (recorded_line before) lines
+abbrev pub AreRecorded : {R : Type 0} → List ℕ → (before after : LeastReason R) → Type 0
+AreRecorded lines before after = recorded_line after ≡ lowest (recorded_line before) lines
 
 -- the least of these lines is recorded, if there is one
 abbrev pub NotesLeast : {R : Type 0} → Option ℕ → (before after : LeastReason R) → Type 0
-NotesLeast least before after = Noted (option_to_list least) before after
+NotesLeast least before after = AreRecorded (option_to_list least) before after
 
 -- the recorded line and reason, if there are any, satisfy `Such`
 abbrev pub IsOf : {R : Type 0} → (ℕ → R → Type 0) → LeastReason R → Type 0

@@ -6,7 +6,7 @@ use Rattle.cw_model.specs.Typing.{faults_of, faults_in_block}
 use Rattle.cw_tree.specs.declared.syntax.Function.{Function}
 use Rattle.cw_tree.specs.declared.syntax.Line.{Line}
 use Rattle.cw_tree.specs.SyntaxView.{program_of, function_of, stmt_of, block_of}
-use Rattle.cw_text.specs.RecordedReasons.{Notes, AddsOnly}
+use Rattle.cw_text.specs.RecordedReasons.{RecordsOnOk, AddsOnly}
 use Rattle.cw_text.specs.declared.reasons.Reasons.{Reasons}
 use Rattle.cw_types.specs.declared.globals.Globals.{Globals}
 use Rattle.cw_types.specs.declared.reason.IllTyped.{IllTyped}
@@ -42,12 +42,12 @@ inner_faults globals returns known line =
 -- the lines of a block that break a rule are recorded if the result is `Ok`
 abbrev pub NotesBlock : {R E : Type 0} → Globals → Returns → List Declared → List Line →
     (before after : Reasons IllTyped) → Result R E → Type 0
-NotesBlock globals returns known lines before after r = Notes (block_faults globals returns known lines) before after r
+NotesBlock globals returns known lines before after r = RecordsOnOk (block_faults globals returns known lines) before after r
 
 -- the lines of the inner blocks of a statement that break a rule are recorded if the result is `Ok`
 abbrev pub NotesInner : {R E : Type 0} → Globals → Returns → List Declared → Line →
     (before after : Reasons IllTyped) → Result R E → Type 0
-NotesInner globals returns known line before after r = Notes (inner_faults globals returns known line) before after r
+NotesInner globals returns known line before after r = RecordsOnOk (inner_faults globals returns known line) before after r
 
 -- the reason is correct for one of these statements, in its line
 abbrev pub IsAmong : Globals → List StmtContext → (ℕ → IllTyped → Type 0)

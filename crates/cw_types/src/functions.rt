@@ -9,7 +9,7 @@ ghost use Rattle.cw_tree.specs.SyntaxView.{function_of, param_of, program_of};
 ghost use Rattle.cw_types.specs.Names.{param_names};
 ghost use Rattle.cw_types.specs.Returned as returned;
 ghost use Rattle.cw_types.specs.Scope.{with_params};
-ghost use Rattle.cw_text.specs.RecordedReasons.{Notes, AddsOnly};
+ghost use Rattle.cw_text.specs.RecordedReasons.{RecordsOnOk, AddsOnly};
 ghost use Rattle.cw_types.specs.ReasonMeaning.{BreaksRule, IsWrongFunction, IsWrongMain, IsWrongParams, are_arrays};
 ghost use Rattle.cw_types.specs.Typing.{are_new, is_right_main, returns_well};
 ghost use Rattle.cw_types.specs.Within.{IsToldIn, faults_in_function, faults_of_all, program_in};
@@ -33,7 +33,7 @@ pub fn functions_faults<'a>(
     globals: &Globals<'a>,
     told: &mut Reasons<IllTyped<'a>>,
 ) -> Result<(), AllocError>
-    ensures lines { Notes (faults_of_all (program_in globals.now)) told.old told.new result }
+    ensures lines { RecordsOnOk (faults_of_all (program_in globals.now)) told.old told.new result }
     ensures told { OnOk result (AddsOnly (BreaksRule (program_in globals.now)) told.old told.new) }
 {
     for function in globals.ast.functions.as_slice() {
@@ -49,7 +49,7 @@ fn function_faults<'a>(
     function: &'a Function,
     told: &mut Reasons<IllTyped<'a>>,
 ) -> Result<(), AllocError>
-    ensures lines { Notes (faults_in_function globals.now function.now) told.old told.new result }
+    ensures lines { RecordsOnOk (faults_in_function globals.now function.now) told.old told.new result }
     ensures told { OnOk result
         (AddsOnly (IsToldIn globals.now function.now) told.old told.new) }
 {

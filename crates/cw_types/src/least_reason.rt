@@ -2,7 +2,7 @@
 
 ghost use Rattle.std.specs.Prelude.{◌≡◌, None, is_some, not};
 ghost use Rattle.cw_model.specs.Lines.{unless};
-ghost use Rattle.cw_types.specs.RecordingLines.{IsTheLeast, IsTheOne, Noted, NotesLeast, AddsOnly};
+ghost use Rattle.cw_types.specs.RecordingLines.{IsTheLeast, IsTheOne, AreRecorded, NotesLeast, AddsOnly};
 
 use cw_text::{At, LeastLine};
 
@@ -22,7 +22,7 @@ impl<R: Copy> LeastReason<R> {
 
     /// Records a line, if there is a reason against it.
     pub fn note(&mut self, found: Option<R>, line: u32)
-        ensures lines { Noted (unless (not (is_some found)) line) self.old self.new }
+        ensures lines { AreRecorded (unless (not (is_some found)) line) self.old self.new }
         ensures told { AddsOnly (IsTheOne line found) self.old self.new }
     {
         let Some(reason) = found else {
@@ -39,7 +39,7 @@ impl<R: Copy> LeastReason<R> {
     }
 
     /// Records the least of some lines, if there is one; `reason` applies to each of them.
-    pub fn note_least(&mut self, least: LeastLine, reason: R)
+    pub fn record_least(&mut self, least: LeastLine, reason: R)
         ensures lines { NotesLeast least.line self.old self.new }
         ensures told { AddsOnly (IsTheLeast least.line reason) self.old self.new }
     {

@@ -5,13 +5,13 @@ ghost use Rattle.cw_model.specs.Lines.{lowest};
 ghost use Rattle.cw_model.specs.Sizes.{limit_faults, function_limits as limits_of};
 ghost use Rattle.cw_model.specs.Sizes.{declaring_lines, declaring_lines_in};
 ghost use Rattle.cw_tree.specs.SyntaxView.{program_of, function_of, block_of, stmt_of};
-ghost use Rattle.cw_text.specs.Noted.{TakesRoom};
+ghost use Rattle.cw_text.specs.AreRecorded.{TakesRoom};
 ghost use Rattle.cw_types.specs.Limits.{IsLongTag, IsPassedByFunction, IsPassedByOne, IsPassedByParts};
 ghost use Rattle.cw_types.specs.Limits.{IsPassedByRegions, declared_past};
-ghost use Rattle.cw_types.specs.Noted.{TakesTag};
-ghost use Rattle.cw_types.specs.Noted.{functions_past, reducers_past, long_tag, tags_past};
+ghost use Rattle.cw_types.specs.AreRecorded.{TakesTag};
+ghost use Rattle.cw_types.specs.AreRecorded.{functions_past, reducers_past, long_tag, tags_past};
 ghost use Rattle.cw_types.specs.Regions.{regions_of};
-ghost use Rattle.cw_types.specs.RecordingLines.{IsOf, Noted, AddsOnly, recorded_line};
+ghost use Rattle.cw_types.specs.RecordingLines.{IsOf, AreRecorded, AddsOnly, recorded_line};
 
 use crate::known::Known;
 use crate::least_reason::LeastReason;
@@ -41,12 +41,12 @@ pub fn limits<'a>(alloc: Global, ast: &'a Ast) -> Result<LeastReason<TooLarge<'a
     ensures holds { IfOk result (λ told. IsOf (IsPassedByParts (program_of ast.now)) told) }
 {
     let mut told = LeastReason::new();
-    told.note_least(functions_beyond(&ast.functions), TooLarge::Functions);
-    told.note_least(reducers_beyond(&ast.reducers), TooLarge::Reducers);
+    told.record_least(functions_beyond(&ast.functions), TooLarge::Functions);
+    told.record_least(reducers_beyond(&ast.reducers), TooLarge::Reducers);
     functions_limits(&ast.functions, &mut told);
     let regions = regions(alloc, &ast.functions)?;
     long_tags(&regions, &mut told);
-    told.note_least(tags_beyond(alloc, &regions)?, TooLarge::Tags);
+    told.record_least(tags_beyond(alloc, &regions)?, TooLarge::Tags);
     Ok(told)
 }
 
@@ -57,7 +57,7 @@ fn functions_beyond(functions: &[Function]) -> LeastLine
     let mut least = LeastLine::new();
     let mut room = MOST_FUNCTIONS;
     for function in functions {
-        room = least.note_past(room, function.line);
+        room = least.record_past(room, function.line);
     }
     least
 }
@@ -69,14 +69,14 @@ fn reducers_beyond(reducers: &[Reducer]) -> LeastLine
     let mut least = LeastLine::new();
     let mut room = MOST_REDUCERS;
     for reducer in reducers {
-        room = least.note_past(room, reducer.line);
+        room = least.record_past(room, reducer.line);
     }
     least
 }
 
 // Records the lines at which a function exceeds a limit.
 fn functions_limits<'a>(functions: &'a [Function], told: &mut LeastReason<TooLarge<'a>>)
-    ensures lines { Noted (flat_map limits_of (map function_of functions.now)) told.old told.new }
+    ensures lines { AreRecorded (flat_map limits_of (map function_of functions.now)) told.old told.new }
     ensures told { AddsOnly (IsPassedByOne (map function_of functions.now)) told.old told.new }
 {
     for function in functions {
@@ -86,11 +86,11 @@ fn functions_limits<'a>(functions: &'a [Function], told: &mut LeastReason<TooLar
 
 // Records the lines at which this function exceeds a limit.
 fn function_limits<'a>(function: &'a Function, told: &mut LeastReason<TooLarge<'a>>)
-    ensures lines { Noted (limits_of (function_of function.now)) told.old told.new }
+    ensures lines { AreRecorded (limits_of (function_of function.now)) told.old told.new }
     ensures told { AddsOnly (IsPassedByFunction (function_of function.now)) told.old told.new }
 {
     told.note(many_params(function), function.line);
-    told.note_least(
+    told.record_least(
         declared_beyond(function),
         TooLarge::Declared(&function.name),
     );
@@ -126,7 +126,7 @@ fn params_beyond(room: usize, line: u32, params: &[Param], least: &mut LeastLine
 {
     let mut left = room;
     for _param in params {
-        left = least.note_past(left, line);
+        left = least.record_past(left, line);
     }
     left
 }
@@ -150,7 +150,7 @@ fn statement_beyond(room: usize, line: u32, stmt: &Stmt, least: &mut LeastLine) 
     ensures { TakesRoom room result (declaring_lines line (stmt_of stmt.now)) least.old least.new }
 {
     match stmt {
-        Stmt::Declare(_, _) | Stmt::DeclareArray(_, _) => least.note_past(room, line),
+        Stmt::Declare(_, _) | Stmt::DeclareArray(_, _) => least.record_past(room, line),
         Stmt::If(_, b) | Stmt::While(_, b) | Stmt::Scope(b) | Stmt::Region(_, b) => {
             block_beyond(room, b, least)
         }
@@ -159,12 +159,12 @@ fn statement_beyond(room: usize, line: u32, stmt: &Stmt, least: &mut LeastLine) 
             block_beyond(left, c, least)
         }
         Stmt::For(_, b) => {
-            let left = least.note_past(room, line);
+            let left = least.record_past(room, line);
             block_beyond(left, b, least)
         }
         Stmt::Cut(_, b) => {
-            let after_one = least.note_past(room, line);
-            let after_both = least.note_past(after_one, line);
+            let after_one = least.record_past(room, line);
+            let after_both = least.record_past(after_one, line);
             block_beyond(after_both, b, least)
         }
         Stmt::Assign(_, _)
@@ -179,7 +179,7 @@ fn statement_beyond(room: usize, line: u32, stmt: &Stmt, least: &mut LeastLine) 
 
 // Records the lines of regions whose tags are too long.
 fn long_tags<'a>(regions: &[Marked<'a>], told: &mut LeastReason<TooLarge<'a>>)
-    ensures lines { Noted (flat_map long_tag (regions_of regions.now)) told.old told.new }
+    ensures lines { AreRecorded (flat_map long_tag (regions_of regions.now)) told.old told.new }
     ensures told { AddsOnly (IsPassedByRegions (regions_of regions.now)) told.old told.new }
 {
     for region in regions {
@@ -224,7 +224,7 @@ fn tag_beyond<'a>(
     if seen.has(region.tag) {
         return Ok(room);
     }
-    let left = least.note_past(room, region.line);
+    let left = least.record_past(room, region.line);
     seen.declare(region.tag, NameKind::Integer, region.line)?;
     Ok(left)
 }

@@ -7,7 +7,7 @@ ghost use Rattle.cw_model.specs.Typing.{repeated};
 ghost use Rattle.cw_types.specs.Named.{listed_functions, listed_reducers, shared_lines, lines_shared_by};
 ghost use Rattle.cw_types.specs.Names.{known_names};
 ghost use Rattle.cw_types.specs.Scope.{kinds};
-ghost use Rattle.cw_text.specs.RecordedReasons.{Noted, Notes, AddsOnly};
+ghost use Rattle.cw_text.specs.RecordedReasons.{AreRecorded, RecordsOnOk, AddsOnly};
 ghost use Rattle.cw_types.specs.ReasonMeaning.{IsRepeatedIn, IsRepeatedOf, IsRepeating};
 ghost use Rattle.cw_types.specs.Typing.{earlier_line, later_line};
 
@@ -28,7 +28,7 @@ pub fn repeated_functions<'a>(
     functions: &'a [Function],
     told: &mut Reasons<IllTyped<'a>>,
 ) -> Result<(), AllocError>
-    ensures lines { Notes (repeated (listed_functions functions.now) []) told.old told.new result }
+    ensures lines { RecordsOnOk (repeated (listed_functions functions.now) []) told.old told.new result }
     ensures told { OnOk result
         (AddsOnly (IsRepeatedIn (listed_functions functions.now)) told.old told.new) }
 {
@@ -50,7 +50,7 @@ pub fn repeated_reducers<'a>(
     reducers: &'a [Reducer],
     told: &mut Reasons<IllTyped<'a>>,
 ) -> Result<(), AllocError>
-    ensures lines { Notes (repeated (listed_reducers reducers.now) []) told.old told.new result }
+    ensures lines { RecordsOnOk (repeated (listed_reducers reducers.now) []) told.old told.new result }
     ensures told { OnOk result
         (AddsOnly (IsRepeatedIn (listed_reducers reducers.now)) told.old told.new) }
 {
@@ -77,7 +77,7 @@ pub fn shared_names<'a>(
     reducers: &'a [Reducer],
     told: &mut Reasons<IllTyped<'a>>,
 )
-    ensures lines { Noted (shared_lines functions.now reducers.now) told.old told.new }
+    ensures lines { AreRecorded (shared_lines functions.now reducers.now) told.old told.new }
     ensures told { AddsOnly
         (IsRepeatedIn (listed_functions functions.now ++ listed_reducers reducers.now))
         told.old told.new }
@@ -93,7 +93,7 @@ fn shared_name<'a>(
     reducer: &'a Reducer,
     told: &mut Reasons<IllTyped<'a>>,
 )
-    ensures lines { Noted (lines_shared_by functions.now reducer.now) told.old told.new }
+    ensures lines { AreRecorded (lines_shared_by functions.now reducer.now) told.old told.new }
     ensures told { (reducers : List (Name × ℕ)) →
         Contains reducers (reducer.now.name, reducer.now.line) →
         AddsOnly (IsRepeatedIn (listed_functions functions.now ++ reducers)) told.old told.new }

@@ -132,7 +132,7 @@ fn is_reader(params: &[Param]) -> bool
 }
 
 // Returns the parameters after the first one.
-fn behind_first(params: &[Param]) -> &[Param]
+fn after_first(params: &[Param]) -> &[Param]
     ensures { map param_of result.now ≡ drop 1 (map param_of params.now) }
 {
     match params {
@@ -206,7 +206,7 @@ fn arguments(
     for e in es {
         let argument = argument(alloc, locals, left, e)?;
         found.push(argument)?;
-        left = behind_first(left);
+        left = after_first(left);
     }
     Ok(found)
 }

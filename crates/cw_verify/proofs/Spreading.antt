@@ -17,7 +17,7 @@ use Rattle.cw_verify.specs.declared.found.Found.{Found}
 use Rattle.cw_verify.specs.declared.numbers.Numbers.{Numbers}
 use Rattle.cw_verify.specs.declared.search.Search.{Search}
 use Rattle.cw_verify.specs.Table.{Shapes, shape_view, shapes_of, may_act, joined, come_at, come, visited, unmarked_at, unmarked_in, unreached, IsIn}
-use Rattle.cw_verify.specs.Table.{IsNoted, Notes, left_to_do, Spread, Tells, table_of, IsDone, IsSearch, Fails, AllNamed, blocks_of}
+use Rattle.cw_verify.specs.Table.{IsAddedToWork, AddsToWork, left_to_do, Spread, Tells, table_of, IsDone, IsSearch, Fails, AllNamed, blocks_of}
 use Rattle.cw_verify.proofs.Tables.{may_ready, may_thawed, leads_at, Visited, visits, visit_done, leads_grown, done_grown, held}
 
 -- the states of pcs as shapes
@@ -58,7 +58,7 @@ unmarked_less (o ∷ shapes) (suc k) t s e lt = omega (arith, unmarked_less shap
 pub spread_none : (shapes : Shapes) (work : List ℕ) → Spread shapes shapes work work false
 spread_none shapes work = record { kept = λ j h. h; noted = λ j. inl refl; from = λ j h. inl h; fewer = omega arith; reaches = λ e. cc; shrinks = λ e. omega arith }
 
-module _ (shapes : Shapes) (k : ℕ) (s : Shape) (work work' : List ℕ) (n : IsNoted k work work') where
+module _ (shapes : Shapes) (k : ℕ) (s : Shape) (work work' : List ℕ) (n : IsAddedToWork k work work') where
   abbrev changed : Shapes
   changed = slice_set shapes k (Some s)
 
@@ -113,7 +113,7 @@ spread_both a b c u v w p q n h k = record {
     neither false false x y e = omega (arith, x refl, y refl)
 
 -- a shape flowed to a pc that was not reached
-pub come_new : (items : List (Option Found)) (work work' : List ℕ) (k : ℕ) (y o d : Option Found) (r : Found) → IsNoted k work work' → k < length items → o ≡ get_or items k d → o ≡ None →
+pub come_new : (items : List (Option Found)) (work work' : List ℕ) (k : ℕ) (y o d : Option Found) (r : Found) → IsAddedToWork k work work' → k < length items → o ≡ get_or items k d → o ≡ None →
     (come (shapes_of items) k (shape_view r) ≡ Some (shapes_of (slice_set (slice_set items k y) k (Some r))))
     × Spread (shapes_of items) (shapes_of (slice_set (slice_set items k y) k (Some r))) work work' true
 come_new items work work' k y o d r n lt e none =
@@ -125,7 +125,7 @@ come_new items work work' k y o d r n lt e none =
 
 -- a shape flowed to a pc that was reached
 pub come_more : (items : List (Option Found)) (work work' : List ℕ) (k : ℕ) (y o d : Option Found) (t r : Found) (s : Shape) (more : Bool)
-    → Notes more k work work' → k < length items → o ≡ get_or items k d → o ≡ Some t → joined (Some (shape_view t)) s ≡ Some (shape_view r) →
+    → AddsToWork more k work work' → k < length items → o ≡ get_or items k d → o ≡ Some t → joined (Some (shape_view t)) s ≡ Some (shape_view r) →
     (more ≡ false → shape_view r ≡ shape_view t) → (more ≡ true → unmarked_at (Some (shape_view r)) < unmarked_at (Some (shape_view t))) →
     (come (shapes_of items) k s ≡ Some (shapes_of (slice_set (slice_set items k y) k (Some r)))) × Spread (shapes_of items) (shapes_of (slice_set (slice_set items k y) k (Some r))) work work' false
 come_more items work work' k y o d t r s more n lt e some is same fewer = (
@@ -139,7 +139,7 @@ come_more items work work' k y o d t r s more n lt e some is same fewer = (
     set : shapes_of (slice_set (slice_set items k y) k (Some r)) ≡ slice_set (shapes_of items) k (Some (shape_view r))
     set = shapes_set items k y (Some r)
 
-    by : (more : Bool) → Notes more k work work' → (more ≡ false → shape_view r ≡ shape_view t)
+    by : (more : Bool) → AddsToWork more k work work' → (more ≡ false → shape_view r ≡ shape_view t)
         → (more ≡ true → unmarked_at (Some (shape_view r)) < unmarked_at (Some (shape_view t)))
         → Spread (shapes_of items) (slice_set (shapes_of items) k (Some (shape_view r))) work work' false
     by true n h l = spread_more (shapes_of items) k (shape_view r) work work' n (shape_view t) at (l refl)
@@ -150,7 +150,7 @@ come_more items work work' k y o d t r s more n lt e some is same fewer = (
 
 -- a search continues after the visit of a pc from the work list
 pub visit_search : (code : Code) (f : Func) (old new : Shapes) (work rest work' : List ℕ) (k : ℕ) (i : Instr) (reached : Bool)
-    → f.end ≤ length code.instrs → AllNamed code f → IsSearch code f old work → IsNoted k rest work →
+    → f.end ≤ length code.instrs → AllNamed code f → IsSearch code f old work → IsAddedToWork k rest work →
     slice_get code.instrs (f.start + k) ≡ Some i → visited code f.start old k i ≡ Some new → Spread old new rest work' reached → IsSearch code f new work'
 visit_search code f old new work rest work' k i reached inside named h e is v spread = record {
   whole = omega (arith, h.whole, made.as_many);
@@ -228,7 +228,7 @@ nothing (suc n) zero s e = cc
 nothing (suc n) (suc k) s e = nothing n k s e
 
 pub begins : (code : Code) (f : Func) (shapes : Shapes) (work : List ℕ) → f.start < f.end
-    → shapes ≡ Some (first_shape f) ∷ replicate (f.end - f.start - 1) None → IsNoted 0 [] work → IsSearch code f shapes work
+    → shapes ≡ Some (first_shape f) ∷ replicate (f.end - f.start - 1) None → IsAddedToWork 0 [] work → IsSearch code f shapes work
 begins code f shapes work order e w = subst (λ l. IsSearch code f l work) (sym e) (record {
   whole = omega (arith, order, length-replicate {A = Option Shape} (f.end - f.start - 1) None);
   starts = subst (λ p. FlowsInto (table_of f.start first) p (first_shape f)) zero_more

@@ -10,10 +10,10 @@ ghost use Rattle.cw_verify.specs.Steps as steps;
 ghost use Rattle.cw_verify.specs.Steps.{OrMemory};
 
 use crate::found::{self, Found};
-use crate::leave::leave;
 use crate::meet::join;
 use crate::named::past;
 use crate::numbers::Numbers;
+use crate::transfer::leave;
 use crate::work::WorkList;
 use cw_code::code::{Code, Func, Instr};
 use cw_text::Fault;

@@ -31,7 +31,7 @@ fn event_of(kind: usize, w: usize, v: usize) -> Event {
 }
 
 // Returns whether an event is refused as not possible.
-fn is_refused(world: &mut World, event: Event) -> bool
+fn is_rejected(world: &mut World, event: Event) -> bool
     requires { IsSound world.old }
     ensures { IsSound world.new }
 {
@@ -49,7 +49,7 @@ fn is_as_told(world: &mut World, event: Event, is_possible: bool) -> bool
     if is_possible {
         return world.is_possible(event);
     }
-    let refused = is_refused(world, event);
+    let refused = is_rejected(world, event);
     refused && !world.is_possible(event)
 }
 

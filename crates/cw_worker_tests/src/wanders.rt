@@ -232,7 +232,7 @@ fn walks_of_random_programs_are_serial(rt: HostRuntime) -> Result<(), Fail> {
 }
 
 // Returns whether a world with this number of workers is refused.
-fn is_refused(alloc: Global, workers: usize) -> Result<bool, Fault> {
+fn is_rejected(alloc: Global, workers: usize) -> Result<bool, Fault> {
     let code = code_of(alloc, PRINTS)?;
     match World::start(alloc, code, &[], 100, BURDEN, workers) {
         Err(Fault::Arguments) => Ok(true),
@@ -249,8 +249,8 @@ fn starts(alloc: Global, workers: usize) -> Result<bool, Fault> {
 
 #[test]
 fn workers_out_of_range(rt: HostRuntime) -> Result<(), Fail> {
-    let is_none_refused = is_refused(rt.alloc(), 0)?;
-    let is_more_refused = is_refused(rt.alloc(), 65)?;
+    let is_none_refused = is_rejected(rt.alloc(), 0)?;
+    let is_more_refused = is_rejected(rt.alloc(), 65)?;
     assert!(rt; is_none_refused && is_more_refused);
     Ok(())
 }

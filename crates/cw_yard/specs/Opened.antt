@@ -42,7 +42,7 @@ is_asked workers cells =
     nat_le 1 workers && (nat_le workers MOST_WORKERS && (nat_le 1 cells && nat_le cells MOST_CELLS))
 
 -- why there is no such yard: a number is out of range, or memory ran out
-abbrev pub IsRefused : (workers cells : ℕ) → Fault → Type 0
-IsRefused workers cells fault.Arguments = is_asked workers cells ≡ false
-IsRefused workers cells fault.Memory = is_asked workers cells ≡ true
-IsRefused workers cells _ = ⊥
+abbrev pub IsRejected : (workers cells : ℕ) → Fault → Type 0
+IsRejected workers cells fault.Arguments = is_asked workers cells ≡ false
+IsRejected workers cells fault.Memory = is_asked workers cells ≡ true
+IsRejected workers cells _ = ⊥

@@ -7,7 +7,7 @@ ghost use Rattle.cw_yard.specs.Marks.{IsWatchOf};
 ghost use Rattle.cw_facts.specs.Lists.{Each};
 ghost use Rattle.cw_yard.specs.Seats.{table_of, workers_of};
 ghost use Rattle.cw_yard.specs.Opened as opened;
-ghost use Rattle.cw_yard.specs.Opened.{AreSeats, IsOpened, IsRefused};
+ghost use Rattle.cw_yard.specs.Opened.{AreSeats, IsOpened, IsRejected};
 ghost use Rattle.cw_yard.specs.Opens.{IsFresh, AllRest, ServesDeques, IsPart, ArePasses, AreStealersOf};
 
 use crate::cells::{Cells, Token};
@@ -271,7 +271,7 @@ impl Yard {
     /// not enough memory.
     pub fn open(alloc: Global, workers: usize, cells: usize) -> Result<(Yard, Vec<Seat>), Fault>
         ensures { MatchResult result (λ r. IsOpened workers cells r.0 r.1.items)
-            (IsRefused workers cells) }
+            (IsRejected workers cells) }
     {
         if !is_asked(workers, cells) {
             return Err(Fault::Arguments);

@@ -9,7 +9,7 @@ use Rattle.cw_model.specs.Rows.{outermost}
 use Rattle.cw_model.specs.lemmas.Spans.{span_within}
 use Rattle.cw_measure.specs.OpenParts.{Open, marked, event_of, closed, has_spawned, sum_in}
 use Rattle.cw_measure.specs.Outermost.{is_counted, one_if, active_in, outer_sum, outer_in, Reading, Meters, BeganAt}
-use Rattle.cw_measure.specs.Outermost.{Began, Tally, begun_at, begun, ended_at, ended, Counts, TalliesKeep, unless_at}
+use Rattle.cw_measure.specs.Outermost.{Began, Tally, begun_at, begun, ended_at, ended, Counts, TalliesAreOutermost, unless_at}
 use Rattle.cw_measure.specs.Outermost.{unless_open, joined_tally}
 use Rattle.cw_measure.specs.lemmas.OpenParts.{Adds, tree_in, adds_none, adds_more, adds_append, tree_in-part_of}
 
@@ -269,7 +269,7 @@ counts_read f read picks busy es t idle h =
     let P : ℕ → Type 0 = λ b. t.sum ≡ outer_sum f picks b (tree_of es) in subst P idle h.sum_is
 
 pub tallies_keep : (f : Tree → ℕ) (read : Reading) (picks : Mark → Bool) (busy : ℕ) → Meters f read
-    → TalliesKeep f read picks busy
+    → TalliesAreOutermost f read picks busy
 tallies_keep f read picks busy M = record {
   work = counts_work f read picks busy;
   join = counts_join f read picks busy;

@@ -1,7 +1,8 @@
 //! Which small codes with arrays, cuts and loops are well-formed, and that a code of the maximum size is, by hand.
 
 use crate::verify::codes::{
-    Frame, GIVING, NOTHING, Placed, add_frame, end_function, no_code, place, place_all, refusal_of,
+    Frame, GIVING, NOTHING, Placed, add_frame, end_function, no_code, place, place_all,
+    rejection_of,
 };
 use Step::{Call, CallOnTwo, Cut, Just, Recur, Spawn, Start};
 use cw_code::code::{BlockKind, Callee, Code, Func, Halves, Inner, Instr};
@@ -190,7 +191,7 @@ fn place_tried(alloc: Global, code: &mut Code, f: Func, steps: &[Step]) -> Resul
 fn refusal(alloc: Global, f: Func, steps: &[Step]) -> Result<u8, AllocError> {
     let mut code = no_code(alloc);
     place_tried(alloc, &mut code, f, steps)?;
-    refusal_of(alloc, code)
+    rejection_of(alloc, code)
 }
 
 /// Returns the index of the first case with another result.
@@ -228,7 +229,7 @@ fn parameters(rt: HostRuntime) -> Result<(), AllocError> {
 fn a_main_of_an_array(rt: HostRuntime) -> Result<(), AllocError> {
     let mut code = no_code(rt.alloc());
     place(&mut code, OF_ONE, &GIVES)?;
-    assert_eq!(rt; refusal_of(rt.alloc(), code)?, 6);
+    assert_eq!(rt; rejection_of(rt.alloc(), code)?, 6);
     Ok(())
 }
 
@@ -521,6 +522,6 @@ fn many(rt: HostRuntime) -> Result<(), AllocError> {
     assert!(rt; body.len() == 1048576);
     let mut code = no_code(alloc);
     place(&mut code, WIDEST, &body)?;
-    assert!(rt; refusal_of(alloc, code)? == 0);
+    assert!(rt; rejection_of(alloc, code)? == 0);
     Ok(())
 }

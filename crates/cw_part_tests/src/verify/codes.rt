@@ -145,7 +145,7 @@ pub fn place_all(code: &mut Code, all: &[Placed]) -> Result<(), AllocError> {
 }
 
 /// Returns the number of the fault of a code, or 0 if it is well-formed.
-pub fn refusal_of(alloc: Global, code: Code) -> Result<u8, AllocError> {
+pub fn rejection_of(alloc: Global, code: Code) -> Result<u8, AllocError> {
     match verify(alloc, code) {
         Ok(_) => Ok(0),
         Err(e) => Ok(e.number()),

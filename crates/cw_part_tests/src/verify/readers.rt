@@ -1,7 +1,8 @@
 //! Which small codes are well-formed that lend arrays to calls which read them.
 
 use crate::verify::codes::{
-    Frame, GIVING, NOTHING, Placed, add_frame, end_function, no_code, place, place_all, refusal_of,
+    Frame, GIVING, NOTHING, Placed, add_frame, end_function, no_code, place, place_all,
+    rejection_of,
 };
 use Step::{Call, CallOnTwo, Cut, Just, Pass, Spawn, SpawnPassed, Start, TakeOne};
 use cw_code::code::{BlockKind, Callee, Code, Func, Halves, Inner, Instr, Loan};
@@ -224,7 +225,7 @@ fn place_tried(alloc: Global, code: &mut Code, steps: &[Step]) -> Result<(), All
 fn refusal(alloc: Global, steps: &[Step]) -> Result<u8, AllocError> {
     let mut code = no_code(alloc);
     place_tried(alloc, &mut code, steps)?;
-    refusal_of(alloc, code)
+    rejection_of(alloc, code)
 }
 
 /// The body of such a function, and the number of its fault, or 0 if it is well-formed.
@@ -258,7 +259,7 @@ fn elements(rt: HostRuntime) -> Result<(), AllocError> {
 fn a_main_that_reads_an_array(rt: HostRuntime) -> Result<(), AllocError> {
     let mut code = no_code(rt.alloc());
     place(&mut code, READING, &GIVES)?;
-    assert_eq!(rt; refusal_of(rt.alloc(), code)?, 6);
+    assert_eq!(rt; rejection_of(rt.alloc(), code)?, 6);
     Ok(())
 }
 
@@ -399,7 +400,7 @@ fn place_two(code: &mut Code, f: Func) -> Result<(), AllocError> {
 }
 
 /// Returns the number of the fault of a function with these numbers of array slots and lent arrays, which uses none.
-fn refusal_of_many(alloc: Global, arrays: usize, readers: usize) -> Result<u8, AllocError> {
+fn rejection_of_many(alloc: Global, arrays: usize, readers: usize) -> Result<u8, AllocError> {
     let mut code = no_code(alloc);
     let f = Func {
         arrays,
@@ -407,7 +408,7 @@ fn refusal_of_many(alloc: Global, arrays: usize, readers: usize) -> Result<u8, A
         ..GIVING
     };
     place_two(&mut code, f)?;
-    refusal_of(alloc, code)
+    rejection_of(alloc, code)
 }
 
 /// The array slots of a function, its lent arrays, and the number of its fault.
@@ -427,7 +428,7 @@ static MANY: [(usize, usize, u8); 8] = [
 #[test]
 fn many(rt: HostRuntime) -> Result<(), AllocError> {
     for (k, (arrays, readers, number)) in MANY.iter().enumerate() {
-        let refused = refusal_of_many(rt.alloc(), *arrays, *readers)?;
+        let refused = rejection_of_many(rt.alloc(), *arrays, *readers)?;
         assert_eq!(rt; refused, *number, "row {k}");
     }
     Ok(())

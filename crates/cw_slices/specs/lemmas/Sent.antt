@@ -23,7 +23,7 @@ use Rattle.std_heap.specs.contracts.GlobalAllocator.TheImpl.{ghosts}
 use Rattle.std.proofs.Crossing.{frees}
 use Rattle.cw_slices.specs.Memory.{right_owned, cell_owned, cells_in}
 use Rattle.cw_slices.specs.Blocks.{Lodged, lodged_code}
-use Rattle.cw_slices.specs.contracts.kept.Kept as Kept
+use Rattle.cw_slices.specs.contracts.cell_row.CellRow as CellRow
 use Rattle.cw_slices.specs.contracts.block.ArrayBlock as Block
 use Rattle.cw_slices.specs.contracts.block.ArrayBlock.TheInside as BlockInside
 use Rattle.cw_slices.specs.contracts.cells.Cells as Hold
@@ -97,9 +97,9 @@ kept_keyless [] ds p = tt
 kept_keyless (c ∷ cs) [] p = tt
 kept_keyless (c ∷ cs) (d ∷ ds) p = (cell_keyless p c d, kept_keyless cs ds _)
 
-pub kept_send : IsSend Kept.the_row
+pub kept_send : IsSend CellRow.the_row
 kept_send =
-    owning_send Kept.the_type (search sendable)
+    owning_send CellRow.the_type (search sendable)
     (λ d. (tt, inside d.ptr (cells_in d.ptr d.cells d.rights) (kept_keyless d.cells d.rights d.ptr)))
     (λ k x w. tt)
 

@@ -1,6 +1,6 @@
 use Rattle.std.proofs.Common.{refl, subst}
 use Rattle.cw_report.specs.Sinks.{WritesAll, WritesPart}
-use Rattle.cw_cli.specs.Tools.{TriesText, IsRefusal, whole, cut_short}
+use Rattle.cw_cli.specs.Tools.{TriesText, IsFaultReport, whole, cut_short}
 use Rattle.cw_cli.proofs.Tools.{tries}
 use Rattle.cw_cli.proofs.responses.say.Goals as goal
 
@@ -16,7 +16,7 @@ returns-in-Err g c =
     let seen = g.W.Sink.seen in
     let old = c.args.out.now in
     let new = c.write_text.new.to in
-    let refusal = subst (λ f. IsRefusal g.E.Sink.seen c.args.err.now c.refuse.new.err f c.refuse.result) c.in-Err.ensures.writes.0 c.refuse.ensures in
+    let refusal = subst (λ f. IsFaultReport g.E.Sink.seen c.args.err.now c.refuse.new.err f c.refuse.result) c.in-Err.ensures.writes.0 c.refuse.ensures in
     rw (c.in-Help.is) (cut_short (subst (λ t. WritesPart (seen old) (seen new) t) c.as_bytes.ensures.value c.in-Err.ensures.writes.1) refusal)
 
 pub returns-in-Misuse : goal.returns-in-Misuse

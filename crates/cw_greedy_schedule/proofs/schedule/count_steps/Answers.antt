@@ -18,7 +18,7 @@ overflow_add-steps c =
     let g = still_going c.args.processors b.0 c.loop-taken._taken c.loop-taken.steps c.args.strands.now c.loop-taken.flags c.loop-taken.board (omega (arith, n.0))
     (c.loop-taken.invariant b.0 b.1) in
     let a = advances_on c.args.processors b.0 c.loop-taken._taken c.loop-taken.steps c.advance-steps.result c.args.strands.now c.loop-taken.flags c.loop-taken.board
-    c.advance-steps.new.self c.lists_show_boards.ensures (c.rounds_keep_the_length.ensures c.args.processors c.requires.processors) g c.advance-steps.ensures.advances in
+    c.advance-steps.new.self c.lists_show_boards.ensures (c.rounds_preserve_length.ensures c.args.processors c.requires.processors) g c.advance-steps.ensures.advances in
     let f = steps_fit c.args.processors b.0 c.loop-taken._taken (c.loop-taken.steps + c.advance-steps.result) c.args.strands.now c.loop-taken.flags c.advance-steps.new.self a in
     omega (arith, f, b.1.fits)
 
@@ -29,7 +29,7 @@ take-requires-clause-state c =
     let g = still_going c.args.processors b.0 c.loop-taken._taken c.loop-taken.steps c.args.strands.now c.loop-taken.flags c.loop-taken.board (omega (arith, n.0))
     (c.loop-taken.invariant b.0 b.1) in
     let a = advances_on c.args.processors b.0 c.loop-taken._taken c.loop-taken.steps c.advance-steps.result c.args.strands.now c.loop-taken.flags c.loop-taken.board
-    c.advance-steps.new.self c.lists_show_boards.ensures (c.rounds_keep_the_length.ensures c.args.processors c.requires.processors) g c.advance-steps.ensures.advances in
+    c.advance-steps.new.self c.lists_show_boards.ensures (c.rounds_preserve_length.ensures c.args.processors c.requires.processors) g c.advance-steps.ensures.advances in
     (b.0, advanced_state c.args.processors b.0 c.loop-taken._taken (c.loop-taken.steps + c.advance-steps.result) c.args.strands.now c.loop-taken.flags c.advance-steps.new.self a)
 
 pub loop-taken-init : goal.loop-taken-init
@@ -40,7 +40,7 @@ loop-taken-preserved c = λ block h.
     let n = stands_lengths block (start block) c.args.strands.now c.args.flags.now c.args.board.now h.stands in
     let g = still_going c.args.processors block c.loop-taken._taken c.loop-taken.steps c.args.strands.now c.loop-taken.flags c.loop-taken.board (omega (arith, n.0))
     (c.loop-taken.invariant block h) in
-    let keep = c.rounds_keep_the_length.ensures c.args.processors c.requires.processors in
+    let keep = c.rounds_preserve_length.ensures c.args.processors c.requires.processors in
     let a = advances_on c.args.processors block c.loop-taken._taken c.loop-taken.steps c.advance-steps.result c.args.strands.now c.loop-taken.flags c.loop-taken.board
     c.advance-steps.new.self c.lists_show_boards.ensures keep g c.advance-steps.ensures.advances in
     takes_off c.args.processors block c.loop-taken._taken (c.loop-taken.steps + c.advance-steps.result) c.args.strands.now c.loop-taken.flags c.take.new.flags

@@ -30,7 +30,7 @@ weigh-requires c =
     let kept = c.in_ok-strands.strands in
     let ran : Records code c.args.args.now c.args.n kept = subst (RecordsAsCode code c.args.args.now c.args.n) c.in_ok-strands.was c.requires in
     let k = record_kept ran.tree kept (c.fits.ensures.0 c.if-not-fits.false) ran.is_kept in
-    let few = within code c.cost_is_the_work_that_is_shown.ensures c.normal_form_reads_the_same.ensures c.args.args.now c.args.n ran.tree (ends_so code c.args.args.now c.args.n kept ran) in
+    let few = within code c.cost_is_the_work_of_the_effect.ensures c.normal_form_reads_the_same.ensures c.args.args.now c.args.n ran.tree (ends_so code c.args.args.now c.args.n kept ran) in
     (ran.tree, (k.1, at_most code c.args.args.now c.args.n c.args.processors (work ran.tree) asked few))
 
 pub greedy-requires-clause-kept : goal.greedy-requires-clause-kept
@@ -40,7 +40,7 @@ greedy-requires-clause-kept c =
     let kept = c.in_ok-strands.strands in
     let ran : Records code c.args.args.now c.args.n kept = subst (RecordsAsCode code c.args.args.now c.args.n) c.in_ok-strands.was c.requires in
     let k = record_kept ran.tree kept (c.fits.ensures.0 c.if-not-fits.false) ran.is_kept in
-    let few = within code c.cost_is_the_work_that_is_shown.ensures c.normal_form_reads_the_same.ensures c.args.args.now c.args.n ran.tree (ends_so code c.args.args.now c.args.n kept ran) in
+    let few = within code c.cost_is_the_work_of_the_effect.ensures c.normal_form_reads_the_same.ensures c.args.args.now c.args.n ran.tree (ends_so code c.args.args.now c.args.n kept ran) in
     (ran.tree, (k.1, at_most code c.args.args.now c.args.n c.args.processors (work ran.tree) asked few))
 
 pub returns : goal.returns

@@ -8,7 +8,7 @@ use Rattle.cw_machine.specs.declared.machine.Moved.TheVariants as moved
 use Rattle.cw_machine.specs.Arrays.{alone as from_main}
 use Rattle.cw_machine.proofs.FromMain.{as_many_asked, main_of, asked_of, is_over, was_over, IsTrapped-prop, was_trapped, asked_as}
 use Rattle.cw_machine.proofs.Given.{passed, stopped}
-use Rattle.cw_machine.proofs.Keeping.{by_machine}
+use Rattle.cw_machine.proofs.RecordRelation.{by_machine}
 use Rattle.cw_machine.proofs.EndsAs.{begins, came, ended}
 use Rattle.cw_machine.proofs.listener.listen.Goals as goal
 

@@ -6,7 +6,7 @@ use Rattle.cw_tree.specs.Resolved as spec
 use Rattle.cw_tree.specs.ResolvedView.{expr_of, stmt_of, block_of}
 use Rattle.cw_own.specs.Bounds.{small_stmt, small_block}
 use Rattle.cw_own.specs.Sets.{row_of}
-use Rattle.cw_own.specs.Taken.{none_held, held_within, held_of, turns, turns_in, after_all, known_after, gain}
+use Rattle.cw_own.specs.Taken.{no_restrictions, restrictions_within, restrictions_of, turns, turns_in, after_all, known_after, gain}
 use Rattle.cw_own.proofs.Small.{appended}
 use Rattle.cw_own.proofs.Branches.{if_else_is, line_is}
 use Rattle.cw_own.proofs.Turns.{set_kept}
@@ -16,15 +16,15 @@ pub after_while-returns-clause-gains : goal.after_while-returns-clause-gains
 after_while-returns-clause-gains t c = λ done.
     let known = row_of c.args.known.now in
     let body = turns_in known (block_of c.args.lines.now) in
-    let before = map held_of c.args.gains.now.rows.items in
+    let before = map restrictions_of c.args.gains.now.rows.items in
     let inner = c.after_block.ensures.gains (sym c.set.ensures.complete ∙ done) in
     let place = c.keep-place.ensures.grown inner.0 in
-    let own : held_of c.after_block.new.here ≡ gain known (block_of c.args.lines.now) =
-    c.after_block.ensures.row ∙ ap (λ r. held_within known (after_all known (block_of c.args.lines.now) r)) c.none-gain.ensures in (
+    let own : restrictions_of c.after_block.new.here ≡ gain known (block_of c.args.lines.now) =
+    c.after_block.ensures.row ∙ ap (λ r. restrictions_within known (after_all known (block_of c.args.lines.now) r)) c.none-gain.ensures in (
       place.0,
-      ap (map held_of) c.set.ensures.rows
-          ∙ ap (λ n. map held_of (slice_set c.after_block.new.gains.rows.items n c.after_block.new.here)) c.keep-place.ensures.place
-          ∙ set_kept c.after_block.new.gains.rows.items c.args.gains.now.rows.items none_held c.after_block.new.here body (inner.1 ∙ ap (λ r. r ++ body) place.1)
+      ap (map restrictions_of) c.set.ensures.rows
+          ∙ ap (λ n. map restrictions_of (slice_set c.after_block.new.gains.rows.items n c.after_block.new.here)) c.keep-place.ensures.place
+          ∙ set_kept c.after_block.new.gains.rows.items c.args.gains.now.rows.items no_restrictions c.after_block.new.here body (inner.1 ∙ ap (λ r. r ++ body) place.1)
           ∙ ap (λ g. before ++ g ∷ body) own,
     )
 
@@ -39,17 +39,17 @@ after_all-loop-line-preserved t c =
     let next : row_of c.know.new.known ≡ known_after known s = c.know.ensures in
     record {
       small = second_true (small_stmt s) (small_block (block_of rest)) (ap small_block (sym split) ∙ c.loop-line.invariant.small);
-      row = ap (λ k. after_all k (block_of rest) (held_of c.after.new.here)) next
+      row = ap (λ k. after_all k (block_of rest) (restrictions_of c.after.new.here)) next
           ∙ ap (after_all (known_after known s) (block_of rest)) c.after.ensures.row
-          ∙ ap (λ b. after_all known b (held_of c.loop-line.here)) (sym split)
+          ∙ ap (λ b. after_all known b (restrictions_of c.loop-line.here)) (sym split)
           ∙ c.loop-line.invariant.row;
       complete = λ done. c.loop-line.invariant.complete (c.after.ensures.gains done).0;
       gains = λ done.
           let grown = c.after.ensures.gains done in
-          ap (λ k. map held_of c.after.new.gains.rows.items ++ turns_in k (block_of rest)) next
+          ap (λ k. map restrictions_of c.after.new.gains.rows.items ++ turns_in k (block_of rest)) next
           ∙ ap (λ r. r ++ turns_in (known_after known s) (block_of rest)) grown.1
-          ∙ appended (map held_of c.loop-line.gains.rows.items) (turns known s) (turns_in (known_after known s) (block_of rest))
-          ∙ ap (λ b. map held_of c.loop-line.gains.rows.items ++ turns_in known b) (sym split)
+          ∙ appended (map restrictions_of c.loop-line.gains.rows.items) (turns known s) (turns_in (known_after known s) (block_of rest))
+          ∙ ap (λ b. map restrictions_of c.loop-line.gains.rows.items ++ turns_in known b) (sym split)
           ∙ c.loop-line.invariant.gains grown.0;
     }
 
@@ -75,7 +75,7 @@ after_either-returns-in-IfElse-clause-gains t c = λ done.
     let known = row_of c.args.known.now in
     let b = block_of c.in-IfElse.block.items in
     let d = block_of c.in-IfElse.other.value.items in
-    let before = map held_of c.args.gains.now.rows.items in
+    let before = map restrictions_of c.args.gains.now.rows.items in
     let e : stmt_of c.args.stmt.now ≡ spec.IfElse (expr_of c.in-IfElse.field-0) b d = ap stmt_of c.in-IfElse.is ∙ if_else_is c.in-IfElse.field-0 c.in-IfElse.block c.in-IfElse.other in
     let here : c.deref-in-IfElse-2.result.now ≡ c.in-IfElse.other.value.items = c.deref-in-IfElse-2.ensures.value ∙ ap (λ v. v.items) c.deref-in-IfElse.ensures in
     let second = c.after_block-in-IfElse.ensures.gains done in

@@ -17,7 +17,7 @@ returns-clause-lines c =
     let few = nat_le (length f.params) MOST_PARAMETERS in
     let past = declared_past f in
     let n = recorded_line c.note.new.self in
-    c.note_least.ensures.lines
+    c.record_least.ensures.lines
     ∙ ap (λ o. lowest n (option_to_list o)) c.declared_beyond.ensures
     ∙ lowest_least n past
     ∙ ap (λ o. lowest o past) (c.note.ensures.lines ∙ ap (λ b. lowest old (unless b f.line)) (denied (is_some c.many_params.result) few c.many_params.ensures.decides))
@@ -27,6 +27,6 @@ pub returns-clause-told : goal.returns-clause-told
 returns-clause-told c =
     let f = function_of c.args.function.now in
     let Such = IsPassedByFunction f in
-    and_then Such c.args.told.now c.note.new.self c.note_least.new.self
+    and_then Such c.args.told.now c.note.new.self c.record_least.new.self
     (found_true Such c.args.told.now c.note.new.self f.line c.many_params.result c.many_params.ensures.holds c.note.ensures.told)
-    (least_true Such c.note.new.self c.note_least.new.self c.declared_beyond.result.line (declared_past f) _ c.declared_beyond.ensures (λ line h. (refl, h)) c.note_least.ensures.told)
+    (least_true Such c.note.new.self c.record_least.new.self c.declared_beyond.result.line (declared_past f) _ c.declared_beyond.ensures (λ line h. (refl, h)) c.record_least.ensures.told)

@@ -5,7 +5,7 @@ use Rattle.cw_model.specs.Lines.{lowest, unless}
 use Rattle.cw_model.specs.Syntax.{Name}
 use Rattle.cw_model.specs.lemmas.Lowest.{lowest-append}
 use Rattle.cw_types.specs.Limits.{IsLongTag, IsPassedByRegions}
-use Rattle.cw_types.specs.Noted.{long_tag}
+use Rattle.cw_types.specs.AreRecorded.{long_tag}
 use Rattle.cw_types.specs.Regions.{region_of, regions_of}
 use Rattle.cw_types.specs.RecordingLines.{recorded_line}
 use Rattle.cw_types.specs.declared.reason.TooLarge.{TooLarge}

@@ -8,7 +8,7 @@ loop-param-preserved c = λ more.
     let line : ℕ = c.args.line in
     let rest : List ℕ = map (λ _. line) (drop (c.loop-param._param-index + 1) c.args.params.now) in
     let split : map (λ _. line) (drop c.loop-param._param-index c.args.params.now) ≡ line ∷ rest = grind (arith, common_steps) in
-    c.note_past-left.ensures (rest ++ more)
+    c.record_past-left.ensures (rest ++ more)
     ∙ ap (λ ls. lowest c.loop-param.least.line (drop c.loop-param.left (ls ++ more))) (sym split)
     ∙ c.loop-param.invariant more
 

@@ -3,7 +3,7 @@ use Rattle.std.proofs.lemmas.Grind.{common_steps}
 use Rattle.cw_model.specs.Lines.{lowest}
 use Rattle.cw_model.specs.Syntax.{Name}
 use Rattle.cw_types.specs.declared.regions.Marked.{Marked}
-use Rattle.cw_types.specs.Noted.{places_behind}
+use Rattle.cw_types.specs.AreRecorded.{places_behind}
 use Rattle.cw_types.specs.Regions.{region_of, regions_of}
 use Rattle.cw_types.proofs.limits.tags_beyond.Goals as goal
 

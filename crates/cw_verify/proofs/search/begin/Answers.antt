@@ -3,7 +3,7 @@ use Rattle.std.specs.Prelude.{List, Option, replicate}
 use Rattle.cw_code.specs.Fits.{first_shape}
 use Rattle.cw_verify.specs.declared.found.Found.{Found}
 use Rattle.cw_verify.specs.Numbers.{Names, AreNumbered, IsPair}
-use Rattle.cw_verify.specs.Table.{IsNoted, pcs_of, shapes_of}
+use Rattle.cw_verify.specs.Table.{IsAddedToWork, pcs_of, shapes_of}
 use Rattle.cw_verify.proofs.Numbering.{none_numbered}
 use Rattle.cw_verify.proofs.Spreading.{begun}
 use Rattle.cw_verify.proofs.search.begin.Goals as goal
@@ -18,7 +18,7 @@ returns-clause-begins c =
     let is : c.loop-i.found.items ≡ Some first ∷ none = c.loop-i.invariant ∙ ap (λ l. l ++ none) (c.in_ok-push.ensures.items ∙ ap (λ l. l ++ Some first ∷ []) c.new-found.ensures.items) in
     record {
       shapes = begun c.loop-i.found.items first n f is c.in_ok-first.ensures ∙ ap (λ k. Some (first_shape f) ∷ replicate k None) many;
-      work = subst (λ l. IsNoted 0 l (pcs_of c.push-2.new.self)) c.in_ok-work.ensures c.in_ok-push-3.ensures;
+      work = subst (λ l. IsAddedToWork 0 l (pcs_of c.push-2.new.self)) c.in_ok-work.ensures c.in_ok-push-3.ensures;
     }
 
 pub returns-clause-known : goal.returns-clause-known

@@ -3,7 +3,7 @@ use Rattle.cw_freed.specs.Freeing.{BeginsCall, BeginsChild, BeginsHalf, BeginsQu
 use Rattle.cw_machine.specs.declared.freed.Freeing.{Freeing}
 use Rattle.cw_machine.specs.Listening.{IsNotifiedOf}
 use Rattle.cw_machine.specs.Freed.{is_freed, Asked, FreesRun}
-use Rattle.cw_machine.proofs.Keeping.{began, on_ok}
+use Rattle.cw_machine.proofs.RecordRelation.{began, on_ok}
 use Rattle.cw_machine.proofs.Freeings.{with_meter, quiet, told_call, told_spawn, told_recur, told_half}
 use Rattle.cw_machine.proofs.freed.FreeingListener.on_instruction.Goals as goal
 

@@ -1,5 +1,5 @@
 use Rattle.std.proofs.Common.{◌∙◌, ap, sym}
-use Rattle.cw_meter.specs.Details.{keeps_values}
+use Rattle.cw_meter.specs.Details.{records_only_values}
 use Rattle.cw_meter.proofs.DetailLaws.{call_recorded}
 use Rattle.cw_meter.proofs.meter.Meter.open_call.Goals as goal
 
@@ -8,4 +8,4 @@ returns-in_ok-call c =
     let mid = c.count_part.new.self in
     let r = c.call.new.self in
     let opens = c.count_part.ensures in
-    call_recorded c.args.self.now mid r c.args.count c.args._site (record { counts = c.requires; values = ap keeps_values (sym c.count_part.ensures.detail) ∙ sym c.keeps_values.ensures ∙ c.if-not-keeps_values.true }) opens c.in_ok-call.ensures
+    call_recorded c.args.self.now mid r c.args.count c.args._site (record { counts = c.requires; values = ap records_only_values (sym c.count_part.ensures.detail) ∙ sym c.records_only_values.ensures ∙ c.if-not-records_only_values.true }) opens c.in_ok-call.ensures

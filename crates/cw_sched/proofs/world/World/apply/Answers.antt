@@ -2,7 +2,7 @@ use Rattle.std.proofs.Common.{◌≡◌, true, sym, subst, rules}
 use Rattle.std.specs.Prelude.{Ok}
 use Rattle.cw_sched.specs.declared.event.Event.TheVariants as event
 use Rattle.cw_sched.specs.Scenes.{scene}
-use Rattle.cw_sched.specs.Lacking.{KeepsMemory}
+use Rattle.cw_sched.specs.Lacking.{PreservesMemory}
 use Rattle.cw_sched.specs.Table.{is_possible}
 use Rattle.cw_sched.specs.MemoryNeeds.{MayNeedMemory}
 use Rattle.cw_sched.specs.Worlds.{IsForMemory}
@@ -109,35 +109,35 @@ returns-in-Collect-clause-stays c = world_stays c.args.self.now c.collect.new.se
 
 pub returns-in-Run-clause-keeps : goal.returns-in-Run-clause-keeps
 returns-in-Run-clause-keeps c =
-    subst (λ e. KeepsMemory e (scene c.args.self.now) (scene c.run.new.self)) (sym c.in-Run.is)
+    subst (λ e. PreservesMemory e (scene c.args.self.now) (scene c.run.new.self)) (sym c.in-Run.is)
     (world_keeps c.args.self.now c.run.new.self (event.Run c.in-Run.w) c.run.result c.run.ensures.does)
 
 pub returns-in-Offer-clause-keeps : goal.returns-in-Offer-clause-keeps
 returns-in-Offer-clause-keeps c =
-    subst (λ e. KeepsMemory e (scene c.args.self.now) (scene c.offer.new.self)) (sym c.in-Offer.is)
+    subst (λ e. PreservesMemory e (scene c.args.self.now) (scene c.offer.new.self)) (sym c.in-Offer.is)
     (world_keeps c.args.self.now c.offer.new.self (event.Offer c.in-Offer.w) c.offer.result c.offer.ensures.does)
 
 pub returns-in-Inline-clause-keeps : goal.returns-in-Inline-clause-keeps
 returns-in-Inline-clause-keeps c =
-    subst (λ e. KeepsMemory e (scene c.args.self.now) (scene c.inline.new.self)) (sym c.in-Inline.is)
+    subst (λ e. PreservesMemory e (scene c.args.self.now) (scene c.inline.new.self)) (sym c.in-Inline.is)
     (world_keeps c.args.self.now c.inline.new.self (event.Inline c.in-Inline.w) (Ok tt) c.inline.ensures.does)
 
 pub returns-in-Retake-clause-keeps : goal.returns-in-Retake-clause-keeps
 returns-in-Retake-clause-keeps c =
-    subst (λ e. KeepsMemory e (scene c.args.self.now) (scene c.retake.new.self)) (sym c.in-Retake.is)
+    subst (λ e. PreservesMemory e (scene c.args.self.now) (scene c.retake.new.self)) (sym c.in-Retake.is)
     (world_keeps c.args.self.now c.retake.new.self (event.Retake c.in-Retake.w) (Ok tt) c.retake.ensures.does)
 
 pub returns-in-Steal-clause-keeps : goal.returns-in-Steal-clause-keeps
 returns-in-Steal-clause-keeps c =
-    subst (λ e. KeepsMemory e (scene c.args.self.now) (scene c.steal.new.self)) (sym c.in-Steal.is)
+    subst (λ e. PreservesMemory e (scene c.args.self.now) (scene c.steal.new.self)) (sym c.in-Steal.is)
     (world_keeps c.args.self.now c.steal.new.self (event.Steal c.in-Steal.w c.in-Steal.v) c.steal.result c.steal.ensures.does)
 
 pub returns-in-Settle-clause-keeps : goal.returns-in-Settle-clause-keeps
 returns-in-Settle-clause-keeps c =
-    subst (λ e. KeepsMemory e (scene c.args.self.now) (scene c.settle.new.self)) (sym c.in-Settle.is)
+    subst (λ e. PreservesMemory e (scene c.args.self.now) (scene c.settle.new.self)) (sym c.in-Settle.is)
     (world_keeps c.args.self.now c.settle.new.self (event.Settle c.in-Settle.w) c.settle.result c.settle.ensures.does)
 
 pub returns-in-Collect-clause-keeps : goal.returns-in-Collect-clause-keeps
 returns-in-Collect-clause-keeps c =
-    subst (λ e. KeepsMemory e (scene c.args.self.now) (scene c.collect.new.self)) (sym c.in-Collect.is)
+    subst (λ e. PreservesMemory e (scene c.args.self.now) (scene c.collect.new.self)) (sym c.in-Collect.is)
     (world_keeps c.args.self.now c.collect.new.self (event.Collect c.in-Collect.w) (Ok tt) c.collect.ensures.does)

@@ -25,7 +25,7 @@ hand_out-requires c =
     (subst (λ l. ∥ MayHand (its_code self) c.shell.new.self.run.machine l c.loans_named-loans.result.now ∥₁) (sym slots)
     (subst (λ l. ∥ MayHand (its_code self) c.shell.new.self.run.machine (listed (its_code self) passed) l ∥₁) (sym loans)
     (subst (λ (r : Run). ∥ MayHand (its_code self) r.machine (listed (its_code self) passed) (loans_of (its_code self) lent) ∥₁) (sym stays.run)
-    (may_hand_out c.calls_on_a_strand_keep_its_job.ensures self c.args.end c.args.spawn.now c.requires.comes))))
+    (may_hand_out c.calls_preserve_strand_job.ensures self c.args.end c.args.spawn.now c.requires.comes))))
 
 pub address-requires : goal.address-requires
 address-requires c =

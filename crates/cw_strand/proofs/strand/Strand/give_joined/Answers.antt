@@ -24,7 +24,7 @@ returns-then-passes-clause-running c =
     let given = c.requires.given in
     let newest = newest_of self given.out given.others given.are in
     let popped = c.return_newest.new.self in
-    passes_runs self given.out given.others newest c.requires.running (effect.Joined c.args.frame c.args.replaced c.args.shown) given.means c.args.frame.slices.items c.args.replaced.items (refl, refl) c.requires.waiting c.machines_that_stop_remain.ensures.remain c.calls_on_a_strand_keep_its_job.ensures
+    passes_runs self given.out given.others newest c.requires.running (effect.Joined c.args.frame c.args.replaced c.args.shown) given.means c.args.frame.slices.items c.args.replaced.items (refl, refl) c.requires.waiting c.machines_that_stop_remain.ensures.remain c.calls_preserve_strand_job.ensures
     (record popped { mode = mode.Over }) (mode_back self c.args.frame.slices.items c.args.replaced.items popped c.return_newest.ensures) refl c.args.shown.cost refl (sym c.passes.ensures ∙ c.if-passes.true)
 
 pub returns-then-passes-clause-outs : goal.returns-then-passes-clause-outs
@@ -52,7 +52,7 @@ returns-in-Ok-clause-running c =
     let code : c.deref-2.result.now ≡ its_code self = c.deref-2.ensures ∙ ap (λ q. code_of q) c.deref.ensures ∙ c.requires.running.keeps.code in
     join_runs self given.out given.others newest c.requires.running c.requires.waiting c.rests_stay_in_their_functions.ensures c.runs_stay_in_their_functions.ensures.seats c.results_may_go_back.ensures
     (effect.Joined c.args.frame c.args.replaced c.args.shown) given.means c.args.frame c.args.replaced.items c.args.shown (refl, refl, refl)
-    c.calls_on_a_strand_keep_its_job.ensures c.calls_keep_meter_records.ensures r
+    c.calls_preserve_strand_job.ensures c.calls_keep_meter_records.ensures r
     (subst (λ h. HasJoined self.run (its_code self) self.count c.args.frame c.args.replaced.items h c.args.shown r) (c.home_of-home.ensures ∙ ap home_of popped.result)
     (subst (λ v. HasJoined self.run v self.count c.args.frame c.args.replaced.items c.home_of-home.result c.args.shown r) code c.in-Ok.ensures))
     (sym c.passes.ensures ∙ c.if-passes.false)
@@ -63,7 +63,7 @@ returns-clause-running c =
     let self = c.args.self.now in
     let given = c.requires.given in
     let newest = newest_of self given.out given.others given.are in
-    lost_runs self given.out given.others newest c.requires.running c.calls_on_a_strand_keep_its_job.ensures (record self { run = c.join_rest.new.run; lent = c.pop.new.self; mode = mode.Memory }) (record {
+    lost_runs self given.out given.others newest c.requires.running c.calls_preserve_strand_job.ensures (record self { run = c.join_rest.new.run; lent = c.pop.new.self; mode = mode.Memory }) (record {
       of = refl;
       parts = refl;
       count = refl;

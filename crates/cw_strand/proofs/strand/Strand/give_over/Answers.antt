@@ -21,7 +21,7 @@ returns-clause-running c =
     let newest = newest_of self given.out given.others given.are in
     let popped = c.return_newest.new.self in
     let home = subst (λ r. HasReturnedNewest self c.args.back.items r popped) c.new-none.ensures.items c.return_newest.ensures in
-    limit_runs self given.out given.others newest c.requires.running (effect.OverLimit c.args.back) given.means c.args.back.items [] (refl, refl) c.requires.waiting c.machines_that_stop_remain.ensures.remain c.calls_on_a_strand_keep_its_job.ensures
+    limit_runs self given.out given.others newest c.requires.running (effect.OverLimit c.args.back) given.means c.args.back.items [] (refl, refl) c.requires.waiting c.machines_that_stop_remain.ensures.remain c.calls_preserve_strand_job.ensures
     (record popped { mode = mode.Over }) (mode_back self c.args.back.items [] popped home) refl tt
 
 pub returns-clause-outs : goal.returns-clause-outs

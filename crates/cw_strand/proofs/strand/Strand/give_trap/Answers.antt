@@ -26,7 +26,7 @@ returns-then-passes-clause-running c =
     let newest = newest_of self given.out given.others given.are in
     let popped = c.return_newest.new.self in
     let home = subst (λ r. HasReturnedNewest self c.args.back.items r popped) c.new-none.ensures.items c.return_newest.ensures in
-    passes_runs self given.out given.others newest c.requires.running (effect.Trapped c.args.trap c.args.line c.args.lines c.args.cost c.args.back) given.means c.args.back.items [] (refl, refl) c.requires.waiting c.machines_that_stop_remain.ensures.remain c.calls_on_a_strand_keep_its_job.ensures
+    passes_runs self given.out given.others newest c.requires.running (effect.Trapped c.args.trap c.args.line c.args.lines c.args.cost c.args.back) given.means c.args.back.items [] (refl, refl) c.requires.waiting c.machines_that_stop_remain.ensures.remain c.calls_preserve_strand_job.ensures
     (record popped { mode = mode.Over }) (mode_back self c.args.back.items [] popped home) refl c.args.cost refl (sym c.passes.ensures ∙ c.if-passes.true)
 
 pub returns-then-passes-clause-outs : goal.returns-then-passes-clause-outs
@@ -54,7 +54,7 @@ returns-in-Ok-clause-running c =
     trap_runs self given.out given.others newest c.requires.running c.requires.waiting c.machines_that_stop_remain.ensures.remain (effect.Trapped c.args.trap c.args.line c.args.lines c.args.cost c.args.back) given.means
     c.args.trap c.args.line c.args.lines.items c.args.cost c.args.back.items (refl, refl, refl, refl, refl) mid
     (ap (λ (m : Machine). record self { run = record self.run { machine = m } }) c.in-Ok.ensures.rest) c.in-Ok.ensures.lines_are
-    c.calls_on_a_strand_keep_its_job.ensures (record popped { count = popped.count + c.args.cost; mode = mode.Trapped c.args.trap c.args.line }) popped home (sym c.passes.ensures ∙ c.if-passes.false)
+    c.calls_preserve_strand_job.ensures (record popped { count = popped.count + c.args.cost; mode = mode.Trapped c.args.trap c.args.line }) popped home (sym c.passes.ensures ∙ c.if-passes.false)
     (ap (λ n. record popped { count = n + c.args.cost; mode = mode.Trapped c.args.trap c.args.line }) home.count)
 
 pub returns-in-Ok-clause-outs : goal.returns-in-Ok-clause-outs
@@ -66,7 +66,7 @@ returns-clause-running c =
     let given = c.requires.given in
     let newest = newest_of self given.out given.others given.are in
     let lost = c.lose.ensures in
-    lost_runs self given.out given.others newest c.requires.running c.calls_on_a_strand_keep_its_job.ensures c.lose.new.self
+    lost_runs self given.out given.others newest c.requires.running c.calls_preserve_strand_job.ensures c.lose.new.self
     (record { of = lost.of; parts = lost.parts; count = lost.count; spares = lost.spares; mode = lost.mode; left = lost.left })
 
 pub returns-clause-outs : goal.returns-clause-outs

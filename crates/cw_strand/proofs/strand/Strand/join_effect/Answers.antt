@@ -11,7 +11,7 @@ use Rattle.cw_strand.proofs.strand.Strand.join_effect.Goals as goal
 
 pub finish-requires-clause-can : goal.finish-requires-clause-can
 finish-requires-clause-can c =
-    can_end c.calls_on_a_strand_keep_its_job.ensures c.args.self.now c.args.end c.rests_stay_in_their_functions.ensures c.runs_stay_in_their_functions.ensures.seats c.requires.comes
+    can_end c.calls_preserve_strand_job.ensures c.args.self.now c.args.end c.rests_stay_in_their_functions.ensures c.runs_stay_in_their_functions.ensures.seats c.requires.comes
     (length c.replace-frame.result.slices.items) (ap (λ (r : Rest). length r.slices.items) (sym (c.replace-frame.ensures.value ∙ ap (λ (q : Parts). q.rest) c.deref_mut.ensures.value)))
 
 pub returns-in-Ok-clause-means : goal.returns-in-Ok-clause-means
@@ -23,7 +23,7 @@ returns-in-Ok-clause-means c =
     ap (λ (r : Rest). length r.slices.items) (c.replace-frame.ensures.value ∙ ap (λ (q : Parts). q.rest) c.deref_mut.ensures.value) ∙ c.requires.comes.keeps.rest.as_many in
     let code : c.deref-2.result.now ≡ its_code self =
     c.deref-2.ensures ∙ ap (λ q. code_of q) c.deref.ensures ∙ ap (λ q. code_of q) c.deref_mut.ensures.value ∙ c.requires.comes.keeps.code in
-    join_means c.calls_on_a_strand_keep_its_job.ensures self c.args.end stay seats c.requires.comes c.calls_keep_meter_records.ensures
+    join_means c.calls_preserve_strand_job.ensures self c.args.end stay seats c.requires.comes c.calls_keep_meter_records.ensures
     (record { machine = c.finish.new.self; meter = c.trim.new.self }) c.trim.ensures c.finish.ensures.lines c.finish.ensures.totals
     (effect.Joined c.finish.new.rest c.finish.new.replaced c.shown.result) (
       subst (λ n. runs.EndsJob (its_code self) self.run.machine n c.finish.new.rest c.finish.new.replaced.items) many
@@ -32,13 +32,13 @@ returns-in-Ok-clause-means c =
     )
 
 pub returns-in-Ok-clause-none : goal.returns-in-Ok-clause-none
-returns-in-Ok-clause-none c = join_none c.calls_on_a_strand_keep_its_job.ensures c.args.self.now c.args.end c.rests_stay_in_their_functions.ensures c.runs_stay_in_their_functions.ensures.seats c.requires.comes
+returns-in-Ok-clause-none c = join_none c.calls_preserve_strand_job.ensures c.args.self.now c.args.end c.rests_stay_in_their_functions.ensures c.runs_stay_in_their_functions.ensures.seats c.requires.comes
 
 pub returns-in-Err-clause-means : goal.returns-in-Err-clause-means
 returns-in-Err-clause-means c = memory_means (its_job c.args.self.now) (effect.Memory c.new.result) tt
 
 pub returns-in-Err-clause-none : goal.returns-in-Err-clause-none
-returns-in-Err-clause-none c = join_none c.calls_on_a_strand_keep_its_job.ensures c.args.self.now c.args.end c.rests_stay_in_their_functions.ensures c.runs_stay_in_their_functions.ensures.seats c.requires.comes
+returns-in-Err-clause-none c = join_none c.calls_preserve_strand_job.ensures c.args.self.now c.args.end c.rests_stay_in_their_functions.ensures c.runs_stay_in_their_functions.ensures.seats c.requires.comes
 
 pub returns-in-Err-clause-comes : goal.returns-in-Err-clause-comes
 returns-in-Err-clause-comes c = inl c.requires.comes.going

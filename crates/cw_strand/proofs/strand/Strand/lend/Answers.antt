@@ -9,15 +9,15 @@ use Rattle.cw_strand.proofs.strand.Strand.lend.Goals as goal
 
 pub invariant_of-job : goal.invariant_of-job
 invariant_of-job c = record {
-  sound = cut_sound c.calls_on_a_strand_keep_its_job.ensures c.machines_that_stop_remain.ensures.apart c.args.self.now c.cut_out.new.self c.args.end c.args.spawn c.in-Ok.parts.value c.in-Ok.lender c.requires.comes c.in-Ok.ensures.cut;
+  sound = cut_sound c.calls_preserve_strand_job.ensures c.machines_that_stop_remain.ensures.apart c.args.self.now c.cut_out.new.self c.args.end c.args.spawn c.in-Ok.parts.value c.in-Ok.lender c.requires.comes c.in-Ok.ensures.cut;
 }
 
 pub rest-requires-clause-running : goal.rest-requires-clause-running
-rest-requires-clause-running c = spared_runs c.calls_on_a_strand_keep_its_job.ensures c.args.self.now c.cut_out.new.self c.args.end (stop.Spawned c.args.spawn) c.requires.comes c.in-Err.ensures.kept
+rest-requires-clause-running c = spared_runs c.calls_preserve_strand_job.ensures c.args.self.now c.cut_out.new.self c.args.end (stop.Spawned c.args.spawn) c.requires.comes c.in-Err.ensures.kept
 
 pub returns-in-Ok-clause-keeps : goal.returns-in-Ok-clause-keeps
 returns-in-Ok-clause-keeps c =
-    lent_step c.calls_on_a_strand_keep_its_job.ensures c.machines_that_stop_remain.ensures.apart c.args.self.now c.cut_out.new.self _ c.args.end c.args.spawn _ c.in-Ok.lender
+    lent_step c.calls_preserve_strand_job.ensures c.machines_that_stop_remain.ensures.apart c.args.self.now c.cut_out.new.self _ c.args.end c.args.spawn _ c.in-Ok.lender
     (record { job = c.of.result; home = record { lender = c.in-Ok.lender; lent = c.args.spawn.lent; target = c.args.spawn.target; floor = c.calls-floor.result } }) c.requires.comes c.in-Ok.ensures.cut c.of.ensures refl refl refl c.calls-floor.ensures refl refl refl refl refl refl c.push_reserved.ensures.items
 
 pub returns-in-Ok-clause-goes : goal.returns-in-Ok-clause-goes

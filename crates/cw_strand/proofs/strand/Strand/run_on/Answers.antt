@@ -20,7 +20,7 @@ returns-clause-comes c =
     let done = c.go_on-stop.result.1 in
     let to = c.go_on-stop.result.0 in
     let code : c.deref-2.result.now ≡ its_code self = c.deref-2.ensures ∙ ap (λ q. code_of q) c.deref.ensures ∙ c.requires.running.keeps.code in
-    run_came c.calls_on_a_strand_keep_its_job.ensures self r done c.args.limit c.hands_out-stops.result to c.requires.running c.requires.going
+    run_came c.calls_preserve_strand_job.ensures self r done c.args.limit c.hands_out-stops.result to c.requires.running c.requires.going
     (subst (λ n. GoesOn (its_code self) self.run self.count c.args.limit n c.hands_out-stops.result to done r) c.floor-floor.ensures
     (subst (λ v. GoesOn v self.run self.count c.args.limit c.floor-floor.result c.hands_out-stops.result to done r) code c.go_on-stop.ensures.goes))
     c.go_on-stop.ensures.within c.requires.within

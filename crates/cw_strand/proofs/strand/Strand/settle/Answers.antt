@@ -10,7 +10,7 @@ use Rattle.cw_strand.proofs.strand.Strand.settle.Goals as goal
 
 pub rest-requires-clause-running : goal.rest-requires-clause-running
 rest-requires-clause-running c =
-    trapped_runs c.calls_on_a_strand_keep_its_job.ensures c.args.self.now c.args.to c.in-Trapped.trap c.in-Trapped.line
+    trapped_runs c.calls_preserve_strand_job.ensures c.args.self.now c.args.to c.in-Trapped.trap c.in-Trapped.line
     (subst (HasCome c.args.self.now c.args.to) c.in-Trapped.is c.requires.comes)
 
 pub rest-requires-in-Over-clause-running : goal.rest-requires-in-Over-clause-running
@@ -18,7 +18,7 @@ rest-requires-in-Over-clause-running c =
     let full = c.goes_beyond.ensures.no c.if-goes_beyond.false in
     let within = c.requires.within in
     let same : c.args.to ≡ c.args.end = omega (arith, full, within) in
-    over_runs c.calls_on_a_strand_keep_its_job.ensures c.args.self.now c.args.to c.machines_that_stop_remain.ensures.remain (same ∙ c.requires.end)
+    over_runs c.calls_preserve_strand_job.ensures c.args.self.now c.args.to c.machines_that_stop_remain.ensures.remain (same ∙ c.requires.end)
     (subst (HasCome c.args.self.now c.args.to) c.in-Over.is c.requires.comes)
 
 pub returns-then-goes_beyond-clause-goes : goal.returns-then-goes_beyond-clause-goes
@@ -26,13 +26,13 @@ returns-then-goes_beyond-clause-goes c = c.requires.comes.going
 
 pub rest-requires-in-NoMemory-clause-running : goal.rest-requires-in-NoMemory-clause-running
 rest-requires-in-NoMemory-clause-running c =
-    lost_runs c.calls_on_a_strand_keep_its_job.ensures c.args.self.now c.args.to c.args.stop c.requires.comes
+    lost_runs c.calls_preserve_strand_job.ensures c.args.self.now c.args.to c.args.stop c.requires.comes
 
 pub returns-in-CameBack-clause-keeps : goal.returns-in-CameBack-clause-keeps
 returns-in-CameBack-clause-keeps c =
     let self = c.args.self.now in
     let comes = subst (HasCome self c.args.to) c.in-CameBack.is c.requires.comes in
-    let keep = c.calls_on_a_strand_keep_its_job.ensures in (
+    let keep = c.calls_preserve_strand_job.ensures in (
       back_runs keep self c.args.to comes,
       refl,
       back_some keep self c.args.to comes,

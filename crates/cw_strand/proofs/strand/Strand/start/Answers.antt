@@ -7,7 +7,7 @@ use Rattle.cw_strand.proofs.strand.Strand.start.Goals as goal
 
 pub returns-in-Ok : goal.returns-in-Ok
 returns-in-Ok c =
-    begins c.calls_on_a_strand_keep_its_job.ensures c.calls_keep_meter_records.ensures c.args.job c.begin_run.new.parts
+    begins c.calls_preserve_strand_job.ensures c.calls_keep_meter_records.ensures c.args.job c.begin_run.new.parts
     (record {
       of = c.of-of.result;
       parts = with_value c.args.job.parts c.begin_run.new.parts;

@@ -12,7 +12,7 @@ pause-requires-clause-running c =
     let full = c.if-self-end.false in
     let above = c.end_of_job-end.ensures.above in
     let same : self.count ≡ c.end_of_job-end.result = omega (arith, full, above) in
-    over_runs c.calls_on_a_strand_keep_its_job.ensures self self.count c.machines_that_stop_remain.ensures.remain (same ∙ c.end_of_job-end.ensures.end) c.requires.before
+    over_runs c.calls_preserve_strand_job.ensures self self.count c.machines_that_stop_remain.ensures.remain (same ∙ c.end_of_job-end.ensures.end) c.requires.before
 
 pub returns-clause-advances : goal.returns-clause-advances
 returns-clause-advances c =

@@ -12,25 +12,25 @@ given_up-back-requires c =
     let self = c.args.self.now in
     subst (λ (q : Parts). runs.MayGiveUp (record self.run.machine { lines = c.replace-lines.new.dest }) (length q.rest.slices.items)) (sym c.deref_mut.ensures.value)
     (may_with self.run.machine (record self.run.machine { lines = c.replace-lines.new.dest }) refl (length self.parts.value.rest.slices.items)
-    (may_trapped c.calls_on_a_strand_keep_its_job.ensures c.machines_that_stop_remain.ensures.kept self c.requires.running c.requires.none c.in-Trapped.trap c.in-Trapped.line c.in-Trapped.is))
+    (may_trapped c.calls_preserve_strand_job.ensures c.machines_that_stop_remain.ensures.kept self c.requires.running c.requires.none c.in-Trapped.trap c.in-Trapped.line c.in-Trapped.is))
 
 pub given_up-requires : goal.given_up-requires
 given_up-requires c =
     let self = c.args.self.now in
     subst (λ (q : Parts). runs.MayGiveUp self.run.machine (length q.rest.slices.items)) (sym c.deref_mut-in-Over.ensures.value)
-    (may_over c.calls_on_a_strand_keep_its_job.ensures c.machines_that_stop_remain.ensures.kept self c.requires.running c.requires.none c.in-Over.is)
+    (may_over c.calls_preserve_strand_job.ensures c.machines_that_stop_remain.ensures.kept self c.requires.running c.requires.none c.in-Over.is)
 
 pub given_up-requires-in-GivenUp : goal.given_up-requires-in-GivenUp
 given_up-requires-in-GivenUp c =
     let self = c.args.self.now in
     subst (λ (q : Parts). runs.MayGiveUp self.run.machine (length q.rest.slices.items)) (sym c.deref_mut-in-GivenUp.ensures.value)
-    (may_give_up c.calls_on_a_strand_keep_its_job.ensures c.machines_that_stop_remain.ensures.kept self c.requires.running c.requires.none c.in-GivenUp.is)
+    (may_give_up c.calls_preserve_strand_job.ensures c.machines_that_stop_remain.ensures.kept self c.requires.running c.requires.none c.in-GivenUp.is)
 
 pub returns-in-Trapped-clause-means : goal.returns-in-Trapped-clause-means
 returns-in-Trapped-clause-means c =
     let self = c.args.self.now in
     let n = length self.parts.value.rest.slices.items in
-    trap_means c.calls_on_a_strand_keep_its_job.ensures c.machines_that_stop_remain.ensures.kept self c.requires.running c.requires.none c.in-Trapped.trap c.in-Trapped.line
+    trap_means c.calls_preserve_strand_job.ensures c.machines_that_stop_remain.ensures.kept self c.requires.running c.requires.none c.in-Trapped.trap c.in-Trapped.line
     (effect.Trapped c.in-Trapped.trap c.in-Trapped.line c.replace-lines.result self.count c.given_up-back.result) c.in-Trapped.is (
       refl,
       refl,
@@ -43,14 +43,14 @@ returns-in-Trapped-clause-means c =
 pub returns-in-Over-clause-means : goal.returns-in-Over-clause-means
 returns-in-Over-clause-means c =
     let self = c.args.self.now in
-    over_means c.calls_on_a_strand_keep_its_job.ensures c.machines_that_stop_remain.ensures.kept self c.requires.running c.requires.none
+    over_means c.calls_preserve_strand_job.ensures c.machines_that_stop_remain.ensures.kept self c.requires.running c.requires.none
     (effect.OverLimit c.given_up.result) c.in-Over.is
     (subst (λ (q : Parts). runs.GivesUp self.run.machine (length q.rest.slices.items) c.given_up.result.items) c.deref_mut-in-Over.ensures.value c.given_up.ensures)
 
 pub returns-in-GivenUp-clause-means : goal.returns-in-GivenUp-clause-means
 returns-in-GivenUp-clause-means c =
     let self = c.args.self.now in
-    up_means c.calls_on_a_strand_keep_its_job.ensures c.machines_that_stop_remain.ensures.kept self c.requires.running c.requires.none
+    up_means c.calls_preserve_strand_job.ensures c.machines_that_stop_remain.ensures.kept self c.requires.running c.requires.none
     (effect.GivenUp c.given_up-in-GivenUp.result) c.in-GivenUp.is
     (subst (λ (q : Parts). runs.GivesUp self.run.machine (length q.rest.slices.items) c.given_up-in-GivenUp.result.items) c.deref_mut-in-GivenUp.ensures.value c.given_up-in-GivenUp.ensures)
 

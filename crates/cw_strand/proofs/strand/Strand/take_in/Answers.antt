@@ -48,7 +48,7 @@ returns-clause-running c =
     let code : c.deref-2.result.now ≡ its_code self = c.deref-2.ensures ∙ ap (λ q. code_of q) c.deref.ensures ∙ c.requires.running.keeps.code in
     let loans : c.loans_named-loans.result.now ≡ loans_of (its_code self) c.take_last.result.home.lent = c.loans_named-loans.ensures ∙ ap (λ v. loans_of v c.take_last.result.home.lent) code in
     let left = lasts self.lent.items c.take_last.new.self.items c.take_last.result newest.lent newest.rest c.take_last.ensures.items newest.are in
-    takes_back_to self c.args.job others newest c.calls_on_a_strand_keep_its_job.ensures c.requires.running c.requires.waiting c.take_back.new.self
+    takes_back_to self c.args.job others newest c.calls_preserve_strand_job.ensures c.requires.running c.requires.waiting c.take_back.new.self
     (subst (λ (x : Lent). TakesBack self.run.machine x.home.lender.slots (slots_lent (loans_of (its_code self) x.home.lent)) c.args.job.parts.value.rest.slices.items c.take_back.new.self) last
     (subst (λ l. TakesBack self.run.machine slots (slots_lent l) c.args.job.parts.value.rest.slices.items c.take_back.new.self) loans
     (subst (λ (q : Parts). TakesBack self.run.machine slots (slots_lent c.loans_named-loans.result.now) q.rest.slices.items c.take_back.new.self) c.deref_mut.ensures.value c.take_back.ensures.shows)))
