@@ -35,20 +35,22 @@ use std::alloc::Global;
 use std::sync::{Arc, Wait};
 use std::thread::Threads;
 
-/// Analyses the program that these bytes are the source of, and writes the report of the mode, with
-/// one worker.
+/// Analyses the program with this source with one worker, and writes the report of the mode.
 ///
-/// The errors, in this order: what `compile` answers; and but for a check, which reads no arguments
-/// and runs nothing, `Arguments` where the count of the arguments is not that of `main`'s
-/// parameters, or an option is out of range; `OverLimit` where the serial elision costs more than
-/// the limit, `Trap` where it traps: in mode `Run` after what it printed before was written, else
-/// with nothing written; `Strands`, with how many, in mode `Greedy` where it ends with more than
-/// 1,000,000 of them.
+/// Fewer than 2^64 - 1 writes to the sink failed before the call.
 ///
-/// `Write` where a write of the report failed, and `Memory` where memory ran out: no byte was
-/// written then. Nothing is written at any other error but `Trap` and `Write`.
+/// # Errors
 ///
-/// Fewer than 2^64 - 1 writes to the sink failed before.
+/// In this order:
+///
+/// - the errors of `compile`. A check reads no arguments and runs nothing, so it returns no other error;
+/// - `Arguments` if the number of arguments is not the number of parameters of `main`, or an option is out of range;
+/// - `OverLimit` if the serial elision costs more than the limit, and `Trap` if it traps. Mode `Run` first writes what the
+///   program printed before the trap; other modes write nothing;
+/// - `Strands`, with their number, if a run in mode `Greedy` ends with more than 1,000,000 strands.
+///
+/// `Write` if a write of the report failed. `Memory` if memory ran out. Nothing is written at any error except `Trap` and
+/// `Write`.
 pub fn analyse_alone<W: Sink>(
     alloc: Global,
     bytes: &[u8],
@@ -95,21 +97,26 @@ pub fn analyse_named_alone<W: Sink>(
     }
 }
 
-/// Analyses the program that these bytes are the source of, and writes the report of the mode, with the caller's thread
-/// and one for each body of the crew as workers that steal from each other.
+/// Analyses the program with this source, and writes the report of the mode. The workers are the caller's thread and one
+/// thread for each body of the crew; they steal from each other.
 ///
-/// The errors and what is written are those of `analyse_alone`, which it calls where the crew is empty: no byte depends
-/// on the crew, on what its bodies and the gate do, or on the order in which workers come to steal. A check and a run of
-/// code that spawns nothing are made by the caller's thread only. In mode `Gain` the crew executes the first run, and then one
-/// thread for each worker executes the further runs in parallel. In mode `Greedy` the crew executes the run, and the
-/// caller's thread computes the schedule; in mode `Speedup` one thread for each worker computes schedules. If a run has more
-/// than 1,000,000 strands, mode `Speedup` takes the measures from a second run, by the caller's thread. In mode `Page` the
-/// crew executes the first run, one thread for each worker the further runs of the gain table, the caller's thread a run that
-/// records strands, and one thread for each worker computes schedules.
+/// The report is the one that `analyse_alone` writes: no byte depends on the crew, on what its bodies and the gate do, or on
+/// the order of steals. The caller's thread executes a check, a run without spawns, and every mode if the crew is empty.
+/// Otherwise the crew executes the run, and then:
 ///
-/// Before all that, a crew of more than 63 bodies is `Arguments` in each mode, with nothing written.
+/// - in mode `Gain`, one thread for each worker executes the further runs;
+/// - in mode `Greedy`, the caller's thread computes the schedule;
+/// - in mode `Speedup`, one thread for each worker computes schedules. If the run has more than 1,000,000 strands, the
+///   caller's thread executes a second run for the measures;
+/// - in mode `Page`, one thread for each worker executes the further runs of the gain table, the caller's thread executes a
+///   run that records strands, and one thread for each worker computes schedules.
 ///
-/// It asks that fewer than 2^64 - 1 writes to the sink failed before.
+/// Fewer than 2^64 - 1 writes to the sink failed before the call.
+///
+/// # Errors
+///
+/// `Arguments` if the crew has more than 63 bodies, in each mode; nothing is written. Otherwise the errors of
+/// `analyse_alone`.
 pub fn analyse<
     W: Sink,
     G: Gate + Drop + Send + Sync + 'static,
@@ -186,7 +193,7 @@ pub fn analyse_named<
     }
 }
 
-// Runs code with nothing counted, and writes the values of the run.
+// Runs code without measures, and writes the values of the run.
 fn run_plain<W: Sink>(
     alloc: Global,
     code: Verified,
@@ -205,7 +212,7 @@ fn run_plain<W: Sink>(
     write_values(alloc, &code, args, options, values, out)
 }
 
-// Runs code and writes what is counted of the run.
+// Runs code, and writes the tables of the run.
 fn run<W: Sink>(
     alloc: Global,
     code: Verified,
@@ -261,7 +268,7 @@ fn run_plain_with<
     write_values(alloc, &code, args, options, values, out)
 }
 
-// Runs code with a crew, and writes what is counted of the run.
+// Runs code with a crew, and writes the tables of the run.
 fn run_with<
     W: Sink,
     G: Gate + Drop + Send + Sync + 'static,
@@ -298,7 +305,7 @@ fn run_with<
     write_tables(alloc, &code, args, options, ended, out)
 }
 
-// Runs code, and once more for each function that is told, and writes what these would bring.
+// Runs code, and once more for each function of the gain table, and writes the table.
 fn run_gain<W: Sink>(
     alloc: Global,
     made: Compiled,
@@ -322,8 +329,8 @@ fn run_gain<W: Sink>(
     write_gains(alloc, args, options, gains, out)
 }
 
-// Runs code with a crew, and once more for each function that is told, as many of these runs side by side as there are
-// workers, and writes what these functions would bring.
+// Runs code with a crew, then once more for each function of the gain table, one run for each worker at a time, and writes
+// the table.
 fn run_gain_with<
     W: Sink,
     G: Gate + Drop + Send + Sync + 'static,
@@ -359,7 +366,7 @@ fn run_gain_with<
     write_gains(alloc, args, options, gains, out)
 }
 
-// How many functions are told at most, where that is in range.
+// Returns the maximum number of functions in the gain table, if it is in range.
 pub(crate) fn top_of(top: u64) -> Result<usize, Fault>
     ensures { MatchResult result (λ most. (most ≡ top) × IsModeInRange (mode.Gain top))
         (λ e. (e ≡ Fault.Arguments) × ¬ (IsModeInRange (mode.Gain top))) }
@@ -370,8 +377,8 @@ pub(crate) fn top_of(top: u64) -> Result<usize, Fault>
     Ok(top as usize)
 }
 
-// Runs code for its greedy schedule on so many processors, and writes what is told of that. The burden is tested as for
-// each run, and changes nothing.
+// Runs code and writes the greedy schedule by this number of processors. The burden must be in range, as for each run, and
+// changes nothing.
 fn run_greedy<W: Sink>(
     alloc: Global,
     code: Verified,
@@ -396,7 +403,7 @@ fn run_greedy<W: Sink>(
     Ok(())
 }
 
-// What is told of the greedy schedule of a run by a crew, on so many processors.
+// Runs code with a crew, and returns the greedy schedule by this number of processors.
 fn schedule_with<
     G: Gate + Drop + Send + Sync + 'static,
     B: Body<G> + Send + Drop + 'static,
@@ -423,7 +430,7 @@ fn schedule_with<
     Ok(told)
 }
 
-// The same with a crew that runs the code.
+// Runs code with a crew, and writes the greedy schedule by this number of processors.
 fn run_greedy_with<
     W: Sink,
     G: Gate + Drop + Send + Sync + 'static,

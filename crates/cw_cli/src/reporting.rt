@@ -1,4 +1,4 @@
-//! What is written of a run, whoever did it.
+//! The reports of a run, by one worker or by a crew.
 
 ghost use Rattle.std.specs.Prelude.{◌≡◌, ◌<◌, ◌-◌, ◌^◌, ℕ, ℤ, List, [], true};
 ghost use Rattle.std.specs.List.{list_all};
@@ -47,7 +47,7 @@ pub(crate) fn write_values<W: Sink>(
     Ok(())
 }
 
-// Writes what is counted of a run of this code.
+// Writes the tables of a run of this code.
 pub(crate) fn write_tables<W: Sink>(
     alloc: Global,
     code: &Verified,
@@ -89,7 +89,7 @@ pub(crate) fn write_gains<W: Sink>(
     Ok(())
 }
 
-// Reads each argument: it is a word of 64 bits.
+// States that each argument is a word of 64 bits.
 pub(crate) fn are_words(args: &[i64])
     ensures { list_all fits args.now ≡ true }
 {
@@ -98,12 +98,12 @@ pub(crate) fn are_words(args: &[i64])
     }
 }
 
-// A word of 64 bits is one.
+// States that an `i64` is a word of 64 bits.
 fn is_word(word: i64)
     ensures { fits word ≡ true }
 {}
 
-// Writes the tables of a run, in a mode that has tables; in another mode nothing.
+// Writes the tables of a run, in a mode that has tables; writes nothing in other modes.
 fn report<W: Sink>(
     alloc: Global,
     mode: Mode,
