@@ -42,7 +42,7 @@ pub mod Entering
 pub mod Starting
 pub mod Totals
 pub mod Updates
-pub mod Metering
+pub mod MeterLaws
 pub mod OpEvents
 pub mod RecordRelation
 pub mod Strands

@@ -42,7 +42,7 @@ use Rattle.cw_machine.specs.Runs.{is_asked, is_request, IsEndOf, Gives, Runs}
 use Rattle.cw_machine.proofs.Updates.{ReturnsWithin, travelled, totals_are, totals_of}
 use Rattle.cw_machine.proofs.EndsAs.{EndsAs-prop, did_end, finishes_as}
 use Rattle.cw_machine.proofs.Strands.{KeepsStrands, strands_prop, kept_is, kept_as}
-use Rattle.cw_machine.proofs.Metering.{gauge_of}
+use Rattle.cw_machine.proofs.MeterLaws.{gauge_of}
 use Rattle.cw_machine.proofs.Given.{IsGiven, IsGiven-prop, is_given}
 use Rattle.cw_machine.proofs.FromMain.{Main, main_of, asked_of, measured, told, IsEnded, IsEnded-prop, IsTrapped, IsTrapped-prop, was_trapped, is_over, was_over, same_as}
 use Rattle.cw_machine.proofs.FromMain.{same_totals_as, first_is, asked_count, asked_limit, asked_burden, main_room, main_arrays, main_readers}

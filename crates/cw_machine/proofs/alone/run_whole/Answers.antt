@@ -16,7 +16,7 @@ use Rattle.cw_runnable.specs.Resolved.{room_of}
 use Rattle.cw_machine.specs.declared.run.Run.{Run}
 use Rattle.cw_machine.specs.Metered.{IsNewRun, Reaches}
 use Rattle.cw_machine.specs.Runs.{is_asked}
-use Rattle.cw_machine.proofs.Metering.{gauge_of}
+use Rattle.cw_machine.proofs.MeterLaws.{gauge_of}
 use Rattle.cw_machine.proofs.FromMain.{is_over, was_over, IsTrapped-prop, was_trapped, requested, asked_count, asked_limit, asked_burden, main_there, main_has_room, main_room, main_frame, first_run, finished, over, trapped}
 use Rattle.cw_machine.proofs.alone.run_whole.Goals as goal
 
