@@ -162,10 +162,11 @@ impl<'a> Text<'a> {
                 _ if is_listed => return Call::Listed(self.written_in(line)),
                 _ if before == Some(Kind::Cut) => return Call::Cut,
                 _ if matches!(before, Some(Kind::LeftParen) | Some(Kind::Comma)) => {
-                    return match self.before_open(place, Kind::LeftParen, Kind::RightParen) {
-                        Some(callee) => Call::Passed(callee),
-                        None => Call::Other,
-                    };
+                    // none before the parenthesis of len
+                    let callee = self.before_open(place, Kind::LeftParen, Kind::RightParen);
+                    if let Some(callee) = callee {
+                        return Call::Passed(callee);
+                    }
                 }
                 _ => {}
             }
