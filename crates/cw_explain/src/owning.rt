@@ -19,9 +19,9 @@ const COPY: &str =
 pub fn halving(written: Option<Word<'_>>) -> &'static str {
     match written {
         Some(_) =>
-            "write void halve_@c(const int @a[], int @c[], int from) { int @r = len(@c); if (@r < 100) { int i = 0; while (i < @r) { .. i = i + 1; } return; } @r = @r / 2; cut @c at @r as @p, @q { cilk_spawn halve_@c(@a, @p, from); halve_@c(@a, @q, from + @r); } } with the body of the loop in the while, @c[i] for its element of @c and from + i for its variable, and halve_@c(@a, @c, 0); for the loop; add a parameter for each other name in the body, and test from + i if the loop leaves out elements",
+            "write void halve_@c(const int @a[], int @c[], int from) { int @s = len(@c); if (@s < 100) { int i = 0; while (i < @s) { .. i = i + 1; } return; } @s = @s / 2; cut @c at @s as @p, @q { cilk_spawn halve_@c(@a, @p, from); halve_@c(@a, @q, from + @s); } } with the body of the loop in the while, @c[i] for its element of @c and from + i for its variable, and halve_@c(@a, @c, 0); for the loop; add a parameter for each other name in the body, and test from + i if the loop leaves out elements",
         None =>
-            "write void halve_@a(const int @a[], int from, int to) { if (to - from < 100) { int i = from; while (i < to) { .. i = i + 1; } return; } int @r = (from + to) / 2; cilk_spawn halve_@a(@a, from, @r); halve_@a(@a, @r, to); } with the body of the loop in the while, and halve_@a(@a, LOW, HIGH); for the loop; add a parameter for each other name in the body",
+            "write void halve_@a(const int @a[], int from, int to) { if (to - from < 100) { int i = from; while (i < to) { .. i = i + 1; } return; } int @s = (from + to) / 2; cilk_spawn halve_@a(@a, from, @s); halve_@a(@a, @s, to); } with the body of the loop in the while, and halve_@a(@a, LOW, HIGH); for the loop; add a parameter for each other name in the body",
     }
 }
 
