@@ -516,9 +516,9 @@ static RULES: &[Habit] = &[
         "int a[8]; cut a at 4 as l, r { l[0] = 1; }",
     ),
     (
-        "int a[8]; int x = 0;\n cut a at 4 as l, r { x = len(a); }",
+        "int a[8]; int x = 0;\n cut a at 4 as l, r {\n x = len(a); }",
         "holds a until its block ends: write int t = len(a); before line 4, and t here",
-        "int a[8]; int x = 0;\n int t = len(a); cut a at 4 as l, r { x = t; }",
+        "int a[8]; int x = 0;\n int t = len(a); cut a at 4 as l, r {\n x = t; }",
     ),
     (
         "while (n) { int x = 0; x = cilk_spawn f(n); n = n - 1; }",
