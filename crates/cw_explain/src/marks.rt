@@ -54,8 +54,8 @@ fn hexadecimal(digits: &[u8]) -> Option<u64> {
 }
 
 impl<'a> Around<'a> {
-    // The place of the token that ends the statement.
-    fn end(&self) -> usize {
+    /// Returns the place of the token that ends the statement, or that opens its block.
+    pub fn end(&self) -> usize {
         let last = self
             .tokens
             .len()
@@ -288,6 +288,8 @@ impl Marks for Around<'_> {
                 let name = fresh_name(self.text, self.tokens);
                 write!(f, "{name}")
             }
+            // around what replaces the statement
+            b'!' => Ok(()),
             b'l' => write_advice(self, f, self.place.saturating_sub(1)),
             b'L' => write_advice(self, f, self.first),
             b'x' => write_value(self, f),

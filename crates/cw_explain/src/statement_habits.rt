@@ -3,7 +3,6 @@
 use crate::habits::Row;
 
 static DECLARED: &[Row] = &[
-    ("", "int", "keyword", "@0 is a keyword: use another name"),
     (
         "keyword +=",
         "",
@@ -437,6 +436,12 @@ static INSIDE: &[Row] = &[
         "the test of a while is in parentheses: write while (..) { .. }",
     ),
     ("", "print", "", "write print(@.);"),
+    (
+        "print",
+        "",
+        ", ? )",
+        "print takes one value: write @!@<); print(@>",
+    ),
     (
         "print",
         "",
