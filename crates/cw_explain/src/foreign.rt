@@ -1,14 +1,15 @@
 //! What C programs write with bytes that start no token here, and what to write instead.
 
-use crate::phrase::Marks;
+use crate::phrase::{Marks, write_new};
 use crate::word::Word;
+use crate::words::LOCK;
 use std::fmt;
 
 /// A byte, the word that its line begins with, what precedes the byte, what follows it, and the text.
 ///
 /// An empty word is any. Before the byte, `value` is the end of an operand, `digit` a digit, and another word these bytes;
 /// white space before it does not count. After the byte, `digit` is a digit, and another word these bytes. In the text `@c` is
-/// the character between two quotes, `@k` its code. The first row that applies counts.
+/// the character between two quotes, `@k` its code, `@r` a new name. The first row that applies counts.
 pub type Foreign = (u8, &'static str, &'static str, &'static str, &'static str);
 
 static DIRECTIVES: &[Foreign] = &[
@@ -86,28 +87,36 @@ static DIRECTIVES: &[Foreign] = &[
     ),
 ];
 
+// What to write for && and || in the tests of an if and a while.
+const IF_AND: &str =
+    "there is no &&: write if (a) { if (b) { .. } } for if (a && b) { .. }; with an else write int @r = 0; if (a) { @r = b; } if (@r) { .. } else { .. }";
+
+const WHILE_AND: &str =
+    "there is no &&: write int @r = 0; if (a) { @r = b; } while (@r) { .. @r = 0; if (a) { @r = b; } } for while (a && b) { .. }";
+
+const WHILE_OR: &str =
+    "there is no ||: write while ((a) + (b)) { .. } for while (a || b) { .. } if a and b are 0 or 1, as comparisons are, and b does not trap if a is 1; otherwise write int @r = 1; if (!(a)) { @r = b; } while (@r) { .. @r = 1; if (!(a)) { @r = b; } }";
+
 static OPERATORS: &[Foreign] = &[
+    (b'&', "while (", "", "&&", WHILE_AND),
+    (b'&', "while(", "", "&&", WHILE_AND),
+    (b'&', "if (", "", "&&", IF_AND),
+    (b'&', "if(", "", "&&", IF_AND),
     (
         b'&',
         "",
         "",
         "&&",
-        "there is no &&: write if (a) { if (b) { .. } } for if (a && b) { .. }, or a * b if a and b are 0 or 1",
+        "there is no &&: write (a) * (b) for a && b if a and b are 0 or 1, as comparisons are, and b does not trap if a is 0; otherwise write int @r = 0; if (a) { @r = b; } before this statement, and @r for a && b",
     ),
     (
         b'&',
         "",
         "value",
         "&",
-        "there are no operations on bits: write n % 16 for n & 15 (of n >= 0), n % 2 for n & 1",
+        "there are no operations on bits: write n % 16 for n & 15, and n % 2 for n & 1 (n >= 0)",
     ),
-    (
-        b'&',
-        "pthread_mutex",
-        "",
-        "&",
-        "a lock has no replacement: add to a reducer (reducer sum s; outside of functions, s += e;), or give each call a part of the array by cut",
-    ),
+    (b'&', "pthread_mutex", "", "&", LOCK),
     (
         b'&',
         "",
@@ -115,12 +124,14 @@ static OPERATORS: &[Foreign] = &[
         "&",
         "there are no addresses: write a for &a[0]; for &a[k] pass a and k, or write cut a at k as l, r { .. } and pass r; for &x return the new value: x = f(x);",
     ),
+    (b'|', "while (", "", "||", WHILE_OR),
+    (b'|', "while(", "", "||", WHILE_OR),
     (
         b'|',
         "",
         "",
         "||",
-        "there is no ||: write (a) + (b) for a || b if a and b are 0 or 1, as comparisons are",
+        "there is no ||: write (a) + (b) for a || b if a and b are 0 or 1, as comparisons are, and b does not trap if a is 1; otherwise write int @r = 1; if (!(a)) { @r = b; } before this statement, and @r for a || b",
     ),
     (
         b'|',
@@ -178,20 +189,8 @@ static OPERATORS: &[Foreign] = &[
         "",
         "write reducer sum s; outside of functions, and s += e; to add to it",
     ),
-    (
-        b':',
-        "std::mutex",
-        "",
-        "",
-        "a lock has no replacement: add to a reducer (reducer sum s; outside of functions, s += e;), or give each call a part of the array by cut",
-    ),
-    (
-        b':',
-        "std::lock_guard",
-        "",
-        "",
-        "a lock has no replacement: add to a reducer (reducer sum s; outside of functions, s += e;), or give each call a part of the array by cut",
-    ),
+    (b':', "std::mutex", "", "", LOCK),
+    (b':', "std::lock_guard", "", "", LOCK),
     (
         b':',
         "",
@@ -370,12 +369,12 @@ impl Byte<'_> {
 
 impl Marks for Byte<'_> {
     fn write_mark<W: fmt::Write>(&self, f: &mut fmt::Formatter<W>, mark: u8) -> fmt::Result {
-        if mark == b'k' {
-            let code = self.code();
-            return write!(f, "{code}");
+        let (code, quoted) = (self.code(), self.quoted());
+        match mark {
+            b'k' => write!(f, "{code}"),
+            b'c' => write!(f, "{quoted}"),
+            _ => write_new(f, mark),
         }
-        let quoted = self.quoted();
-        write!(f, "{quoted}")
     }
 }
 

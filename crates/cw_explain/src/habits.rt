@@ -17,8 +17,36 @@
 //! Of several rows that apply the first counts. Each table is returned by a function of its own, because a function that
 //! names a table is checked with all of its rows.
 
+use crate::words::LOCK;
+
 /// How the statement begins, the words before the token, those from it on, and the text.
 pub type Row = (&'static str, &'static str, &'static str, &'static str);
+
+// Texts of several rows.
+const POINTER: &str =
+    "there are no pointers: write int @n[], or const int @n[] if the function only reads it; each parameter is int n, int a[] or const int a[]";
+
+const STRUCT: &str =
+    "there are no structs: write an array for each member, and an index for each pointer";
+
+const DELETED: &str =
+    "there are no structs: delete the declaration; write an array for each member, and an index for each pointer";
+
+const RETURNED: &str =
+    "a function returns an integer or nothing: write void @n(..) with a parameter int a[]; the caller declares the array and passes it";
+
+const MEMBERS: &str =
+    "there are no structs and no pointers: write an array int m[] for each member, and an index int @*";
+
+const TYPE: &str =
+    "there is no type @0: write int @n; each parameter is int n, int a[] or const int a[]";
+
+const GLOBAL: &str =
+    "there are no variables outside of functions: declare int @1 = 0; in main, and pass it to functions";
+
+const LENGTH: &str = "an array parameter has no length: write int @2[]; len(@2) is its length";
+
+const REDUCER: &str = "write reducer sum @d; outside of functions, and @d += e; to add to it";
 
 static OUTSIDE: &[Row] = &[
     (
@@ -58,24 +86,14 @@ static OUTSIDE: &[Row] = &[
         "",
         "there is no @^: delete the word; a function is int or void; each parameter is int n, int a[] or const int a[]",
     ),
-    (
-        "typedef struct",
-        "",
-        "",
-        "there are no structs: delete the declaration; write an array for each member, and an index for each pointer",
-    ),
+    ("typedef struct", "", "", DELETED),
     (
         "typedef",
         "",
         "",
         "there is no typedef: delete the line, and write int for the type",
     ),
-    (
-        "struct",
-        "",
-        "",
-        "there are no structs: delete the declaration; write an array for each member, and an index for each pointer",
-    ),
+    ("struct", "", "", DELETED),
     (
         "union",
         "",
@@ -88,30 +106,10 @@ static OUTSIDE: &[Row] = &[
         "",
         "there is no enum: delete the line, and write the numbers",
     ),
-    (
-        "mutex",
-        "",
-        "",
-        "a lock has no replacement: add to a reducer (reducer sum s; s += e;), or give each call a part of the array by cut",
-    ),
-    (
-        "pthread_mutex_t",
-        "",
-        "",
-        "a lock has no replacement: add to a reducer (reducer sum s; s += e;), or give each call a part of the array by cut",
-    ),
-    (
-        "",
-        "",
-        "type * x (",
-        "a function returns an integer or nothing: write void @n(..) with a parameter int a[]; the caller declares the array and passes it",
-    ),
-    (
-        "int",
-        "int",
-        "* x (",
-        "a function returns an integer or nothing: write void @n(..) with a parameter int a[]; the caller declares the array and passes it",
-    ),
+    ("mutex", "", "", LOCK),
+    ("pthread_mutex_t", "", "", LOCK),
+    ("", "", "type * x (", RETURNED),
+    ("int", "int", "* x (", RETURNED),
     (
         "int",
         "int",
@@ -137,48 +135,18 @@ static OUTSIDE: &[Row] = &[
         "there is no type @0, and there are no pointers: write int @n[], or const int @n[] if the function only reads it; each parameter is int n, int a[] or const int a[]",
     ),
     ("", "", "type x [", "there is no type @0: write int @n[]"),
-    (
-        "",
-        "(",
-        "x * x",
-        "there are no structs and no pointers: write an array int m[] for each member, and an index int @*",
-    ),
-    (
-        "",
-        ",",
-        "x * x",
-        "there are no structs and no pointers: write an array int m[] for each member, and an index int @*",
-    ),
+    ("", "(", "x * x", MEMBERS),
+    ("", ",", "x * x", MEMBERS),
     (
         "x *",
         "",
         "",
         "there are no structs and no pointers: write int @*(..), which returns an index, and an array for each member",
     ),
-    (
-        "",
-        "(",
-        "void *",
-        "there are no pointers: write int @n[], or const int @n[] if the function only reads it; each parameter is int n, int a[] or const int a[]",
-    ),
-    (
-        "",
-        ",",
-        "void *",
-        "there are no pointers: write int @n[], or const int @n[] if the function only reads it; each parameter is int n, int a[] or const int a[]",
-    ),
-    (
-        "",
-        "(",
-        "type",
-        "there is no type @0: write int @n; each parameter is int n, int a[] or const int a[]",
-    ),
-    (
-        "",
-        ",",
-        "type",
-        "there is no type @0: write int @n; each parameter is int n, int a[] or const int a[]",
-    ),
+    ("", "(", "void *", POINTER),
+    ("", ",", "void *", POINTER),
+    ("", "(", "type", TYPE),
+    ("", ",", "type", TYPE),
     ("", "", "type", "there is no type @0: write int @n"),
     (
         "const",
@@ -189,21 +157,17 @@ static OUTSIDE: &[Row] = &[
     (
         "int x",
         "first x",
+        "= 1 ;",
+        "there are no variables outside of functions: delete this line and write @+ for @1 if no statement assigns to @1; otherwise declare int @1 @. in main and pass it, or write reducer sum @1; for a sum over strands",
+    ),
+    (
+        "int x",
+        "first x",
         "=",
         "there are no variables outside of functions: declare int @1 @. in main and pass it; a sum over strands is reducer sum @1;",
     ),
-    (
-        "int x",
-        "first x",
-        ";",
-        "there are no variables outside of functions: declare int @1 = 0; in main, and pass it to functions",
-    ),
-    (
-        "int x",
-        "first x",
-        ",",
-        "there are no variables outside of functions: declare int @1 = 0; in main, and pass it to functions",
-    ),
+    ("int x", "first x", ";", GLOBAL),
+    ("int x", "first x", ",", GLOBAL),
     (
         "int x",
         "first x",
@@ -220,18 +184,8 @@ static PARAMETERS: &[Row] = &[
         "a function is known in the whole source: delete this line",
     ),
     (";", "", ";", "there is no ; after a function: delete it"),
-    (
-        "",
-        "[",
-        "1",
-        "an array parameter has no length: write int @2[]; len(@2) is its length",
-    ),
-    (
-        "",
-        "[",
-        "x",
-        "an array parameter has no length: write int @2[]; len(@2) is its length",
-    ),
+    ("", "[", "1", LENGTH),
+    ("", "[", "x", LENGTH),
     (
         "",
         "]",
@@ -250,12 +204,7 @@ static PARAMETERS: &[Row] = &[
         "* x",
         "there are no pointers: write const int @n[]",
     ),
-    (
-        "",
-        "int",
-        "* x",
-        "there are no pointers: write int @n[], or const int @n[] if the function only reads it; each parameter is int n, int a[] or const int a[]",
-    ),
+    ("", "int", "* x", POINTER),
     ("", "int", "*", "there are no pointers: write int @n[]"),
     (
         "",
@@ -343,7 +292,7 @@ static WORDS: &[Row] = &[
         "break ;",
         "",
         "",
-        "there is no break: end the loop by its test, or return from a function of its own",
+        "there is no break: if a return follows the loop, write it here; otherwise move the loop into a function, and write return; here",
     ),
     (
         "continue ;",
@@ -377,36 +326,16 @@ static WORDS: &[Row] = &[
     ("", "_Cilk_spawn", "x", "write cilk_spawn @.;"),
     ("_Cilk_for (", "", "", "write cilk_for (..)"),
     ("storage ?", "", "", "there is no @^: delete the word"),
-    (
-        "mutex x",
-        "",
-        "",
-        "a lock has no replacement: add to a reducer (reducer sum s; outside of functions, s += e;), or give each call a part of the array by cut",
-    ),
-    (
-        "pthread_mutex_t x",
-        "",
-        "",
-        "a lock has no replacement: add to a reducer (reducer sum s; outside of functions, s += e;), or give each call a part of the array by cut",
-    ),
+    ("mutex x", "", "", LOCK),
+    ("pthread_mutex_t x", "", "", LOCK),
     (
         "wsp_t x",
         "",
         "",
         "there is no wsp_t: put region NAME { .. } around the part to measure; cilkwork scale reports its work and span",
     ),
-    (
-        "int cilk_reducer",
-        "",
-        "",
-        "write reducer sum @d; outside of functions, and @d += e; to add to it",
-    ),
-    (
-        "type cilk_reducer",
-        "",
-        "",
-        "write reducer sum @d; outside of functions, and @d += e; to add to it",
-    ),
+    ("int cilk_reducer", "", "", REDUCER),
+    ("type cilk_reducer", "", "", REDUCER),
     (
         "CILK_C_REDUCER_OPADD",
         "",
@@ -414,24 +343,9 @@ static WORDS: &[Row] = &[
         "write reducer sum s; outside of functions, and s += e; to add to it",
     ),
     ("REDUCER_VIEW", "", "+=", "write @2 += @>"),
-    (
-        "struct x",
-        "",
-        "",
-        "there are no structs: write an array for each member, and an index for each pointer",
-    ),
-    (
-        "",
-        "",
-        "struct x",
-        "there are no structs: write an array for each member, and an index for each pointer",
-    ),
-    (
-        "",
-        "struct",
-        "x",
-        "there are no structs: write an array for each member, and an index for each pointer",
-    ),
+    ("struct x", "", "", STRUCT),
+    ("", "", "struct x", STRUCT),
+    ("", "struct", "x", STRUCT),
 ];
 
 static TYPED: &[Row] = &[

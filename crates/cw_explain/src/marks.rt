@@ -2,10 +2,8 @@
 
 use crate::around::Around;
 use crate::excerpt::first_line;
-use crate::near::is_declared;
-use crate::phrase::Marks;
-use crate::word::{ClippedText, Word};
-use crate::words::FRESH;
+use crate::phrase::{Marks, write_new};
+use crate::word::ClippedText;
 use cw_model::token::{Kind, Token};
 use std::fmt;
 
@@ -15,25 +13,8 @@ const MOST_COLUMNS: usize = 60;
 /// The most tokens of a statement that are read.
 const MOST_TOKENS: usize = 300;
 
-/// The most tokens that are searched for a name.
-const MOST_SEARCHED: usize = 8_192;
-
 /// The most digits of a hexadecimal number whose value is shown.
 const MOST_DIGITS: usize = 15;
-
-/// Returns a name that these tokens of a text do not declare.
-pub fn fresh_name(text: &[u8], tokens: &[Token]) -> &'static str {
-    let tokens = tokens.get(..MOST_SEARCHED).unwrap_or(tokens);
-    for name in FRESH {
-        let word = Word {
-            text: name.as_bytes(),
-        };
-        if !is_declared(text, tokens, word) {
-            return *name;
-        }
-    }
-    "r1"
-}
 
 // The value of a hexadecimal number, without the `0` before its `x`.
 fn hexadecimal(digits: &[u8]) -> Option<u64> {
@@ -284,10 +265,7 @@ impl Marks for Around<'_> {
                 let line = self.open.map(|token| token.line).unwrap_or(1);
                 write!(f, "{line}")
             }
-            b'r' => {
-                let name = fresh_name(self.text, self.tokens);
-                write!(f, "{name}")
-            }
+            b'r' => write_new(f, mark),
             // around what replaces the statement
             b'!' => Ok(()),
             b'l' => write_advice(self, f, self.place.saturating_sub(1)),

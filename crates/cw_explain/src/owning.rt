@@ -1,7 +1,6 @@
 //! The rules of ownership that a line can break, in words.
 
 use crate::calling::Text;
-use crate::marks::fresh_name;
 use crate::near::is_const;
 use crate::phrase::{NO_NAME, Phrase};
 use crate::word::Word;
@@ -11,6 +10,20 @@ use cw_tree::resolved::{Listed, Use};
 // What to write if an iteration writes other elements.
 const PARTS: &str =
     "; for other elements, write a function that cuts @a, spawns itself on one part and calls itself on the other, or add to a reducer; if iterations write the same element, write a while";
+
+// What to write if an iteration reads other elements of the array that it writes.
+const COPY: &str =
+    "; to read an element as it was before the loop, declare int @r[len(@a)]; there, copy it by @r[k] = @a[k - 1]; in a while, list @r in over, and read @r[i]; to read what another iteration wrote, write a while for the cilk_for";
+
+/// Returns what to write if iterations read other elements of the array `a` and write the array `c`, if they write one.
+pub fn halving(written: Option<Word<'_>>) -> &'static str {
+    match written {
+        Some(_) =>
+            "write void halve_@c(const int @a[], int @c[], int from) { int @s = len(@c); if (@s < 100) { int i = 0; while (i < @s) { .. i = i + 1; } return; } @s = @s / 2; cut @c at @s as @p, @q { cilk_spawn halve_@c(@a, @p, from); halve_@c(@a, @q, from + @s); } } with the body of the loop in the while, @c[i] for its element of @c and from + i for its variable, and halve_@c(@a, @c, 0); for the loop; add a parameter for each other name in the body, and test from + i if the loop leaves out elements",
+        None =>
+            "write void halve_@a(const int @a[], int from, int to) { if (to - from < 100) { int i = from; while (i < to) { .. i = i + 1; } return; } int @s = (from + to) / 2; cilk_spawn halve_@a(@a, from, @s); halve_@a(@a, @s, to); } with the body of the loop in the while, and halve_@a(@a, LOW, HIGH); for the loop; add a parameter for each other name in the body",
+    }
+}
 
 /// Returns the other line that matters, if there is one.
 pub fn other_line(reason: &Disowned<'_>) -> Option<u32> {
@@ -26,14 +39,14 @@ pub fn other_line(reason: &Disowned<'_>) -> Option<u32> {
 }
 
 /// Returns the rule that a line of a text breaks, in words.
-pub fn phrase_of<'a>(text: &Text<'_>, line: u32, reason: &'a Disowned<'_>) -> Phrase<'a> {
+pub fn phrase_of<'a>(text: &Text<'a>, line: u32, reason: &'a Disowned<'_>) -> Phrase<'a> {
     match reason {
         Disowned::Restrictions(used, touch, holder, since) => {
             let name = name_of(used);
             if matches!(touch, Touch::Read) && text.is_length(line, name, None) {
-                return length(text, name, *holder, line, *since);
+                return length(name, *holder, line, *since);
             }
-            held(name, *touch, *holder, line, *since)
+            held(text, name, *touch, *holder, line, *since)
         }
         Disowned::EndsHeld(used, holder, since) => ends(name_of(used), *holder, *since),
         Disowned::GivenTwice(used, callee) => given_twice(name_of(used), callee_of(callee)),
@@ -43,19 +56,22 @@ pub fn phrase_of<'a>(text: &Text<'_>, line: u32, reason: &'a Disowned<'_>) -> Ph
             name_of(used),
             0,
         ),
-        Disowned::OuterWritten(used, head) => outer_written(text, name_of(used), *head),
+        Disowned::OuterWritten(used, head) => {
+            let name = name_of(used);
+            outer_written(name, text.added(line, name), *head)
+        }
         Disowned::OuterArray(used, touch, head) => {
             let name = name_of(used);
             let is_const = is_const(text.bytes, text.tokens, name, line);
-            outer_array(name, *touch, *head, is_const)
+            outer_array(name, *touch, *head, is_const, text.written_in(*head))
         }
         Disowned::OtherElement(used, touch, variable, head) => {
             let name = name_of(used);
             let variable = name_of(variable);
             if text.is_length(line, name, Some(variable)) {
-                return length_in_loop(text, name, *head);
+                return length_in_loop(name, *head);
             }
-            other_element(name, *touch, variable, *head)
+            other_element(name, *touch, variable, *head, text.written_in(*head))
         }
     }
 }
@@ -97,7 +113,7 @@ fn until(holder: Holder) -> &'static str {
         Holder::Result => "assigns to @a at the next cilk_sync",
         Holder::Argument => "holds @a until the next cilk_sync",
         Holder::Reader => "reads @a until the next cilk_sync",
-        Holder::Cut => "holds @a until its block ends: use its parts there",
+        Holder::Cut => "holds @a until its block ends",
     }
 }
 
@@ -117,9 +133,10 @@ fn beyond(line: u32, since: Option<Start>) -> &'static str {
 // What to write if a name is used while something holds it.
 fn remedy(touch: Touch, holder: Holder, line: u32, since: Option<Start>) -> &'static str {
     match (holder, touch) {
-        (Holder::Cut, _) => "",
+        (Holder::Cut, _) if since.is_some() => ": use its parts @b there",
+        (Holder::Cut, _) => ": use its parts there",
         (Holder::Argument, Touch::Passed) =>
-            ": write const before the parameter in both functions if they only read @a; otherwise write cut @a at k as l, r { .. } and pass l and r, give one call an array of its own, or write cilk_sync; between them",
+            ": write const before the parameter of each called function if it only reads @a; otherwise write cut @a at k as @p, @q { .. } and pass @p and @q, give one call an array of its own, or write cilk_sync; between them",
         (Holder::Reader, Touch::Passed) =>
             ": write const before this parameter, too, if the function only reads @a; otherwise write cilk_sync; before this statement",
         _ => sync_for(line, since),
@@ -129,7 +146,7 @@ fn remedy(touch: Touch, holder: Holder, line: u32, since: Option<Start>) -> &'st
 // Where to write a cilk_sync, if it is known since which line something holds the name.
 fn sync_for(line: u32, since: Option<Start>) -> &'static str {
     let Some(start) = since else {
-        return "";
+        return ": write cilk_sync; between that spawn and this statement";
     };
     if start.line > line {
         return ": write cilk_sync; at the end of the body of the while";
@@ -154,12 +171,17 @@ fn lines(line: u32, since: Option<Start>) -> [u64; 3] {
 
 // A name that is used while something holds it.
 fn held<'a>(
+    text: &Text<'a>,
     name: Word<'a>,
     touch: Touch,
     holder: Holder,
     line: u32,
     since: Option<Start>,
 ) -> Phrase<'a> {
+    let parts = match since {
+        Some(start) => text.parts(start.line, name).unwrap_or(NO_NAME),
+        None => NO_NAME,
+    };
     Phrase {
         pieces: [
             done(touch),
@@ -169,26 +191,20 @@ fn held<'a>(
             remedy(touch, holder, line, since),
             "",
         ],
-        names: [name, NO_NAME],
+        names: [name, parts, NO_NAME],
         numbers: lines(line, since),
     }
 }
 
 // An array of which only the length is read while something holds it.
-fn length<'a>(
-    text: &Text<'_>,
-    name: Word<'a>,
-    holder: Holder,
-    line: u32,
-    since: Option<Start>,
-) -> Phrase<'a> {
+fn length<'a>(name: Word<'a>, holder: Holder, line: u32, since: Option<Start>) -> Phrase<'a> {
     let remedy = match (holder, since) {
-        (Holder::Cut, _) => "",
+        (Holder::Cut, Some(_)) => ": write int @r = len(@a); before line @2, and @r here",
+        (Holder::Cut, None) => ": write int @r = len(@a); before the cut, and @r here",
         (_, Some(_)) =>
-            ": write int @b = len(@a); before line @2, and @b here; a cilk_sync; before this statement is the slower way",
-        _ => ": write int @b = len(@a); before the spawn, and @b here",
+            ": write int @r = len(@a); before line @2, and @r here; cilk_sync; before this statement also works, but waits for the spawn",
+        _ => ": write int @r = len(@a); before the spawn, and @r here",
     };
-    let fresh = fresh_name(text.bytes, text.tokens);
     Phrase {
         pieces: [
             "this statement reads len(@a), but ",
@@ -198,12 +214,7 @@ fn length<'a>(
             remedy,
             "",
         ],
-        names: [
-            name,
-            Word {
-                text: fresh.as_bytes(),
-            },
-        ],
+        names: [name, NO_NAME, NO_NAME],
         numbers: lines(line, since),
     }
 }
@@ -219,7 +230,7 @@ fn ends<'a>(name: Word<'a>, holder: Holder, since: Option<Start>) -> Phrase<'a> 
             "",
             "",
         ],
-        names: [name, NO_NAME],
+        names: [name, NO_NAME, NO_NAME],
         numbers: lines(0, since),
     }
 }
@@ -227,7 +238,7 @@ fn ends<'a>(name: Word<'a>, holder: Holder, since: Option<Start>) -> Phrase<'a> 
 // A call that takes an array twice.
 fn given_twice<'a>(name: Word<'a>, callee: Word<'a>) -> Phrase<'a> {
     Phrase::of(
-        "this call passes @a to two parameters of @b: write const before both parameters if @b only reads them; otherwise write cut @a at k as l, r { .. } and pass l and r",
+        "this call passes @a to two parameters of @b: write const before both parameters if @b only reads them; otherwise write cut @a at k as @p, @q { .. } and pass @p and @q",
         [name, callee],
         [0; 3],
     )
@@ -236,81 +247,81 @@ fn given_twice<'a>(name: Word<'a>, callee: Word<'a>) -> Phrase<'a> {
 // A call that passes an array to a const parameter and to one that is not.
 fn given_and_read<'a>(name: Word<'a>, callee: Word<'a>) -> Phrase<'a> {
     Phrase::of(
-        "this call passes @a to a parameter of @b that may be written and to a const one: copy @a into an array of its own, or write cut @a at k as l, r { .. } and pass l and r",
+        "this call passes @a to a parameter of @b that may be written and to a const one: copy @a into an array of its own, or write cut @a at k as @p, @q { .. } and pass @p and @q",
         [name, callee],
         [0; 3],
     )
 }
 
 // A loop's body that writes an integer from outside.
-fn outer_written<'a>(text: &Text<'_>, name: Word<'a>, head: u32) -> Phrase<'a> {
-    let fresh = fresh_name(text.bytes, text.tokens);
+fn outer_written<'a>(name: Word<'a>, added: Word<'a>, head: u32) -> Phrase<'a> {
     Phrase::of(
-        "the iterations of the cilk_for in line @1 run in parallel and may not write @a: declare @a in its body; for a sum write reducer sum @b; outside of functions and @b += ..; here (max: reducer max @b; and @b max= ..;); if an iteration needs the one before it, write a while",
-        [
-            name,
-            Word {
-                text: fresh.as_bytes(),
-            },
-        ],
+        "the iterations of the cilk_for in line @1 run in parallel and may not write @a: declare @a in its body; for a sum write reducer sum @r; outside of functions and @r += @b; here (max: reducer max @r; and @r max= ..;), and delete the other uses of @a: the run prints @r at its end; if an iteration needs the one before it, write a while",
+        [name, added],
         [u64::from(head), 0, 0],
     )
 }
 
 // A loop's body that uses an array from outside: over does not list a const one.
-fn outer_array(name: Word<'_>, touch: Touch, head: u32, is_const: bool) -> Phrase<'_> {
+fn outer_array<'a>(
+    name: Word<'a>,
+    touch: Touch,
+    head: u32,
+    is_const: bool,
+    written: Option<Word<'a>>,
+) -> Phrase<'a> {
     let remedy = match touch {
-        _ if is_const =>
-            "@a is const, and the cilk_for in line @1 may not use it: write a function that halves the range, spawns itself on one half and calls itself on the other, and passes @a to its const parameter",
+        _ if is_const => "@a is const, and the cilk_for in line @1 may not use it: ",
         Touch::Read =>
-            "the cilk_for in line @1 may not use @a: write over (@a) in its head to read the element of the loop variable; to read other elements, write a function that halves the range and spawns itself, with @a as a const parameter",
+            "the cilk_for in line @1 may not use @a: write over (@a) in its head to read the element of the loop variable",
         Touch::Written | Touch::Passed | Touch::Cut | Touch::NamedInOver =>
             "the cilk_for in line @1 may not use @a: write over (@a) in its head, and use only the element of the loop variable",
     };
-    let parts = match touch {
-        Touch::Read => "",
-        _ if is_const => "",
-        _ => PARTS,
+    let (front, parts) = match (touch, written) {
+        _ if is_const => ("", halving(written)),
+        (Touch::Read, Some(other)) if other.is(name.text) => ("", COPY),
+        (Touch::Read, _) => ("; to read other elements, ", halving(written)),
+        _ => ("", PARTS),
     };
     Phrase {
-        pieces: [remedy, parts, "", "", "", ""],
-        names: [name, NO_NAME],
+        pieces: [remedy, front, parts, "", "", ""],
+        names: [name, NO_NAME, written.unwrap_or(NO_NAME)],
         numbers: [u64::from(head), 0, 0],
     }
 }
 
 // A loop's body that uses the length of an array of the loop.
-fn length_in_loop<'a>(text: &Text<'_>, name: Word<'a>, head: u32) -> Phrase<'a> {
-    let fresh = fresh_name(text.bytes, text.tokens);
-    Phrase::of(
-        "the cilk_for in line @1 has @a in over, so its body may not use len(@a): write int @b = len(@a); before the loop, and @b here",
-        [
-            name,
-            Word {
-                text: fresh.as_bytes(),
-            },
-        ],
-        [u64::from(head), 0, 0],
+fn length_in_loop(name: Word<'_>, head: u32) -> Phrase<'_> {
+    Phrase::named(
+        "the cilk_for in line @1 has @a in over, so its body may not use len(@a): write int @r = len(@a); before the loop, and @r here",
+        name,
+        u64::from(head),
     )
 }
 
 // A loop's body that uses an array of the loop in another way than it may.
-fn other_element<'a>(name: Word<'a>, touch: Touch, variable: Word<'a>, head: u32) -> Phrase<'a> {
-    let remedy = match touch {
-        Touch::Read =>
-            ": copy the other elements into a const array or integers before the loop, or write a function that halves the range and spawns itself",
-        Touch::Written | Touch::Passed | Touch::Cut | Touch::NamedInOver => PARTS,
+fn other_element<'a>(
+    name: Word<'a>,
+    touch: Touch,
+    variable: Word<'a>,
+    head: u32,
+    written: Option<Word<'a>>,
+) -> Phrase<'a> {
+    let (front, remedy) = match (touch, written) {
+        (Touch::Read, Some(other)) if other.is(name.text) => ("", COPY),
+        (Touch::Read, _) => (": ", halving(written)),
+        _ => ("", PARTS),
     };
     Phrase {
         pieces: [
             "the cilk_for in line @1 has @a in over, so its body may only use @a[@b]",
+            front,
             remedy,
             "",
             "",
             "",
-            "",
         ],
-        names: [name, variable],
+        names: [name, variable, written.unwrap_or(NO_NAME)],
         numbers: [u64::from(head), 0, 0],
     }
 }

@@ -29,12 +29,28 @@ pub trait Marks {
 /// No name.
 pub const NO_NAME: Word<'static> = Word { text: b"" };
 
-/// Consecutive pieces of a text, with what replaces their marks, each after an `@`: `a` and `b` are names, `1`, `2` and `3`
-/// numbers.
+/// The control characters of `p` and `q`, the parts of a cut, `r`, a new name, and `s`, one that all errors share: a list of
+/// errors replaces them by names.
+pub const FIRST_PART: u8 = 16;
+
+pub const SECOND_PART: u8 = 17;
+
+pub const NEW_NAME: u8 = 18;
+
+pub const SHARED_NAME: u8 = 19;
+
+/// Writes the control character of a letter that denotes a new name.
+pub fn write_new<W: fmt::Write>(f: &mut fmt::Formatter<W>, mark: u8) -> fmt::Result {
+    let shown = char::from(mark & 31);
+    write!(f, "{shown}")
+}
+
+/// Consecutive pieces of a text, with what replaces their marks, each after an `@`: `a`, `b` and `c` are names, `1`, `2` and
+/// `3` numbers, and other letters new names.
 #[derive(Clone, Copy)]
 pub struct Phrase<'a> {
     pub pieces: [&'static str; 6],
-    pub names: [Word<'a>; 2],
+    pub names: [Word<'a>; 3],
     pub numbers: [u64; 3],
 }
 
@@ -43,7 +59,7 @@ impl<'a> Phrase<'a> {
     pub fn of(says: &'static str, names: [Word<'a>; 2], numbers: [u64; 3]) -> Phrase<'a> {
         Phrase {
             pieces: [says, "", "", "", "", ""],
-            names,
+            names: [names[0], names[1], NO_NAME],
             numbers,
         }
     }
@@ -66,20 +82,21 @@ impl<'a> Phrase<'a> {
 
 impl Marks for Phrase<'_> {
     fn write_mark<W: fmt::Write>(&self, f: &mut fmt::Formatter<W>, mark: u8) -> fmt::Result {
-        let name = if mark == b'a' {
-            self.names[0]
-        } else {
-            self.names[1]
+        let name = match mark {
+            b'a' => self.names[0],
+            b'b' => self.names[1],
+            _ => self.names[2],
         };
         let number = match mark {
             b'1' => self.numbers[0],
             b'2' => self.numbers[1],
             _ => self.numbers[2],
         };
-        if mark == b'a' || mark == b'b' {
-            return write!(f, "{name}");
+        match mark {
+            b'a'..=b'c' => write!(f, "{name}"),
+            b'1'..=b'3' => write!(f, "{number}"),
+            _ => write_new(f, mark),
         }
-        write!(f, "{number}")
     }
 }
 

@@ -57,6 +57,7 @@ impl<'a> OfTypes<'a> {
             }
             IllTyped::NotInteger(name, _, _) => self.text.use_of(line, Word::of(name)),
             IllTyped::OnlyRead(name, _) => self.text.use_of_const(line, Word::of(name)),
+            IllTyped::Known(name, _) => self.text.use_of_known(line, Word::of(name)),
             IllTyped::Unknown(name) => self.text.ended(line, Word::of(name)),
             IllTyped::NotReducer(name, _) => self.text.outer(line, Word::of(name)),
             IllTyped::ArgumentNotArray(place, name, _, _) => {

@@ -117,6 +117,20 @@ fn after_quotes(bytes: &[u8], from: usize, quote: u8) -> Option<usize> {
     None
 }
 
+/// Returns whether a word begins between two places.
+pub fn has_word(bytes: &[u8], from: usize, to: usize, word: &[u8]) -> bool {
+    for at in from..to {
+        let end = at.saturating_add(word.len());
+        if bytes.get(at..end) == Some(word)
+            && !is_of_word(byte_at(bytes, at.saturating_sub(1)))
+            && !is_of_word(byte_at(bytes, end))
+        {
+            return true;
+        }
+    }
+    false
+}
+
 // The place of the end of the line that begins at or before a place.
 fn line_end(bytes: &[u8], from: usize) -> usize {
     for at in from..bytes.len() {
@@ -441,16 +455,7 @@ impl Bad {
     /// Returns whether a word is in their line, from them on.
     pub fn has_word(&self, bytes: &[u8], word: &[u8]) -> bool {
         let place = self.place as usize;
-        for at in place..line_end(bytes, place) {
-            let end = at.saturating_add(word.len());
-            if bytes.get(at..end) == Some(word)
-                && !is_of_word(byte_at(bytes, at.saturating_sub(1)))
-                && !is_of_word(byte_at(bytes, end))
-            {
-                return true;
-            }
-        }
-        false
+        has_word(bytes, place, line_end(bytes, place), word)
     }
 
     /// Returns why the bytes are not cut into tokens, with their line.

@@ -2,6 +2,13 @@
 
 use crate::habits::Row;
 
+// Texts of several rows.
+const CALL: &str =
+    "@1(..) is a call, and a call is a statement of its own: write @!int @r = 0; @r = @1@(;@! and @r in its place: @!@[@r@;";
+
+const NESTED: &str =
+    "a function is not declared inside another one: the { of line @{ is open; write } before this line";
+
 static DECLARED: &[Row] = &[
     (
         "keyword +=",
@@ -92,7 +99,7 @@ static DECLARED: &[Row] = &[
         "outer",
         "first",
         "- -",
-        "a cilk_for may not write @1: write reducer sum @r; outside of functions, and @r += -1; here",
+        "a cilk_for may not write @1: write reducer sum @r; outside of functions and @r += -1; here, and delete the other uses of @1: the run prints @r at its end",
     ),
     ("x", "first", "- -", "there is no --: write @!@1 = @1 - 1;"),
     ("total", "first", "++", "write @!@1 += 1;"),
@@ -100,7 +107,7 @@ static DECLARED: &[Row] = &[
         "outer",
         "first",
         "++",
-        "a cilk_for may not write @1: write reducer sum @r; outside of functions, and @r += 1; here",
+        "a cilk_for may not write @1: write reducer sum @r; outside of functions and @r += 1; here, and delete the other uses of @1: the run prints @r at its end",
     ),
     (
         "x =",
@@ -180,7 +187,7 @@ static DECLARED: &[Row] = &[
         "outer",
         "first",
         "- =",
-        "a cilk_for may not write @1: write reducer sum @r; outside of functions, and @r += -@) here",
+        "a cilk_for may not write @1: write reducer sum @r; outside of functions and @r += -@) here, and delete the other uses of @1: the run prints @r at its end",
     ),
     (
         "outer",
@@ -242,7 +249,7 @@ static HABITS: &[Row] = &[
         "++ outer",
         "",
         "++",
-        "a cilk_for may not write @+: write reducer sum @r; outside of functions, and @r += 1; here",
+        "a cilk_for may not write @+: write reducer sum @r; outside of functions and @r += 1; here, and delete the other uses of @+: the run prints @r at its end",
     ),
     (
         "++ x",
@@ -251,66 +258,21 @@ static HABITS: &[Row] = &[
         "++ is only for the head of a cilk_for: write @!@+ = @+ + 1;",
     ),
     ("", "library", "(", "@l"),
-    (
-        "",
-        "operator x",
-        "(..)",
-        "@1(..) is a call, and a call is a statement of its own: write @!int @r = 0; @r = @1@(;@! and @r in its place: @!@[@r@;",
-    ),
-    (
-        "",
-        "( x",
-        "(..)",
-        "@1(..) is a call, and a call is a statement of its own: write @!int @r = 0; @r = @1@(;@! and @r in its place: @!@[@r@;",
-    ),
-    (
-        "",
-        ", x",
-        "(..)",
-        "@1(..) is a call, and a call is a statement of its own: write @!int @r = 0; @r = @1@(;@! and @r in its place: @!@[@r@;",
-    ),
-    (
-        "",
-        "[ x",
-        "(..)",
-        "@1(..) is a call, and a call is a statement of its own: write @!int @r = 0; @r = @1@(;@! and @r in its place: @!@[@r@;",
-    ),
-    (
-        "",
-        "! x",
-        "(..)",
-        "@1(..) is a call, and a call is a statement of its own: write @!int @r = 0; @r = @1@(;@! and @r in its place: @!@[@r@;",
-    ),
-    (
-        "",
-        "return x",
-        "(..)",
-        "@1(..) is a call, and a call is a statement of its own: write @!int @r = 0; @r = @1@(;@! and @r in its place: @!@[@r@;",
-    ),
+    ("", "operator x", "(..)", CALL),
+    ("", "( x", "(..)", CALL),
+    ("", ", x", "(..)", CALL),
+    ("", "[ x", "(..)", CALL),
+    ("", "! x", "(..)", CALL),
+    ("", "return x", "(..)", CALL),
     (
         "",
         "] = x",
         "(..)",
         "a call assigns to an integer: write @!int @r = 0; @r = @1@(; @[@r@;",
     ),
-    (
-        "int x = x",
-        "= x",
-        "(..)",
-        "@1(..) is a call, and a call is a statement of its own: write @!int @r = 0; @r = @1@(;@! and @r in its place: @!@[@r@;",
-    ),
-    (
-        "total +=",
-        "+= x",
-        "(..)",
-        "@1(..) is a call, and a call is a statement of its own: write @!int @r = 0; @r = @1@(;@! and @r in its place: @!@[@r@;",
-    ),
-    (
-        "x +=",
-        "+= x",
-        "(..)",
-        "@1(..) is a call, and a call is a statement of its own: write @!int @r = 0; @r = @1@(;@! and @r in its place: @!@[@r@;",
-    ),
+    ("int x = x", "= x", "(..)", CALL),
+    ("total +=", "+= x", "(..)", CALL),
+    ("x +=", "+= x", "(..)", CALL),
 ];
 
 static INSIDE: &[Row] = &[
@@ -350,24 +312,9 @@ static INSIDE: &[Row] = &[
         "cilk_spawn",
         "a spawn is a statement of its own: write int @r = 0; @r = @. cilk_sync; before this statement, and @r in its place",
     ),
-    (
-        "int x (",
-        "int x",
-        "(",
-        "a function is not declared inside another one: the { of line @{ is open; write } before this line",
-    ),
-    (
-        "int x (",
-        "",
-        "",
-        "a function is not declared inside another one: the { of line @{ is open; write } before this line",
-    ),
-    (
-        "void",
-        "",
-        "void",
-        "a function is not declared inside another one: the { of line @{ is open; write } before this line",
-    ),
+    ("int x (", "int x", "(", NESTED),
+    ("int x (", "", "", NESTED),
+    ("void", "", "void", NESTED),
     (
         "x = x (",
         ")",
@@ -380,12 +327,7 @@ static INSIDE: &[Row] = &[
         "operator",
         "a spawn is a statement of its own: write @!int @r = 0; @r = @=; cilk_sync; @^ = @r @.",
     ),
-    (
-        "",
-        "x",
-        "(..)",
-        "@1(..) is a call, and a call is a statement of its own: write @!int @r = 0; @r = @1@(;@! and @r in its place: @!@[@r@;",
-    ),
+    ("", "x", "(..)", CALL),
     ("", "(", "int", "there are no casts: delete (int)"),
     (
         "",
@@ -540,7 +482,7 @@ static UPDATES: &[Row] = &[
         "outer",
         "first",
         "+=",
-        "@1 is not a reducer: write reducer sum @r; outside of functions, and @r += @> here",
+        "@1 is not a reducer: write reducer sum @r; outside of functions and @r += @> here, and delete the other uses of @1: the run prints @r at its end",
     ),
     (
         "x",

@@ -2,6 +2,7 @@
 
 use crate::advice::advice_for;
 use crate::calling::Call;
+use crate::owning::halving;
 use crate::phrase::{NO_NAME, Phrase};
 use crate::word::Word;
 use cw_model::limits::MOST_GRAIN;
@@ -48,7 +49,8 @@ pub fn phrase_of<'a>(reason: &'a IllTyped<'_>, context: &Context<'a>) -> Phrase<
         }
         IllTyped::NotReducer(name, how) => not_reducer(name, *how, context),
         IllTyped::Unknown(name) => not_declared(name, context.call),
-        IllTyped::OnlyRead(name, line) => named_at(only_read(context.call), name, *line),
+        IllTyped::OnlyRead(name, line) => only_read(context.call, name, *line),
+        IllTyped::Known(name, line) => named_at(known(context.call), name, *line),
         _ => of_head(reason),
     }
 }
@@ -103,7 +105,7 @@ fn other_at<'a>(says: &'static str, name: &'a Name, other: Other, line: u32) -> 
 fn argument<'a>(place: u64, name: &'a Name, param: &'a Name, context: &Context<'a>) -> Phrase<'a> {
     let (says, array) = match context.call {
         Call::Argument(array) => (
-            "argument @1 of @a must be an array name on its own; to pass a part, write cut @b at k as l, r { .. } and pass l or r; a function that only reads @b takes it as const, and the ends of a range",
+            "argument @1 of @a must be an array name on its own; to pass a part, write cut @b at k as @p, @q { .. } and pass @p or @q; if @a only reads @b, pass the whole @b to a const parameter, and the ends of the part as integers",
             array,
         ),
         _ => (
@@ -116,19 +118,10 @@ fn argument<'a>(place: u64, name: &'a Name, param: &'a Name, context: &Context<'
 
 // A name that is not a reducer.
 fn not_reducer<'a>(name: &'a Name, how: Reduction, context: &Context<'a>) -> Phrase<'a> {
-    if let Call::Outer(fresh) = context.call {
-        return Phrase::of(
-            outer_reducer(how),
-            [
-                Word::of(name),
-                Word {
-                    text: fresh.as_bytes(),
-                },
-            ],
-            [0; 3],
-        );
+    match context.call {
+        Call::Outer => named(outer_reducer(how), name),
+        _ => named(no_reducer(how), name),
     }
-    named(no_reducer(how), name)
 }
 
 // Functions and reducers, and then what follows.
@@ -163,7 +156,7 @@ fn of_head<'a>(reason: &'a IllTyped<'_>) -> Phrase<'a> {
 fn may_not_return(name: &Name, inside: Option<u32>) -> Phrase<'_> {
     match inside {
         Some(line) => named_at(
-            "@a must return an integer at its end, and the return in line @1 is in a block that has none: declare int r = 0; before that block, assign to r in it, and write return r; after it",
+            "@a must return an integer at its end, and the return in line @1 is in a cilk_scope, cut, region or cilk_for, where none is allowed: declare int @s = 0; before that block, assign to @s in it, and write return @s; after it",
             name,
             line,
         ),
@@ -181,11 +174,6 @@ fn of_name<'a>(reason: &'a IllTyped<'_>) -> Phrase<'a> {
             "@a is @b (line @1), but an array is required here: declare int @a[n]; or rename one of them",
             name,
             *other,
-            *line,
-        ),
-        IllTyped::Known(name, line) => named_at(
-            "@a is already declared in line @1: delete int to assign to it, or use another name",
-            name,
             *line,
         ),
         IllTyped::Global(name, other, line) => {
@@ -217,13 +205,35 @@ fn not_declared<'a>(name: &'a Name, call: Call<'_>) -> Phrase<'a> {
     }
 }
 
-// A const array that is written, cut or listed in over.
-fn only_read(call: Call<'_>) -> &'static str {
+// A name that is declared again.
+fn known(call: Call<'_>) -> &'static str {
     match call {
-        Call::Listed =>
-            "@a is const (line @1), and over lists arrays that iterations may write: delete const if each iteration uses only its own element of @a; to read other elements, write a function that halves the range, spawns itself on one half and calls itself on the other, and passes @a to its const parameter",
-        _ =>
-            "@a is const (line @1): delete const to write or cut it; a const array is read by @a[..] and len(@a), and passed whole to a const parameter, with the ends of a range",
+        Call::Declared =>
+            "@a is already declared in line @1: delete int to assign to it, or use another name",
+        _ => "@a is already declared in line @1: use another name here",
+    }
+}
+
+// A const array that is written, cut, passed or listed in over.
+fn only_read<'a>(call: Call<'a>, name: &'a Name, line: u32) -> Phrase<'a> {
+    let says = match call {
+        Call::Listed(_) =>
+            "@a is const (line @1), and over lists arrays that iterations may write: delete const if each iteration uses only its own element of @a; to read other elements, ",
+        Call::Passed(_) =>
+            "@a is const (line @1): write const before this parameter of @b if @b only reads @a; otherwise delete const in line @1",
+        Call::Cut =>
+            "@a is const (line @1), and a const array is not cut: delete const, or pass the whole @a to const parameters, and the ends of a part as integers",
+        _ => "@a is const (line @1): delete const to write it",
+    };
+    let (further, other, written) = match call {
+        Call::Listed(written) => (halving(written), NO_NAME, written.unwrap_or(NO_NAME)),
+        Call::Passed(callee) => ("", callee, NO_NAME),
+        _ => ("", NO_NAME, NO_NAME),
+    };
+    Phrase {
+        pieces: [says, further, "", "", "", ""],
+        names: [Word::of(name), other, written],
+        numbers: [u64::from(line), 0, 0],
     }
 }
 
@@ -236,7 +246,7 @@ fn unknown<'a>(front: &'static str, says: &'static str, name: &'a Name) -> Phras
     };
     Phrase {
         pieces: [front, says, "", "", "", ""],
-        names: [name, NO_NAME],
+        names: [name, NO_NAME, NO_NAME],
         numbers: [0; 3],
     }
 }
@@ -244,6 +254,10 @@ fn unknown<'a>(front: &'static str, says: &'static str, name: &'a Name) -> Phras
 // A name that is not an integer's, by what the line does with it.
 fn not_integer(other: Other, call: Call<'_>) -> &'static str {
     match (other, call) {
+        (Other::Reducer, Call::Printed) =>
+            "@a is @b (line @1), and no statement reads it: delete this statement; the run prints @a at its end",
+        (Other::Reducer, Call::Returned) =>
+            "@a is @b (line @1), and no statement reads it: write return 0; here, the run prints @a at its end. If the program needs the value, return it from functions or write it to arrays instead",
         (Other::Reducer, Call::Largest) =>
             "@a is @b (line @1), and no statement reads it: write @a max= e; for if (e > @a) { @a = e; }, and delete other uses; the run prints @a at its end",
         (Other::Reducer, Call::Target) =>
@@ -259,7 +273,7 @@ fn not_integer(other: Other, call: Call<'_>) -> &'static str {
         (Other::Array, _) | (Other::Const, _) =>
             "@a is @b (line @1), but an integer is required here: write @a[i] for an element",
         (Other::Function, _) =>
-            "@a is @b (line @1), but an integer is required here: write int r = 0; r = @a(..); and then r",
+            "@a is @b (line @1), but an integer is required here: write int @r = 0; @r = @a(..); and then @r",
         _ => "@a is @b (line @1), but an integer is required here",
     }
 }
@@ -268,9 +282,9 @@ fn not_integer(other: Other, call: Call<'_>) -> &'static str {
 fn outer_reducer(how: Reduction) -> &'static str {
     match how {
         Reduction::Sum =>
-            "@a is not a reducer: write reducer sum @b; outside of functions, and @b += .. here",
+            "@a is not a reducer: write reducer sum @r; outside of functions and @r += .. here, and delete the other uses of @a: the run prints @r at its end",
         Reduction::Max =>
-            "@a is not a reducer: write reducer max @b; outside of functions, and @b max= .. here",
+            "@a is not a reducer: write reducer max @r; outside of functions and @r max= .. here, and delete the other uses of @a: the run prints @r at its end",
     }
 }
 
@@ -335,7 +349,7 @@ fn of_statement<'a>(reason: &'a IllTyped<'_>) -> Phrase<'a> {
     match reason {
         IllTyped::ReturnInside => plain(
             reason,
-            "no return is allowed in cilk_scope, cut, region or cilk_for: declare int r = 0; before the block, assign to r in it, and write return r; after it",
+            "no return is allowed in cilk_scope, cut, region or cilk_for: declare int @s = 0; before the block, assign to @s in it, and write return @s; after it",
         ),
         IllTyped::ReturnsNothing => {
             plain(

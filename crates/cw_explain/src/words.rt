@@ -48,11 +48,30 @@ pub static MIDDLES: &[&str] = &[
     "cilk_for",
 ];
 
-/// Names for a new variable, the first of which that a source does not declare is suggested.
+/// Names for new variables, of which each text suggests another one that is no word of the source.
 pub static FRESH: &[&str] = &["r", "t", "v", "w", "result", "value"];
+
+/// Names for the parts of a cut, of which the first ones that are no words of the source are suggested.
+pub static PARTS: &[(&str, &str)] = &[("left", "right"), ("low", "high"), ("front", "back")];
 
 /// A name of C's libraries, and what to write instead.
 pub type Call = (&'static str, &'static str);
+
+/// What to write instead of a lock.
+pub const LOCK: &str =
+    "a lock has no replacement: add to a reducer (reducer sum s; outside of functions, s += e;), or give each call a part of the array by cut";
+
+const ARGUMENT: &str =
+    "declare a parameter of main for each argument, as int main(int n), and delete this statement";
+
+const ARRAY: &str =
+    "declare an array of n elements: int a[n]; its elements are 0, and it ends with its block";
+
+const RANDOM: &str =
+    "write a function of an index i, as (i * 1103515245 + 12345) % 2147483648, or keep a state x in a while: x = (x * 1103515245 + 12345) % 2147483648;";
+
+const TIME: &str =
+    "it has no replacement: delete it; cilkwork counts instructions, and scale reports those of each region NAME { .. }";
 
 static LIBRARY: &[Call] = &[
     (
@@ -71,18 +90,9 @@ static LIBRARY: &[Call] = &[
         "getchar",
         "declare a parameter of main for each value that is read",
     ),
-    (
-        "atoi",
-        "declare a parameter of main for each argument, as int main(int n), and delete this statement",
-    ),
-    (
-        "atol",
-        "declare a parameter of main for each argument, as int main(int n), and delete this statement",
-    ),
-    (
-        "strtol",
-        "declare a parameter of main for each argument, as int main(int n), and delete this statement",
-    ),
+    ("atoi", ARGUMENT),
+    ("atol", ARGUMENT),
+    ("strtol", ARGUMENT),
     (
         "argc",
         "declare a parameter of main for each argument, as int main(int n); their number is checked",
@@ -91,18 +101,9 @@ static LIBRARY: &[Call] = &[
         "argv",
         "declare a parameter of main for each argument, as int main(int n)",
     ),
-    (
-        "malloc",
-        "declare an array of n elements: int a[n]; its elements are 0, and it ends with its block",
-    ),
-    (
-        "calloc",
-        "declare an array of n elements: int a[n]; its elements are 0, and it ends with its block",
-    ),
-    (
-        "alloca",
-        "declare an array of n elements: int a[n]; its elements are 0, and it ends with its block",
-    ),
+    ("malloc", ARRAY),
+    ("calloc", ARRAY),
+    ("alloca", ARRAY),
     (
         "realloc",
         "declare a larger array int b[n]; and copy each element: b[i] = a[i];",
@@ -131,18 +132,9 @@ static OTHER_CALLS: &[Call] = &[
     ("fmax", "write int m = a; if (b > m) { m = b; }"),
     ("abs", "write if (x < 0) { x = -x; }"),
     ("labs", "write if (x < 0) { x = -x; }"),
-    (
-        "rand",
-        "write a function of an index i, as (i * 1103515245 + 12345) % 2147483648, or keep a state x in a while: x = (x * 1103515245 + 12345) % 2147483648;",
-    ),
-    (
-        "random",
-        "write a function of an index i, as (i * 1103515245 + 12345) % 2147483648, or keep a state x in a while: x = (x * 1103515245 + 12345) % 2147483648;",
-    ),
-    (
-        "srand",
-        "write a function of an index i, as (i * 1103515245 + 12345) % 2147483648, or keep a state x in a while: x = (x * 1103515245 + 12345) % 2147483648;",
-    ),
+    ("rand", RANDOM),
+    ("random", RANDOM),
+    ("srand", RANDOM),
     (
         "assert",
         "write if (!(c)) { print(1 / 0); } for assert(c): the division traps",
@@ -155,22 +147,10 @@ static OTHER_CALLS: &[Call] = &[
         "abort",
         "it has no replacement: return from each function, or write print(1 / 0); to stop the run with a trap",
     ),
-    (
-        "clock",
-        "it has no replacement: delete it; cilkwork counts instructions, and scale reports those of each region NAME { .. }",
-    ),
-    (
-        "time",
-        "it has no replacement: delete it; cilkwork counts instructions, and scale reports those of each region NAME { .. }",
-    ),
-    (
-        "gettimeofday",
-        "it has no replacement: delete it; cilkwork counts instructions, and scale reports those of each region NAME { .. }",
-    ),
-    (
-        "clock_gettime",
-        "it has no replacement: delete it; cilkwork counts instructions, and scale reports those of each region NAME { .. }",
-    ),
+    ("clock", TIME),
+    ("time", TIME),
+    ("gettimeofday", TIME),
+    ("clock_gettime", TIME),
     ("true", "write 1"),
     ("false", "write 0"),
     (
@@ -210,22 +190,10 @@ static CILK_CALLS: &[Call] = &[
         "__cilkrts_get_worker_number",
         "it has no replacement: no value depends on the worker; add to a reducer, or write to a part of an array",
     ),
-    (
-        "pthread_mutex_lock",
-        "a lock has no replacement: add to a reducer (reducer sum s; outside of functions, s += e;), or give each call a part of the array by cut",
-    ),
-    (
-        "pthread_mutex_unlock",
-        "a lock has no replacement: add to a reducer (reducer sum s; outside of functions, s += e;), or give each call a part of the array by cut",
-    ),
-    (
-        "mutex_lock",
-        "a lock has no replacement: add to a reducer (reducer sum s; outside of functions, s += e;), or give each call a part of the array by cut",
-    ),
-    (
-        "mutex_unlock",
-        "a lock has no replacement: add to a reducer (reducer sum s; outside of functions, s += e;), or give each call a part of the array by cut",
-    ),
+    ("pthread_mutex_lock", LOCK),
+    ("pthread_mutex_unlock", LOCK),
+    ("mutex_lock", LOCK),
+    ("mutex_unlock", LOCK),
     (
         "CILK_C_REDUCER_OPADD",
         "write reducer sum s; outside of functions, and s += e; to add to it",

@@ -132,11 +132,11 @@ static PROGRAMS: &[(&str, &str)] = &[
     ),
     (
         STENCIL,
-        "refused 4 line 3\nt:3: the cilk_for in line 2 has a in over, so its body may only use a[i]: copy the other elements into a const array or integers before the loop, or write a function that halves the range and spawns itself\n  2 |   cilk_for (int i = 0; i < len(b) - 1; i++) grain 100 over (a, b) {\n  3 |     b[i] = (a[i] + a[i + 1]) / 2;\n    |             ^\n",
+        "refused 4 line 3\nt:3: the cilk_for in line 2 has a in over, so its body may only use a[i]: write void halve_b(const int a[], int b[], int from) { int r = len(b); if (r < 100) { int i = 0; while (i < r) { .. i = i + 1; } return; } r = r / 2; cut b at r as left, right { cilk_spawn halve_b(a, left, from); halve_b(a, right, from + r); } } with the body of the loop in the while, b[i] for its element of b and from + i for its variable, and halve_b(a, b, 0); for the loop; add a parameter for each other name in the body, and test from + i if the loop leaves out elements\n  2 |   cilk_for (int i = 0; i < len(b) - 1; i++) grain 100 over (a, b) {\n  3 |     b[i] = (a[i] + a[i + 1]) / 2;\n    |             ^\n",
     ),
     (
         QUARTERS,
-        "refused 4 line 7\nt:7: this statement passes b, but the spawn in line 6 holds b until the next cilk_sync: write const before the parameter in both functions if they only read b; otherwise write cut b at k as l, r { .. } and pass l and r, give one call an array of its own, or write cilk_sync; between them\n  6 |   cilk_spawn multiply(a0, b, c0);\n  7 |   cilk_spawn multiply(a1, b, c1);\n    |                           ^\n",
+        "refused 4 line 7\nt:7: this statement passes b, but the spawn in line 6 holds b until the next cilk_sync: write const before the parameter of each called function if it only reads b; otherwise write cut b at k as left, right { .. } and pass left and right, give one call an array of its own, or write cilk_sync; between them\n  6 |   cilk_spawn multiply(a0, b, c0);\n  7 |   cilk_spawn multiply(a1, b, c1);\n    |                           ^\n",
     ),
     (
         HISTOGRAM,

@@ -9,7 +9,7 @@ static TOKENS: &[(&str, &str)] = &[
     ),
     (
         "int main(int n) {\n  if (n && 1) { } // & and @\n  return 0;\n}",
-        "refused 1 line 2\nt:2: there is no &&: write if (a) { if (b) { .. } } for if (a && b) { .. }, or a * b if a and b are 0 or 1\n  2 |   if (n && 1) { } // & and @\n    |         ^\n",
+        "refused 1 line 2\nt:2: there is no &&: write if (a) { if (b) { .. } } for if (a && b) { .. }; with an else write int r = 0; if (a) { r = b; } if (r) { .. } else { .. }\n  2 |   if (n && 1) { } // & and @\n    |         ^\n",
     ),
     (
         "#include <cilk/cilk.h>\nint main() { return 0; }",

@@ -46,7 +46,7 @@ static SOURCES: &[(&str, &str, &str)] = &[
     ),
     (
         "int f(int a[]) {\n  cut a at 1 as l, r {\n    return l[0];\n  }\n}\nint main() {\n  return 0;\n}",
-        "t:1: f must return an integer at its end, and the return in line 3 is in a block that has none: declare int r = 0; before that block, assign to r in it, and write return r; after it\n  1 | int f(int a[]) {\n    |     ^\n  3 |     return l[0];\n",
+        "t:1: f must return an integer at its end, and the return in line 3 is in a cilk_scope, cut, region or cilk_for, where none is allowed: declare int t = 0; before that block, assign to t in it, and write return t; after it\n  1 | int f(int a[]) {\n    |     ^\n  3 |     return l[0];\n",
         "t:3:",
     ),
     // that return once, and one of another function
@@ -78,22 +78,22 @@ static SOURCES: &[(&str, &str, &str)] = &[
     (
         "int f(int n) {\n  if (n) {\n    return 1;\n  }\n}\nint main() {\n  region t {\n    n = 1;\n  }\n  return 0;\n}",
         "may end without a return",
-        "in a block that has none",
+        "where none is allowed",
     ),
     (
         "int get(const int a[]) {\n  return a[0];\n}\nint main() {\n  int a[4];\n  cilk_for (int i = 0; i < 4; i++) {\n    get(a);\n  }\n  return 0;\n}",
-        "write a function that halves the range and spawns itself, with a as a const parameter",
+        "write void halve_a(const int a[], int from, int to) { if (to - from < 100) { int i = from; while (i < to) { .. i = i + 1; } return; } int r = (from + to) / 2; cilk_spawn halve_a(a, from, r); halve_a(a, r, to); } with the body of the loop in the while, and halve_a(a, LOW, HIGH); for the loop; add a parameter for each other name in the body",
         "cilk_sync",
     ),
     // a table that is only read, beside an array of which two calls write parts
     (
         "void fill(int b[], int t[], int i, int end) {\n  cilk_for (int k = i; k < end; k++) over (b) {\n    b[k] = t[k % 2];\n  }\n}\nint main() {\n  int b[8];\n  int t[2];\n  cilk_spawn fill(b, t, 0, 4);\n  cilk_spawn fill(b, t, 4, 8);\n  return b[0];\n}",
-        "t:3: the cilk_for in line 2 may not use t: write over (t) in its head to read the element of the loop variable; to read other elements, write a function that halves the range and spawns itself, with t as a const parameter",
+        "t:3: the cilk_for in line 2 may not use t: write over (t) in its head to read the element of the loop variable; to read other elements, write void halve_b(const int t[], int b[], int from) { int r = len(b); if (r < 100) { int i = 0; while (i < r) { .. i = i + 1; } return; } r = r / 2; cut b at r as left, right { cilk_spawn halve_b(t, left, from); halve_b(t, right, from + r); } } with the body of the loop in the while, b[i] for its element of b and from + i for its variable, and halve_b(t, b, 0); for the loop; add a parameter for each other name in the body, and test from + i if the loop leaves out elements",
         "t:3: b",
     ),
     (
         "void fill(int b[], const int t[], int i, int end) {\n  while (i < end) {\n    b[i] = t[i % 2];\n    i = i + 1;\n  }\n}\nint main() {\n  int b[8];\n  int t[2];\n  cilk_spawn fill(b, t, 0, 4);\n  cilk_spawn fill(b, t, 4, 8);\n  return b[0];\n}",
-        "t:11: this statement passes b, but the spawn in line 10 holds b until the next cilk_sync: write const before the parameter in both functions if they only read b; otherwise write cut b at k as l, r { .. } and pass l and r",
+        "t:11: this statement passes b, but the spawn in line 10 holds b until the next cilk_sync: write const before the parameter of each called function if it only reads b; otherwise write cut b at k as left, right { .. } and pass left and right",
         "t is",
     ),
     (

@@ -5,10 +5,39 @@ use crate::explained::{Habit, NONE};
 static BYTES: &[Habit] = &[
     (
         "if (n && 1) { }",
-        "write if (a) { if (b) { .. } } for if (a && b) { .. }, or a * b if a and b are 0 or 1",
+        "write if (a) { if (b) { .. } } for if (a && b) { .. }; with an else write int r = 0; if (a) { r = b; } if (r) { .. } else { .. }",
         "if (n) { if (1) { } }",
     ),
-    ("n = n & 15;", "write n % 16 for n & 15", "n = n % 16;"),
+    (
+        "if(n > 1 && 5 / n) { n = 2; } else { n = 3; }",
+        "write if (a) { if (b) { .. } } for if (a && b) { .. }; with an else write int r = 0; if (a) { r = b; } if (r) { .. } else { .. }",
+        "int r = 0; if (n > 1) { r = 5 / n; } if (r) { n = 2; } else { n = 3; }",
+    ),
+    (
+        "while (n < 5 && 9 / n) { n = n + 1; }",
+        "write int r = 0; if (a) { r = b; } while (r) { .. r = 0; if (a) { r = b; } } for while (a && b) { .. }",
+        "int r = 0; if (n < 5) { r = 9 / n; } while (r) { n = n + 1; r = 0; if (n < 5) { r = 9 / n; } }",
+    ),
+    (
+        "while(n && 1) { n = n - 1; }",
+        "write int r = 0; if (a) { r = b; } while (r) { .. r = 0; if (a) { r = b; } } for while (a && b) { .. }",
+        "int r = 0; if (n) { r = 1; } while (r) { n = n - 1; r = 0; if (n) { r = 1; } }",
+    ),
+    (
+        "n = n > 2 && n < 5;",
+        "write (a) * (b) for a && b if a and b are 0 or 1, as comparisons are, and b does not trap if a is 0; otherwise write int r = 0; if (a) { r = b; } before this statement, and r for a && b",
+        "n = (n > 2) * (n < 5);",
+    ),
+    (
+        "int x = n && 5 / n;",
+        "write (a) * (b) for a && b if a and b are 0 or 1, as comparisons are, and b does not trap if a is 0; otherwise write int r = 0; if (a) { r = b; } before this statement, and r for a && b",
+        "int r = 0; if (n) { r = 5 / n; } int x = r;",
+    ),
+    (
+        "n = n & 15;",
+        "write n % 16 for n & 15, and n % 2 for n & 1 (n >= 0)",
+        "n = n % 16;",
+    ),
     (
         "pthread_mutex_lock(&m);",
         "a lock has no replacement: add to a reducer",
@@ -31,8 +60,23 @@ static BYTES: &[Habit] = &[
     ),
     (
         "if (n == 1 || n == 2) { }",
-        "write (a) + (b) for a || b if a and b are 0 or 1",
+        "write (a) + (b) for a || b if a and b are 0 or 1, as comparisons are, and b does not trap if a is 1; otherwise write int r = 1; if (!(a)) { r = b; } before this statement, and r for a || b",
         "if ((n == 1) + (n == 2)) { }",
+    ),
+    (
+        "int x = n == 0 || 5 / n;",
+        "write (a) + (b) for a || b if a and b are 0 or 1, as comparisons are, and b does not trap if a is 1; otherwise write int r = 1; if (!(a)) { r = b; } before this statement, and r for a || b",
+        "int r = 1; if (!(n == 0)) { r = 5 / n; } int x = r;",
+    ),
+    (
+        "while (n == 1 || n == 2) { n = n + 1; }",
+        "write while ((a) + (b)) { .. } for while (a || b) { .. } if a and b are 0 or 1, as comparisons are, and b does not trap if a is 1; otherwise write int r = 1; if (!(a)) { r = b; } while (r) { .. r = 1; if (!(a)) { r = b; } }",
+        "while ((n == 1) + (n == 2)) { n = n + 1; }",
+    ),
+    (
+        "while(n == 0 || 5 / n) { n = n - 1; }",
+        "write while ((a) + (b)) { .. } for while (a || b) { .. } if a and b are 0 or 1, as comparisons are, and b does not trap if a is 1; otherwise write int r = 1; if (!(a)) { r = b; } while (r) { .. r = 1; if (!(a)) { r = b; } }",
+        "int r = 1; if (!(n == 0)) { r = 5 / n; } while (r) { n = n - 1; r = 1; if (!(n == 0)) { r = 5 / n; } }",
     ),
     (
         "n = n | 1;",
@@ -312,8 +356,8 @@ static NAMES: &[Habit] = &[
 static RULES: &[Habit] = &[
     (
         "int a[2]; h(a + 1);",
-        "argument 1 of h must be an array name on its own; to pass a part, write cut a at k as l, r { .. } and pass l or r",
-        "int a[2]; int k = 1; cut a at k as l, r { h(r); }",
+        "argument 1 of h must be an array name on its own; to pass a part, write cut a at k as left, right { .. } and pass left or right; if h only reads a, pass the whole a to a const parameter, and the ends of the part as integers",
+        "int a[2]; int k = 1; cut a at k as left, right { h(right); }",
     ),
     (
         "int a[2]; int b[2]; b = a;",
@@ -353,8 +397,18 @@ static RULES: &[Habit] = &[
     ),
     (
         "print(total);",
-        "total is a reducer (line 1), and no statement reads it: delete the use",
+        "total is a reducer (line 1), and no statement reads it: delete this statement; the run prints total at its end",
         "",
+    ),
+    (
+        "if (n) { return total; }",
+        "total is a reducer (line 1), and no statement reads it: write return 0; here, the run prints total at its end",
+        "if (n) { return 0; }",
+    ),
+    (
+        "n = total + 1;",
+        "total is a reducer (line 1), and no statement reads it: delete the use; the run prints total at its end",
+        "n = 1;",
     ),
     (
         "m = 1;",
@@ -365,6 +419,31 @@ static RULES: &[Habit] = &[
         "int n = 1;",
         "n is already declared in line 2: delete int to assign to it",
         "n = 1;",
+    ),
+    (
+        "int a[4]; cut a at 2 as n, m { }",
+        "n is already declared in line 2: use another name here",
+        "int a[4]; cut a at 2 as l, m { }",
+    ),
+    (
+        "cilk_for (int n = 0; n < 4; n++) { }",
+        "n is already declared in line 2: use another name here",
+        "cilk_for (int i = 0; i < 4; i++) { }",
+    ),
+    (
+        "int n[4];",
+        "n is already declared in line 2: use another name here",
+        "int a[4];",
+    ),
+    (
+        "int a[4]; a = n;\n n = a[0];",
+        "t:3: a is an array (line 3), and = assigns integers: copy each element",
+        "int a[4]; int i = 0; while (i < len(a)) { a[i] = n; i = i + 1; }\n n = a[0];",
+    ),
+    (
+        "int a[4]; a = n;\n return a;",
+        "t:3: a is an array (line 3), and = assigns integers: copy each element",
+        "int a[4]; int i = 0; while (i < len(a)) { a[i] = n; i = i + 1; }\n",
     ),
     (
         "cilk_scope { return 1; }",
@@ -403,12 +482,22 @@ static RULES: &[Habit] = &[
     ),
     (
         "int a[8]; cilk_spawn h(a);\n h(a);",
-        "write cut a at k as l, r { .. } and pass l and r",
-        "int a[8]; int k = 4; cut a at k as l, r { cilk_spawn h(l);\n h(r); }",
+        "write cut a at k as left, right { .. } and pass left and right",
+        "int a[8]; int k = 4; cut a at k as left, right { cilk_spawn h(left);\n h(right); }",
+    ),
+    (
+        "int a[8]; int left = 4; cilk_spawn h(a);\n h(a);",
+        "write cut a at k as low, high { .. } and pass low and high",
+        "int a[8]; int left = 4; cut a at left as low, high { cilk_spawn h(low);\n h(high); }",
+    ),
+    (
+        "int x = 0; int y = 0; x = cilk_spawn f(n);\n y = cilk_spawn f(n);\n n = x;\n n = y;",
+        "t:6: this statement reads y, but a spawn assigns to y at the next cilk_sync: write cilk_sync; between that spawn and this statement",
+        "int x = 0; int y = 0; x = cilk_spawn f(n);\n y = cilk_spawn f(n);\n cilk_sync; n = x;\n n = y;",
     ),
     (
         "cilk_for (int i = 0; i < n; i++) { n = n + i; }",
-        "write reducer sum r; outside of functions and r += ..; here",
+        "write reducer sum r; outside of functions and r += i; here (max: reducer max r; and r max= ..;), and delete the other uses of n: the run prints r at its end",
         "cilk_for (int i = 0; i < n; i++) { total += i; }",
     ),
     (
@@ -423,8 +512,13 @@ static RULES: &[Habit] = &[
     ),
     (
         "int a[8]; cut a at 4 as l, r { a[0] = 1; }",
-        "holds a until its block ends: use its parts there",
+        "holds a until its block ends: use its parts l, r there",
         "int a[8]; cut a at 4 as l, r { l[0] = 1; }",
+    ),
+    (
+        "int a[8]; int x = 0;\n cut a at 4 as l, r {\n x = len(a); }",
+        "holds a until its block ends: write int t = len(a); before line 4, and t here",
+        "int a[8]; int x = 0;\n int t = len(a); cut a at 4 as l, r {\n x = t; }",
     ),
     (
         "while (n) { int x = 0; x = cilk_spawn f(n); n = n - 1; }",

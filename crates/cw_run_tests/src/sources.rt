@@ -180,8 +180,13 @@ static SOURCES: &[Habit] = &[
     ),
     (
         "int c = 10;\nint main(int n) {\n  return n;\n}",
-        "declare int c = 10; in main and pass it",
+        "delete this line and write 10 for c if no statement assigns to c; otherwise declare int c = 10; in main and pass it, or write reducer sum c; for a sum over strands",
         "int main(int n) {\n  int c = 10;\n  return c;\n}",
+    ),
+    (
+        "int c = 2 * 5;\nint main(int n) {\n  return n;\n}",
+        "declare int c = 2 * 5; in main and pass it; a sum over strands is reducer sum c;",
+        "int main(int n) {\n  int c = 2 * 5;\n  return n;\n}",
     ),
     (
         "int c;\nint main(int n) {\n  return n;\n}",
@@ -293,23 +298,23 @@ static UPDATES: &[Habit] = &[
     ),
     (
         "int main(int n) {\n  int x = 0;\n  cilk_for (int i = 0; i < n; i++) {\n    x--;\n  }\n  return x;\n}",
-        "write reducer sum r; outside of functions, and r += -1; here",
-        "reducer sum r;\nint main(int n) {\n  int x = 0;\n  cilk_for (int i = 0; i < n; i++) {\n    r += -1;\n  }\n  return x;\n}",
+        "write reducer sum r; outside of functions and r += -1; here, and delete the other uses of x: the run prints r at its end",
+        "reducer sum r;\nint main(int n) {\n  cilk_for (int i = 0; i < n; i++) {\n    r += -1;\n  }\n  return 0;\n}",
     ),
     (
         "int main(int n) {\n  int x = 0;\n  cilk_for (int i = 0; i < n; i++) {\n    x++;\n  }\n  return x;\n}",
-        "write reducer sum r; outside of functions, and r += 1; here",
-        "reducer sum r;\nint main(int n) {\n  int x = 0;\n  cilk_for (int i = 0; i < n; i++) {\n    r += 1;\n  }\n  return x;\n}",
+        "write reducer sum r; outside of functions and r += 1; here, and delete the other uses of x: the run prints r at its end",
+        "reducer sum r;\nint main(int n) {\n  cilk_for (int i = 0; i < n; i++) {\n    r += 1;\n  }\n  return 0;\n}",
     ),
     (
         "int main(int n) {\n  int x = 0;\n  cilk_for (int i = 0; i < n; i++) {\n    ++x;\n  }\n  return x;\n}",
-        "write reducer sum r; outside of functions, and r += 1; here",
-        "reducer sum r;\nint main(int n) {\n  int x = 0;\n  cilk_for (int i = 0; i < n; i++) {\n    r += 1;\n  }\n  return x;\n}",
+        "write reducer sum r; outside of functions and r += 1; here, and delete the other uses of x: the run prints r at its end",
+        "reducer sum r;\nint main(int n) {\n  cilk_for (int i = 0; i < n; i++) {\n    r += 1;\n  }\n  return 0;\n}",
     ),
     (
         "int main(int n) {\n  int x = 0;\n  cilk_for (int i = 0; i < n; i++) {\n    x -= i;\n  }\n  return x;\n}",
-        "write reducer sum r; outside of functions, and r += -i; here",
-        "reducer sum r;\nint main(int n) {\n  int x = 0;\n  cilk_for (int i = 0; i < n; i++) {\n    r += -i;\n  }\n  return x;\n}",
+        "write reducer sum r; outside of functions and r += -i; here, and delete the other uses of x: the run prints r at its end",
+        "reducer sum r;\nint main(int n) {\n  cilk_for (int i = 0; i < n; i++) {\n    r += -i;\n  }\n  return 0;\n}",
     ),
     (
         "int main(int n) {\n  int x = 1;\n  cilk_for (int i = 0; i < n; i++) {\n    x *= 2;\n  }\n  return x;\n}",
@@ -338,8 +343,8 @@ static UPDATES: &[Habit] = &[
     ),
     (
         "int main(int n) {\n  int x = 0;\n  cilk_for (int i = 0; i < n; i++) {\n    x += i;\n  }\n  return x;\n}",
-        "write reducer sum r; outside of functions, and r += .. here",
-        "reducer sum r;\nint main(int n) {\n  int x = 0;\n  cilk_for (int i = 0; i < n; i++) {\n    r += i;\n  }\n  return x;\n}",
+        "write reducer sum r; outside of functions and r += .. here, and delete the other uses of x: the run prints r at its end",
+        "reducer sum r;\nint main(int n) {\n  cilk_for (int i = 0; i < n; i++) {\n    r += i;\n  }\n  return 0;\n}",
     ),
     (
         "int f(long n) {\n  return n;\n}\nint main(int n) {\n  return n;\n}",
@@ -348,13 +353,13 @@ static UPDATES: &[Habit] = &[
     ),
     (
         "int main(int n) {\n  int x = 0;\n  cilk_for (int i = 0; i < n; i++) {\n    x += i;\n  }\n  n++;\n  return x;\n}",
-        "x is not a reducer: write reducer sum r; outside of functions, and r += i; here",
-        "reducer sum r;\nint main(int n) {\n  int x = 0;\n  cilk_for (int i = 0; i < n; i++) {\n    r += i;\n  }\n  n = n + 1;\n  return x;\n}",
+        "x is not a reducer: write reducer sum r; outside of functions and r += i; here, and delete the other uses of x: the run prints r at its end",
+        "reducer sum r;\nint main(int n) {\n  cilk_for (int i = 0; i < n; i++) {\n    r += i;\n  }\n  n = n + 1;\n  return 0;\n}",
     ),
     (
         "int main(int n) {\n  int x = 0;\n  cilk_for (int i = 0; i < n; i++) {\n    x = x + i;\n  }\n  return x;\n}",
-        "write reducer sum r; outside of functions and r += ..; here",
-        "reducer sum r;\nint main(int n) {\n  int x = 0;\n  cilk_for (int i = 0; i < n; i++) {\n    r += i;\n  }\n  return x;\n}",
+        "write reducer sum r; outside of functions and r += i; here (max: reducer max r; and r max= ..;), and delete the other uses of x: the run prints r at its end",
+        "reducer sum r;\nint main(int n) {\n  cilk_for (int i = 0; i < n; i++) {\n    r += i;\n  }\n  return 0;\n}",
     ),
     (
         "#include <x.h>\nint main(int n) {\n  return n;\n}",
@@ -383,13 +388,53 @@ static UPDATES: &[Habit] = &[
     ),
     (
         "int f(int a[]) {\n  cut a at 1 as l, r {\n    return l[0];\n  }\n}\nint main(int n) {\n  return n;\n}",
-        "declare int r = 0; before that block",
-        "int f(int a[]) {\n  int r = 0;\n  cut a at 1 as l, h {\n    r = l[0];\n  }\n  return r;\n}\nint main(int n) {\n  return n;\n}",
+        "declare int t = 0; before that block, assign to t in it, and write return t; after it",
+        "int f(int a[]) {\n  int t = 0;\n  cut a at 1 as l, r {\n    t = l[0];\n  }\n  return t;\n}\nint main(int n) {\n  return n;\n}",
     ),
     (
         "int f(int n) {\n  if (n) {\n    return 1;\n  }\n}\nint main(int n) {\n  return n;\n}",
         "make its last statement a return",
         "int f(int n) {\n  if (n) {\n    return 1;\n  }\n  return 0;\n}\nint main(int n) {\n  return n;\n}",
+    ),
+    (
+        "int get(int a[]) {\n  return a[0];\n}\nint f(const int a[]) {\n  int x = 0;\n  x = get(a);\n  return x;\n}\nint main() {\n  return 0;\n}",
+        "a is const (line 4): write const before this parameter of get if get only reads a; otherwise delete const in line 4",
+        "int get(const int a[]) {\n  return a[0];\n}\nint f(const int a[]) {\n  int x = 0;\n  x = get(a);\n  return x;\n}\nint main() {\n  return 0;\n}",
+    ),
+    (
+        "void f(const int c[]) {\n  cut c at 1 as l, r { }\n}\nint main() {\n  return 0;\n}",
+        "c is const (line 1), and a const array is not cut: delete const, or pass the whole c to const parameters, and the ends of a part as integers",
+        "void f(int c[]) {\n  cut c at 1 as l, r { }\n}\nint main() {\n  return 0;\n}",
+    ),
+    (
+        "void smooth(int a[], int b[]) {\n  cilk_for (int i = 1; i < len(a) - 1; i++) over (a, b) {\n    b[i] = a[i - 1] + a[i + 1];\n  }\n}\nint main(int n) {\n  int a[n];\n  int b[n];\n  smooth(a, b);\n  return b[0];\n}",
+        "write void halve_b(const int a[], int b[], int from) { int r = len(b); if (r < 100) { int i = 0; while (i < r) { .. i = i + 1; } return; } r = r / 2; cut b at r as left, right { cilk_spawn halve_b(a, left, from); halve_b(a, right, from + r); } } with the body of the loop in the while, b[i] for its element of b and from + i for its variable, and halve_b(a, b, 0); for the loop; add a parameter for each other name in the body, and test from + i if the loop leaves out elements",
+        "void halve_b(const int a[], int b[], int from) { int r = len(b); if (r < 100) { int i = 0; while (i < r) { if (from + i > 0) { if (from + i < len(a) - 1) { b[i] = a[from + i - 1] + a[from + i + 1]; } } i = i + 1; } return; } r = r / 2; cut b at r as left, right { cilk_spawn halve_b(a, left, from); halve_b(a, right, from + r); } }\nvoid smooth(int a[], int b[]) {\n  halve_b(a, b, 0);\n}\nint main(int n) {\n  int a[n];\n  int b[n];\n  smooth(a, b);\n  return b[0];\n}",
+    ),
+    (
+        "void f(const int a[], int b[]) {\n  cilk_for (int i = 0; i < len(b); i++) over (a, b) {\n    b[i] = a[0];\n  }\n}\nint main() {\n  return 0;\n}",
+        "over lists arrays that iterations may write: delete const if each iteration uses only its own element of a; to read other elements, write void halve_b(const int a[], int b[], int from) { int r = len(b); if (r < 100) { int i = 0; while (i < r) { .. i = i + 1; } return; } r = r / 2; cut b at r as left, right { cilk_spawn halve_b(a, left, from); halve_b(a, right, from + r); } } with the body of the loop in the while, b[i] for its element of b and from + i for its variable, and halve_b(a, b, 0); for the loop; add a parameter for each other name in the body, and test from + i if the loop leaves out elements",
+        "void halve_b(const int a[], int b[], int from) { int r = len(b); if (r < 100) { int i = 0; while (i < r) { b[i] = a[0]; i = i + 1; } return; } r = r / 2; cut b at r as left, right { cilk_spawn halve_b(a, left, from); halve_b(a, right, from + r); } }\nvoid f(const int a[], int b[]) {\n  halve_b(a, b, 0);\n}\nint main() {\n  return 0;\n}",
+    ),
+    (
+        "reducer sum s;\nvoid f(const int a[]) {\n  cilk_for (int j = 0; j < len(a); j++) {\n    s += a[j];\n  }\n}\nint main() {\n  return 0;\n}",
+        "a is const, and the cilk_for in line 3 may not use it: write void halve_a(const int a[], int from, int to) { if (to - from < 100) { int i = from; while (i < to) { .. i = i + 1; } return; } int r = (from + to) / 2; cilk_spawn halve_a(a, from, r); halve_a(a, r, to); } with the body of the loop in the while, and halve_a(a, LOW, HIGH); for the loop; add a parameter for each other name in the body",
+        "reducer sum s;\nvoid halve_a(const int a[], int from, int to) { if (to - from < 100) { int i = from; while (i < to) { s += a[i]; i = i + 1; } return; } int r = (from + to) / 2; cilk_spawn halve_a(a, from, r); halve_a(a, r, to); }\nvoid f(const int a[]) {\n  halve_a(a, 0, len(a));\n}\nint main() {\n  return 0;\n}",
+    ),
+    (
+        "int main(int n) {\n  int a[n];\n  cilk_for (int i = 1; i < n; i++) over (a) {\n    a[i] = a[i - 1];\n  }\n  return a[0];\n}",
+        "the cilk_for in line 3 has a in over, so its body may only use a[i]; to read an element as it was before the loop, declare int r[len(a)]; there, copy it by r[k] = a[k - 1]; in a while, list r in over, and read r[i]; to read what another iteration wrote, write a while for the cilk_for",
+        "int main(int n) {\n  int a[n];\n  int r[len(a)]; int k = 1; while (k < n) { r[k] = a[k - 1]; k = k + 1; }\n  cilk_for (int i = 1; i < n; i++) over (a, r) {\n    a[i] = r[i];\n  }\n  return a[0];\n}",
+    ),
+    (
+        "int f(int n) {\n  return n;\n}\nint main(int n) {\n  n = f(1) + 2;\n  n = f(3) + 4;\n  return n;\n}",
+        "t:6: unexpected +: a call is a statement of its own: write int t = 0; t = f(3); n = t + 4;",
+        "int f(int n) {\n  return n;\n}\nint main(int n) {\n  int r = 0; r = f(1); n = r + 2;\n  int t = 0; t = f(3); n = t + 4;\n  return n;\n}",
+    ),
+    (
+        "int main(int n) {\n  cilk_scope {\n    if (n) {\n      return 1;\n    }\n    return 2;\n  }\n}",
+        "t:6: no return is allowed in cilk_scope, cut, region or cilk_for: declare int r = 0; before the block, assign to r in it, and write return r; after it",
+        "int main(int n) {\n  int r = 0;\n  cilk_scope {\n    if (n) {\n      r = 1;\n    } else {\n      r = 2;\n    }\n  }\n  return r;\n}",
     ),
 ];
 

@@ -26,8 +26,8 @@ static STATEMENTS: &[Habit] = &[
     ),
     (
         "while (n) { break; }",
-        "end the loop by its test",
-        "int go = 1; while (go * n) { go = 0; }",
+        "there is no break: if a return follows the loop, write it here; otherwise move the loop into a function, and write return; here",
+        "while (n) { return n; }",
     ),
     (
         "while (n) { continue; }",

@@ -60,7 +60,7 @@ static NAMES: &[(&str, &str)] = &[
     ),
     (
         "int get(const int a[], int i) {\n  a[i] = 0;\n  return a[i];\n}\nint main() { return 0; }",
-        "refused 3 line 2\nt:2: a is const (line 1): delete const to write or cut it; a const array is read by a[..] and len(a), and passed whole to a const parameter, with the ends of a range\n  1 | int get(const int a[], int i) {\n  2 |   a[i] = 0;\n    |   ^\n",
+        "refused 3 line 2\nt:2: a is const (line 1): delete const to write it\n  1 | int get(const int a[], int i) {\n  2 |   a[i] = 0;\n    |   ^\n",
     ),
     (
         "void f() { }\nint main() {\n  return f;\n}",
@@ -130,7 +130,7 @@ static CALLS: &[(&str, &str)] = &[
     ),
     (
         "void f(int n, int a[]) { }\nint main() {\n  int b[2];\n  f(1, b[0]);\n  return 0;\n}",
-        "refused 3 line 4\nt:4: argument 2 of f must be an array name on its own; to pass a part, write cut b at k as l, r { .. } and pass l or r; a function that only reads b takes it as const, and the ends of a range\n  1 | void f(int n, int a[]) { }\n  4 |   f(1, b[0]);\n    |   ^\n",
+        "refused 3 line 4\nt:4: argument 2 of f must be an array name on its own; to pass a part, write cut b at k as left, right { .. } and pass left or right; if f only reads b, pass the whole b to a const parameter, and the ends of the part as integers\n  1 | void f(int n, int a[]) { }\n  4 |   f(1, b[0]);\n    |   ^\n",
     ),
     (
         "void f(int a[]) { }\nint main(int n) {\n  f(n);\n  return 0;\n}",
