@@ -72,6 +72,11 @@ impl Opened {
         self.braces
     }
 
+    /// Returns whether the next token begins a statement or an item.
+    pub fn is_at_front(&self) -> bool {
+        self.first == self.count
+    }
+
     /// Returns the first token of the incomplete statement, if there is one.
     pub fn front(&self) -> Option<Kind> {
         self.front

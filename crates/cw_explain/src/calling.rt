@@ -87,8 +87,9 @@ impl<'a> Text<'a> {
                 self.kind(place.saturating_sub(1)),
                 Some(Kind::Semicolon) | Some(Kind::LeftBrace) | Some(Kind::RightBrace)
             );
-            if is_next && self.tokens[place].line > line {
-                return place;
+            match self.tokens.get(place) {
+                Some(token) if is_next && token.line > line => return place,
+                _ => {}
             }
         }
         most

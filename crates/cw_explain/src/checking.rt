@@ -12,6 +12,7 @@ use crate::listing::{Listing, Spot};
 use crate::others::Named;
 use crate::rejections::{OfOwnership, OfTypes, Rejection, Rejections};
 use crate::repairs::{Repairs, add_line_feeds};
+use crate::retyped::{Part, retyped};
 use crate::syntax::Outline;
 use crate::word::Word;
 use cw_lex::lex;
@@ -54,7 +55,7 @@ impl Mended<'_> {
 }
 
 /// The shortest function `main`.
-const MAIN: &str = "int main(){return 0;}";
+pub const MAIN: &str = "int main(){return 0;}";
 
 /// Returns the source with these bytes and its tokens.
 ///
@@ -75,8 +76,6 @@ struct Remains<'a> {
     outline: Outline<'a>,
     mended: Mended<'a>,
     text: Vec<u8>,
-    /// The lines of the functions that are left out because of their names or types.
-    lines: Vec<u32>,
     has_main: bool,
     /// The next statement that does not parse.
     rejected: usize,
@@ -102,23 +101,6 @@ impl<'a> Remains<'a> {
             }
         }
         count > 0 && count == done
-    }
-
-    // Whether an item has an error of names or types.
-    fn has_line(&self, item: &Item) -> bool {
-        let tokens = self.outline.tokens;
-        let (Some(first), Some(last)) = (
-            tokens.get(item.first),
-            tokens.get(item.end.saturating_sub(1)),
-        ) else {
-            return true;
-        };
-        for line in self.lines.as_slice() {
-            if first.line <= *line && *line <= last.line {
-                return true;
-            }
-        }
-        false
     }
 
     // Adds the line feeds between two places.
@@ -149,7 +131,7 @@ impl<'a> Remains<'a> {
         let end = self.end_before(item.end);
         let is_repaired = self.is_repaired(item);
         let is_main = self.is_main(item);
-        if (item.is_whole || is_repaired) && is_typed && !self.has_line(item) {
+        if (item.is_whole || is_repaired) && is_typed {
             self.has_main = self.has_main || is_main;
             return self.mended.write(&mut self.text, start, end, is_repaired);
         }
@@ -177,18 +159,16 @@ impl<'a> Remains<'a> {
     }
 }
 
-// The text with the shortest bodies for functions that do not parse, or have one of these lines.
+// The text with the shortest bodies for functions that do not parse.
 fn remaining<'a>(
     alloc: Global,
     outline: &Outline<'a>,
     mended: Mended<'a>,
-    lines: Vec<u32>,
 ) -> Result<Vec<u8>, Fault> {
     let mut remains = Remains {
         outline: *outline,
         mended,
         text: Vec::new(alloc),
-        lines,
         has_main: false,
         rejected: 0,
     };
@@ -344,15 +324,14 @@ fn add_rejection(
     listing.add(spot, &refusal.phrase)
 }
 
-// Adds the errors of names and types, and returns the lines that have one.
+// Adds the errors of names and types, and returns whether there is one.
 fn add_types(
     alloc: Global,
     listing: &mut Listing,
     file: Named<'_>,
     outline: &Outline<'_>,
     ast: &Ast,
-) -> Result<Vec<u32>, Fault> {
-    let mut lines = Vec::new(alloc);
+) -> Result<bool, Fault> {
     let told = ill_typed(alloc, ast)?;
     let inside = inside_of(alloc, told.first(), outline.tokens)?;
     let text = Text {
@@ -364,7 +343,6 @@ fn add_types(
     let mut is_first = true;
     for place in 0..MOST_RECORDED {
         if let Some(Some(at)) = told.told.places.get(place) {
-            lines.push(at.line)?;
             if !follows(outline, &at.reason) {
                 if let Some(refusal) = told.at(place) {
                     add_rejection(listing, outline, &refusal)?;
@@ -376,7 +354,7 @@ fn add_types(
             }
         }
     }
-    Ok(lines)
+    Ok(told.told.first().is_some())
 }
 
 /// Adds the errors of ownership of a program whose names and types are right.
@@ -407,17 +385,22 @@ pub fn add_ownership(
     Ok(())
 }
 
-// The tree of the functions that parse and have none of these lines.
-fn tree_of<'a>(
+// The tree of a text.
+fn tree_of(alloc: Global, text: &[u8]) -> Result<Ast, Fault> {
+    let (source, tokens) = tokens_of(alloc, text)?;
+    let ast = parse(alloc, &source, tokens.as_slice())?;
+    Ok(ast)
+}
+
+// The functions that parse, and their tree.
+fn parsed<'a>(
     alloc: Global,
     outline: &Outline<'a>,
     mended: Mended<'a>,
-    lines: Vec<u32>,
-) -> Result<Ast, Fault> {
-    let text = remaining(alloc, outline, mended, lines)?;
-    let (source, tokens) = tokens_of(alloc, text.as_slice())?;
-    let ast = parse(alloc, &source, tokens.as_slice())?;
-    Ok(ast)
+) -> Result<(Vec<u8>, Ast), Fault> {
+    let text = remaining(alloc, outline, mended)?;
+    let ast = tree_of(alloc, text.as_slice())?;
+    Ok((text, ast))
 }
 
 /// Returns nothing if the stages cannot read what is left of a source.
@@ -432,8 +415,8 @@ pub fn unless_memory(added: Result<(), Fault>) -> Result<(), Fault> {
     }
 }
 
-/// Adds the errors of names and types of the functions that parse, as mended, and the errors of ownership of the functions
-/// without such errors. If the functions do not parse as mended, they are left out.
+/// Adds the errors of names and types of the functions that parse, as mended, and the errors of ownership. If the functions do
+/// not parse as mended, they are left out.
 ///
 /// # Errors
 ///
@@ -445,41 +428,49 @@ pub fn add_checks<'a>(
     outline: &Outline<'a>,
     mended: Mended<'a>,
 ) -> Result<(), Fault> {
-    match tree_of(alloc, outline, mended, Vec::new(alloc)) {
-        Ok(ast) => add_checks_of(alloc, listing, file, outline, mended, ast),
-        Err(Fault::Memory) => Err(Fault::Memory),
+    let (text, ast) = match parsed(alloc, outline, mended) {
+        Ok(found) => found,
+        Err(Fault::Memory) => return Err(Fault::Memory),
         Err(_) => {
             let mended = Mended {
                 is_on: false,
                 ..mended
             };
-            let ast = tree_of(alloc, outline, mended, Vec::new(alloc))?;
-            add_checks_of(alloc, listing, file, outline, mended, ast)
+            parsed(alloc, outline, mended)?
         }
-    }
+    };
+    add_checks_of(alloc, listing, file, outline, text.as_slice(), ast)
 }
 
-/// Adds the errors of names and types of a program, and, unless it is large, the errors of ownership of its functions without
-/// such errors.
+/// Adds the errors of names and types of a program, and, unless it is large, the errors of ownership: first names that break a
+/// rule of names and types are replaced, then statements that still break one, then the bodies of functions.
 ///
 /// # Errors
 ///
-/// `Memory` if memory runs out; another fault if the stages cannot read these functions.
-pub fn add_checks_of<'a>(
+/// `Memory` if memory runs out; another fault if the stages cannot read the program then.
+pub fn add_checks_of(
     alloc: Global,
     listing: &mut Listing,
     file: Named<'_>,
-    outline: &Outline<'a>,
-    mended: Mended<'a>,
+    outline: &Outline<'_>,
+    text: &[u8],
     ast: Ast,
 ) -> Result<(), Fault> {
-    let lines = add_types(alloc, listing, file, outline, &ast)?;
-    if lines.is_empty() {
+    if !add_types(alloc, listing, file, outline, &ast)? {
         return add_ownership(alloc, listing, outline, ast);
     }
-    if mended.whole.len() > MOST_BYTES {
+    if text.len() > MOST_BYTES {
         return Ok(());
     }
-    let ast = tree_of(alloc, outline, mended, lines)?;
+    let mut text = Vec::from_slice(alloc, text)?;
+    let mut ast = ast;
+    for part in [Part::Names, Part::Statements, Part::Bodies] {
+        let told = ill_typed(alloc, &ast)?;
+        if told.first().is_none() {
+            break;
+        }
+        text = retyped(alloc, text.as_slice(), &told, part)?;
+        ast = tree_of(alloc, text.as_slice())?;
+    }
     add_ownership(alloc, listing, outline, ast)
 }

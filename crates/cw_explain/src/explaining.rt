@@ -3,10 +3,10 @@
 use crate::around::first_from;
 use crate::checking::{Mended, add_checks, add_checks_of, add_ownership, tokens_of, unless_memory};
 use crate::excerpt::{Lines, add_lines};
+use crate::keywords::rename_keywords;
 use crate::limits;
 use crate::listing::{Listing, Spot};
 use crate::others::{Named, of_run, parameters_of_main};
-use crate::repairs::Repairs;
 use crate::scan::{Bad, Scan, scanned};
 use crate::syntax::{Outline, add_syntax};
 use crate::traps::{multiplies, trapped};
@@ -250,28 +250,31 @@ fn add_bad(listing: &mut Listing, bytes: &[u8], all: &[Bad]) -> Result<(), Fault
 }
 
 // Adds what the stages after the lexer reject.
-fn add_tokens<'a>(
+fn add_tokens(
     alloc: Global,
     listing: &mut Listing,
-    bytes: &'a [u8],
+    bytes: &[u8],
     file: Named<'_>,
-    scan: &'a Scan,
+    scan: &Scan,
 ) -> Result<(), Fault> {
-    let text = scan.text.as_slice();
-    let (_source, tokens) = match tokens_of(alloc, text) {
+    let mut text = Vec::from_slice(alloc, scan.text.as_slice())?;
+    let (_source, mut tokens) = match tokens_of(alloc, text.as_slice()) {
         Err(Fault::Memory) => return Err(Fault::Memory),
         Err(_) => return Ok(()),
         Ok(read) => read,
     };
-    let tokens = tokens.as_slice();
-    if let Some(at) = passed_by_tokens(tokens) {
+    if let Some(at) = passed_by_tokens(tokens.as_slice()) {
         return listing.add(Spot::of_line(at.line, None), &limits::of_tokens(at.reason));
     }
+    let mut shown = Vec::from_slice(alloc, bytes)?;
+    rename_keywords(alloc, listing, &mut shown, &mut text, &mut tokens)?;
+    let text = text.as_slice();
+    let tokens = tokens.as_slice();
     let all = scan.bad.as_slice();
     let found = recover(alloc, text, tokens)?;
     let typed = typed_items(alloc, found.items.as_slice(), tokens, all)?;
     let outline = Outline {
-        bytes,
+        bytes: shown.as_slice(),
         tokens,
         bad: all,
         found: &found,
@@ -299,13 +302,9 @@ fn of_program(
     let (source, tokens) = tokens_of(alloc, bytes)?;
     let tokens = tokens.as_slice();
     let ast = parse(alloc, &source, tokens)?;
-    let found = if is_of_types && bytes.len() <= MOST_BYTES {
-        recover(alloc, bytes, tokens)?
-    } else {
-        Recovered {
-            rejected: Vec::new(alloc),
-            items: Vec::new(alloc),
-        }
+    let found = Recovered {
+        rejected: Vec::new(alloc),
+        items: Vec::new(alloc),
     };
     let outline = Outline {
         bytes,
@@ -314,14 +313,8 @@ fn of_program(
         found: &found,
         typed: &[],
     };
-    let repairs = Repairs::new(alloc);
-    let mended = Mended {
-        whole: bytes,
-        repairs: &repairs,
-        is_on: false,
-    };
     unless_memory(if is_of_types {
-        add_checks_of(alloc, &mut listing, file, &outline, mended, ast)
+        add_checks_of(alloc, &mut listing, file, &outline, bytes, ast)
     } else {
         add_ownership(alloc, &mut listing, &outline, ast)
     })?;

@@ -35,8 +35,8 @@ fn hexadecimal(digits: &[u8]) -> Option<u64> {
 }
 
 impl<'a> Around<'a> {
-    // The place of the token that ends the statement.
-    fn end(&self) -> usize {
+    /// Returns the place of the token that ends the statement, or that opens its block.
+    pub fn end(&self) -> usize {
         let last = self
             .tokens
             .len()
@@ -266,6 +266,8 @@ impl Marks for Around<'_> {
                 write!(f, "{line}")
             }
             b'r' => write_new(f, mark),
+            // around what replaces the statement
+            b'!' => Ok(()),
             b'l' => write_advice(self, f, self.place.saturating_sub(1)),
             b'L' => write_advice(self, f, self.first),
             b'x' => write_value(self, f),

@@ -9,6 +9,9 @@ use cw_text::Fault;
 use std::alloc::Global;
 use std::fmt;
 
+/// The most parts of a text that are replaced.
+const MOST_REPAIRS: usize = 200;
+
 /// The most tokens of a statement that is put in braces.
 const MOST_TOKENS: usize = 1_024;
 
@@ -173,8 +176,16 @@ impl Repairs {
         }
     }
 
-    // Adds what replaces the bytes between two places.
-    fn add<D: fmt::Display>(&mut self, start: usize, end: usize, with: &D) -> Result<(), Fault> {
+    /// Adds what replaces the bytes between two places.
+    pub fn add<D: fmt::Display>(
+        &mut self,
+        start: usize,
+        end: usize,
+        with: &D,
+    ) -> Result<(), Fault> {
+        if self.list.len() >= MOST_REPAIRS {
+            return Ok(());
+        }
         let mut text = String::new(self.alloc);
         write!(text, "{with}")?;
         self.list.push(Repair { start, end, text })?;
@@ -216,11 +227,15 @@ impl Repairs {
         if front == Some(Kind::Else) && around.kind(around.place) == Some(Kind::If) {
             return self.embrace(&around, around.place);
         }
+        if front == Some(Kind::Print) {
+            self.add(start, end, &"")?;
+            return Ok(true);
+        }
         self.replace_head(around, next)
     }
 
-    // Replaces the head of a `cilk_for` that a block at a place follows.
-    fn replace_head(&mut self, around: Around<'_>, next: usize) -> Result<bool, Fault> {
+    /// Replaces the head of a `cilk_for` that a block at a place follows, and returns whether it does.
+    pub fn replace_head(&mut self, around: Around<'_>, next: usize) -> Result<bool, Fault> {
         let is_loop = around.kind(around.first) == Some(Kind::For);
         if !is_loop || around.kind(next) != Some(Kind::LeftBrace) {
             return Ok(false);

@@ -10,7 +10,6 @@ const NESTED: &str =
     "a function is not declared inside another one: the { of line @{ is open; write } before this line";
 
 static DECLARED: &[Row] = &[
-    ("", "int", "keyword", "@0 is a keyword: use another name"),
     (
         "keyword +=",
         "",
@@ -379,6 +378,12 @@ static INSIDE: &[Row] = &[
         "the test of a while is in parentheses: write while (..) { .. }",
     ),
     ("", "print", "", "write print(@.);"),
+    (
+        "print",
+        "",
+        ", ? )",
+        "print takes one value: write @!@<); print(@>",
+    ),
     (
         "print",
         "",

@@ -94,6 +94,70 @@ fn each_error_is_reported(rt: HostRuntime) {
     all_explained(&rt, rt.alloc(), SEVERAL);
 }
 
+// Sources whose first errors do not hide the others.
+static HIDDEN: &[(&str, &str)] = &[
+    // a function without a return at its end, a return in a block, and ownership
+    (
+        "int get(int a[]) { return 0; }\nint f(int a[]) {\n  int x = 0;\n  cut a at 0 as l, r {\n    x = cilk_spawn get(l);\n    print(x);\n    return x;\n  }\n}\nint main() { int a[2]; int y = 0; y = f(a); return y; }",
+        "refused 3 line 2\nt:2: f must return an integer at its end, and the return in line 7 is in a block that has none: declare int r = 0; before that block, assign to r in it, and write return r; after it\n  2 | int f(int a[]) {\n    |     ^\n  7 |     return x;\nt:6: this statement reads x, but the spawn in line 5 assigns to x at the next cilk_sync: write cilk_sync; before this statement\n  5 |     x = cilk_spawn get(l);\n  6 |     print(x);\n    |           ^\nt:7: this statement reads x, but the spawn in line 5 assigns to x at the next cilk_sync: write cilk_sync; before this statement\n  5 |     x = cilk_spawn get(l);\n  7 |     return x;\n    |            ^\n",
+    ),
+    // a cut of a const array, and ownership in its block
+    (
+        "int get(const int a[]) { return 0; }\nvoid f(const int a[]) {\n  int x = 0;\n  cut a at 0 as l, r {\n    x = cilk_spawn get(l);\n    print(x);\n  }\n}\nint main() { int a[2]; f(a); return 0; }",
+        "refused 3 line 4\nt:4: a is const (line 2): delete const to write or cut it; a const array is read by a[..] and len(a), and passed whole to a const parameter, with the ends of a range\n  2 | void f(const int a[]) {\n  4 |   cut a at 0 as l, r {\n    |       ^\nt:6: this statement reads x, but the spawn in line 5 assigns to x at the next cilk_sync: write cilk_sync; before this statement\n  5 |     x = cilk_spawn get(l);\n  6 |     print(x);\n    |           ^\n",
+    ),
+    // a reducer that is read, and ownership
+    (
+        "reducer max m;\nint main(int n) {\n  int a[4];\n  cilk_for (int i = 0; i < n; i++) {\n    a[i % 4] = 1;\n    m max= i;\n  }\n  return m;\n}",
+        "refused 3 line 8\nt:5: the cilk_for in line 4 may not use a: write over (a) in its head, and use only the element of the loop variable; for other elements, write a function that cuts a, spawns itself on one part and calls itself on the other, or add to a reducer; if iterations write the same element, write a while\n  4 |   cilk_for (int i = 0; i < n; i++) {\n  5 |     a[i % 4] = 1;\n    |     ^\nt:8: m is a reducer (line 1), and no statement reads it: write m max= e; for if (e > m) { m = e; }, and delete other uses; the run prints m at its end\n  1 | reducer max m;\n  8 |   return m;\n    |          ^\n",
+    ),
+    // a name from outside of functions, and ownership
+    (
+        "int limit = 5;\nint f(int n) { return n; }\nint main(int n) {\n  int x = 0;\n  if (n > limit) { n = 1; }\n  x = cilk_spawn f(n);\n  return x + x;\n}",
+        "refused 2 line 1\nt:1: unexpected =: there are no variables outside of functions: declare int limit = 5; in main and pass it; a sum over strands is reducer sum limit;\n  1 | int limit = 5;\n    |           ^\nt:7: this statement reads x, but the spawn in line 6 assigns to x at the next cilk_sync: write cilk_sync; before this statement\n  6 |   x = cilk_spawn f(n);\n  7 |   return x + x;\n    |          ^\n",
+    ),
+    // a keyword as a name, and types
+    (
+        "int main(int n) {\n  int max = n;\n  int n = 0;\n  return n;\n}",
+        "refused 2 line 2\nt:2: unexpected max: max is a keyword: use another name in the whole function, such as Max\n  2 |   int max = n;\n    |       ^\nt:3: n is already declared in line 1: delete int to assign to it, or use another name\n  1 | int main(int n) {\n  3 |   int n = 0;\n    |       ^\n",
+    ),
+    // each use of a keyword as a name
+    (
+        "int main(int n) {\n  int max = 0;\n  while (n > max) {\n    max = max + n;\n  }\n  return max;\n}",
+        "refused 2 line 2\nt:2: unexpected max: max is a keyword: use another name in the whole function, such as Max\n  2 |   int max = 0;\n    |       ^\n",
+    ),
+    // two values that are printed, and types
+    (
+        "int main(int n) {\n  print(n, n);\n  int n = 0;\n  return n;\n}",
+        "refused 2 line 2\nt:2: unexpected ,: print takes one value: write print(n); print(n);\n  2 |   print(n, n);\n    |          ^\nt:3: n is already declared in line 1: delete int to assign to it, or use another name\n  1 | int main(int n) {\n  3 |   int n = 0;\n    |       ^\n",
+    ),
+    // no error of ownership follows from a name that is not declared
+    (
+        "int f(int n) { return n; }\nint main(int n) {\n  int a[n];\n  cilk_for (int i = 0; i < n; i++) over (a) {\n    a[j] = 1;\n  }\n  y = cilk_spawn f(n);\n  a[0] = y;\n  return 0;\n}",
+        "refused 3 line 5\nt:5: j is not declared here: declare int j = 0; before this statement, in this block or one around it\n  5 |     a[j] = 1;\n    |       ^\nt:7: y is not declared here: declare int y = 0; before this statement, in this block or one around it\n  7 |   y = cilk_spawn f(n);\n    |   ^\nt:8: y is not declared here: declare int y = 0; before this statement, in this block or one around it\n  8 |   a[0] = y;\n    |          ^\n",
+    ),
+    // a name in a spawn, whose result is read, in a main that returns nothing
+    (
+        "int f(int n) { return n; }\nvoid main(int n) {\n  int x = 0;\n  x = cilk_spawn f(m);\n  n = x;\n  return;\n}",
+        "refused 3 line 2\nt:2: main must return int, not void\n  2 | void main(int n) {\nt:4: m is not declared here: declare int m = 0; before this statement, in this block or one around it\n  4 |   x = cilk_spawn f(m);\n    |                    ^\nt:5: this statement reads x, but the spawn in line 4 assigns to x at the next cilk_sync: write cilk_sync; before this statement\n  4 |   x = cilk_spawn f(m);\n  5 |   n = x;\n    |       ^\n",
+    ),
+    // more than 241 tokens before what replaces a statement
+    (
+        "int main(int n) {\n  n = n + 1;\n  n = n + 1;\n  n = n + 1;\n  n = n + 1;\n  n = n + 1;\n  n = n + 1;\n  n = n + 1;\n  n = n + 1;\n  n = n + 1;\n  n = n + 1;\n  n = n + 1;\n  n = n + 1;\n  n = n + 1;\n  n = n + 1;\n  n = n + 1;\n  n = n + 1;\n  n = n + 1;\n  n = n + 1;\n  n = n + 1;\n  n = n + 1;\n  n = n + 1;\n  n = n + 1;\n  n = n + 1;\n  n = n + 1;\n  n = n + 1;\n  n = n + 1;\n  n = n + 1;\n  n = n + 1;\n  n = n + 1;\n  n = n + 1;\n  n = n + 1;\n  n = n + 1;\n  n = n + 1;\n  n = n + 1;\n  n = n + 1;\n  n = n + 1;\n  n = n + 1;\n  n = n + 1;\n  n = n + 1;\n  n = n + 1;\n  n = n + 1;\n  int i;\n  return n;\n}",
+        "refused 2 line 43\nt:43: unexpected ;: a declaration has a value: write int i = 0;\n  43 |   int i;\n     |        ^\n",
+    ),
+    // an array that is const, and ownership without const
+    (
+        "int get(int a[]) { return a[0]; }\nint f(const int a[], int n) {\n  int x = 0;\n  x = get(a);\n  a[0] = n;\n  cut a at 1 as l, r {\n    x = cilk_spawn f(l, n);\n    n = len(l);\n  }\n  return x;\n}\nint main() {\n  int a[4];\n  int x = 0;\n  x = f(a, 2);\n  return x;\n}",
+        "refused 3 line 4\nt:4: a is const (line 2): delete const to write or cut it; a const array is read by a[..] and len(a), and passed whole to a const parameter, with the ends of a range\n  2 | int f(const int a[], int n) {\n  4 |   x = get(a);\n    |           ^\nt:5: a is const (line 2): delete const to write or cut it; a const array is read by a[..] and len(a), and passed whole to a const parameter, with the ends of a range\n  2 | int f(const int a[], int n) {\n  5 |   a[0] = n;\n    |   ^\nt:6: a is const (line 2): delete const to write or cut it; a const array is read by a[..] and len(a), and passed whole to a const parameter, with the ends of a range\n  2 | int f(const int a[], int n) {\n  6 |   cut a at 1 as l, r {\n    |       ^\nt:8: this statement reads len(l), but the spawn in line 7 holds l until the next cilk_sync: write int r = len(l); before line 7, and r here; a cilk_sync; before this statement is the slower way\n  7 |     x = cilk_spawn f(l, n);\n  8 |     n = len(l);\n    |             ^\n",
+    ),
+];
+
+#[test]
+fn no_error_hides_another(rt: HostRuntime) {
+    all_explained(&rt, rt.alloc(), HIDDEN);
+}
+
 // A statement so often.
 fn repeated(alloc: Global, statement: &str, times: usize) -> Result<String, AllocError> {
     let mut text = String::new(alloc);
