@@ -75,11 +75,11 @@ static GRAMMAR: &[(&str, &str)] = &[
     // words of the language as names
     (
         "int main() {\n  int at = 1;\n  return at;\n}",
-        "refused 2 line 2\nt:2: unexpected at: at is a keyword: use another name\n  2 |   int at = 1;\n    |       ^\nt:3: unexpected at: at is a keyword; expected a name, a number, len, (, ; or a sign (- or !)\n  3 |   return at;\n    |          ^\n",
+        "refused 2 line 2\nt:2: unexpected at: at is a keyword: use another name in the whole function, such as At\n  2 |   int at = 1;\n    |       ^\n",
     ),
     (
         "int main(int over) { return 0; }",
-        "refused 2 line 1\nt:1: unexpected over: over is a keyword; expected a name\n  1 | int main(int over) { return 0; }\n    |              ^\n",
+        "refused 2 line 1\nt:1: unexpected over: over is a keyword: use another name in the whole function, such as Over\n  1 | int main(int over) { return 0; }\n    |              ^\n",
     ),
     (
         "int max(int a, int b) { return a; }\nint main() { return 0; }",

@@ -627,9 +627,14 @@ static OTHERS: &[Habit] = &[
     ),
     ("print n;", "write print(n;);", "print(n);"),
     (
-        "print(n, n);",
+        "print(n, 2);",
+        "print takes one value: write print(n); print(2);",
+        "print(n); print(2);",
+    ),
+    (
+        "print(n, n, 1);",
         "write print(..); for each",
-        "print(n); print(n);",
+        "print(n); print(n); print(1);",
     ),
     (
         "int a[2]; a[0] += n * 2;",
