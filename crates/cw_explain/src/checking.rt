@@ -428,18 +428,21 @@ pub fn add_checks<'a>(
     outline: &Outline<'a>,
     mended: Mended<'a>,
 ) -> Result<(), Fault> {
-    let (text, ast) = match parsed(alloc, outline, mended) {
-        Ok(found) => found,
-        Err(Fault::Memory) => return Err(Fault::Memory),
-        Err(_) => {
+    match parsed(alloc, outline, mended) {
+        Ok(found) => {
+            let (text, ast) = found;
+            add_checks_of(alloc, listing, file, outline, text.as_slice(), ast)
+        }
+        Err(Fault::Memory) => Err(Fault::Memory),
+        Err(_other) => {
             let mended = Mended {
                 is_on: false,
                 ..mended
             };
-            parsed(alloc, outline, mended)?
+            let (text, ast) = parsed(alloc, outline, mended)?;
+            add_checks_of(alloc, listing, file, outline, text.as_slice(), ast)
         }
-    };
-    add_checks_of(alloc, listing, file, outline, text.as_slice(), ast)
+    }
 }
 
 /// Adds the errors of names and types of a program, and, unless it is large, the errors of ownership: first names that break a

@@ -26,7 +26,7 @@ fn is_name(before: Kind, after: Kind) -> bool {
         Kind::Semicolon | Kind::LeftBrace | Kind::RightBrace | Kind::RightParen | Kind::Else => {
             matches!(
                 after,
-                Kind::Assign | Kind::AddAssign | Kind::Increment | Kind::LeftBracket
+                Kind::Assign | Kind::AddAssign | Kind::Increment | Kind::LeftBracket | Kind::Less
             )
         }
         _ => {

@@ -126,6 +126,11 @@ static HIDDEN: &[(&str, &str)] = &[
         "int main(int n) {\n  int max = 0;\n  while (n > max) {\n    max = max + n;\n  }\n  return max;\n}",
         "refused 2 line 2\nt:2: unexpected max: max is a keyword: use another name in the whole function, such as Max\n  2 |   int max = 0;\n    |       ^\n",
     ),
+    // a keyword as the variable of a loop
+    (
+        "int main(int n) {\n  int a[n];\n  cilk_for (int at = 0; at < n; at++) over (a) { a[at] = b; }\n  return a[0];\n}",
+        "refused 2 line 3\nt:3: unexpected at: at is a keyword: use another name in the whole function, such as At\n  3 |   cilk_for (int at = 0; at < n; at++) over (a) { a[at] = b; }\n    |                 ^\nt:3: b is not declared here: declare int b = 0; before this statement, in this block or one around it\n  3 |   cilk_for (int at = 0; at < n; at++) over (a) { a[at] = b; }\n    |                                                          ^\n",
+    ),
     // two values that are printed, and types
     (
         "int main(int n) {\n  print(n, n);\n  int n = 0;\n  return n;\n}",
